@@ -1,0 +1,57 @@
+-- A decorated list without its trailing commas. Their comments go to their neighbours.
+use Rattle.std.specs.Prelude.{◌≡◌, ℕ, List, [], ◌∷◌, ◌++◌, Bool, true, false, ◌&&◌, if◌then◌else◌, codes}
+use Rattle.std.specs.Str.{bytes_eq}
+use Rattle.cedar_tokens.specs.Units.{is_one_of}
+use Rattle.cedar_tokens.specs.Listing.{Decorated, comments}
+use Rattle.cedar_tokens.specs.Tokens.{decorated}
+use Rattle.cedar_tokens.specs.declared.token.WrappedToken.{WrappedToken}
+
+abbrev pub is_empty : {X : Type 0} → List X → Bool
+is_empty [] = true
+is_empty (x ∷ xs) = false
+
+abbrev pub is_comma : List ℕ → Bool
+is_comma text = bytes_eq (codes ",") text
+
+abbrev pub is_closing_bracket : List ℕ → Bool
+is_closing_bracket text = is_one_of (codes ")" ∷ codes "]" ∷ codes "}" ∷ []) text
+
+-- c is a trailing comma: a comma whose next token, b, is a closing bracket
+abbrev pub is_trailing_comma : Decorated → Decorated → Bool
+is_trailing_comma c b = is_comma c.text && is_closing_bracket b.text
+
+-- nothing stands between the token d and the comma c, so what trails the comma may trail d
+abbrev pub touches : Decorated → Decorated → Bool
+touches d c = is_empty d.trailing && is_empty c.leading
+
+-- the token d with what trailed the comma c behind it
+abbrev pub with_trailing_of : Decorated → Decorated → Decorated
+with_trailing_of d c = record { text = d.text; leading = d.leading; trailing = c.trailing }
+
+-- the bracket b with the lines of the comma c before its own: those that led c, then the comments of what trailed it
+abbrev pub with_lines_of : Decorated → Decorated → Decorated
+with_lines_of b c = record { text = b.text; leading = c.leading ++ (comments c.trailing ++ b.leading); trailing = b.trailing }
+
+-- the token d and the list after it, without the trailing commas after d
+abbrev pub plain_from : Decorated → List Decorated → List Decorated
+plain_from d [] = d ∷ []
+plain_from d (c ∷ []) = d ∷ c ∷ []
+plain_from d (c ∷ (b ∷ ts)) = if is_trailing_comma c b
+    then (if touches d c then with_trailing_of d c ∷ plain_from b ts else d ∷ plain_from (with_lines_of b c) ts)
+    else d ∷ plain_from c (b ∷ ts)
+
+-- the list without its trailing commas; a trailing comma that is the first token gives all its comments to the bracket
+abbrev pub plain_list : List Decorated → List Decorated
+plain_list [] = []
+plain_list (c ∷ []) = c ∷ []
+plain_list (c ∷ (b ∷ ts)) = if is_trailing_comma c b then plain_from (with_lines_of b c) ts else plain_from c (b ∷ ts)
+
+-- the tokens that are no trailing commas, as they are
+abbrev pub kept_tokens : List WrappedToken → List WrappedToken
+kept_tokens [] = []
+kept_tokens (c ∷ []) = c ∷ []
+kept_tokens (c ∷ (b ∷ ts)) = if is_trailing_comma (decorated c) (decorated b) then kept_tokens (b ∷ ts) else c ∷ kept_tokens (b ∷ ts)
+
+-- taking the trailing commas away twice is taking them away once
+abbrev pub PlainListIsPlain : Type 0
+PlainListIsPlain = (l : List Decorated) → plain_list (plain_list l) ≡ plain_list l
