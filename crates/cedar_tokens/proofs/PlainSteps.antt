@@ -141,28 +141,32 @@ reached_dropped all kept kept' before last c k k' rest lines lines' len len' cap
     sizes None (Some y) e = absurd cc
     sizes (Some x) None e = absurd cc
     sizes (Some x) (Some y) e = refl
+
     room : len' + (1 + (0 + length rest)) ≤ cap'
     room = let s = sizes before last same in omega (arith, r.room, longer, wider, s)
+
     tokens : map bare kept' ++ (bare k' ∷ map bare (kept_tokens rest)) ≡ map bare (kept_tokens all)
     tokens = token_step kept kept' before last k k' (kept_tokens rest) (map bare (kept_tokens all)) (rw (kept_dropped c k rest r.comma_is close) at r.tokens) same same' grown
+
     make : map decorated kept' ++ plain_from (decorated k') (map decorated rest) ≡ plain_list (map decorated all) → lines' ≡ moved_lines (Some (trailing_text k'.comment)) (map decorated rest) → Reached all kept' (Some k') None rest lines' len' cap'
     make l m = record { list = l; tokens = tokens; moved = m; comma_is = tt; room = room }
+
     go : (b : Bool) → leaves (trailing_before before) (decorated c) ≡ b → Reached all kept' (Some k') None rest lines' len' cap'
     go true e =
         let g = left e in
         let t : leaves (trailing_of (option_map decorated before)) (decorated c) ≡ true = ap (λ p. leaves p (decorated c)) (sym (trailing_same before)) ∙ e in
         let d = ap (λ z. z.trailing) g.0.1 in
         make (list_step kept kept' before (option_map (λ z. with_trailing_of z (decorated c)) (option_map decorated before)) (decorated k') _ (map decorated rest) _ r.list
-                (plain_left (option_map decorated before) (decorated c) (decorated k) (map decorated rest) r.comma_is close t ∙ ap (λ z. option_to_list (option_map (λ y. with_trailing_of y (decorated c)) (option_map decorated before)) ++ plain_from z (map decorated rest)) (sym g.0.1)) last g.0.0 grown)
-            (g.1 ∙ r.moved ∙ moved_left (trailing_before before) (decorated c) (decorated k) (map decorated rest) r.comma_is close e ∙ ap (λ z. moved_lines (Some z) (map decorated rest)) (sym d))
+        (plain_left (option_map decorated before) (decorated c) (decorated k) (map decorated rest) r.comma_is close t ∙ ap (λ z. option_to_list (option_map (λ y. with_trailing_of y (decorated c)) (option_map decorated before)) ++ plain_from z (map decorated rest)) (sym g.0.1)) last g.0.0 grown)
+        (g.1 ∙ r.moved ∙ moved_left (trailing_before before) (decorated c) (decorated k) (map decorated rest) r.comma_is close e ∙ ap (λ z. moved_lines (Some z) (map decorated rest)) (sym d))
     go false e =
         let g = moved e in
         let t : leaves (trailing_of (option_map decorated before)) (decorated c) ≡ false = ap (λ p. leaves p (decorated c)) (sym (trailing_same before)) ∙ e in
         let d = ap (λ z. z.trailing) g.0.1 in
         let m = sym g.1.1 ∙ r.moved ∙ moved_taken (trailing_before before) (decorated c) (decorated k) (map decorated rest) r.comma_is close e in
         make (list_step kept kept' before (option_map decorated before) (decorated k') _ (map decorated rest) _ r.list
-                (plain_moved (option_map decorated before) (decorated c) (decorated k) (map decorated rest) r.comma_is close t ∙ ap (λ z. option_to_list (option_map decorated before) ++ plain_from z (map decorated rest)) (sym g.0.1)) last g.0.0 grown)
-            (tail_same _ _ _ _ m ∙ ap (λ z. moved_lines (Some z) (map decorated rest)) (sym d))
+        (plain_moved (option_map decorated before) (decorated c) (decorated k) (map decorated rest) r.comma_is close t ∙ ap (λ z. option_to_list (option_map decorated before) ++ plain_from z (map decorated rest)) (sym g.0.1)) last g.0.0 grown)
+        (tail_same _ _ _ _ m ∙ ap (λ z. moved_lines (Some z) (map decorated rest)) (sym d))
 
 -- a comma before something else stays
 pub reached_stays : (all kept kept' : List WrappedToken) (before : Option WrappedToken) (c k : WrappedToken) (rest : List WrappedToken) (lines : List (List (List ℕ))) (len len' cap cap' : ℕ)
@@ -170,11 +174,12 @@ pub reached_stays : (all kept kept' : List WrappedToken) (before : Option Wrappe
     → kept' ≡ kept ++ option_to_list before → len' ≡ len + length (option_to_list before) → cap ≤ cap'
     → Reached all kept' (Some c) None (k ∷ rest) lines len' cap'
 reached_stays all kept kept' before c k rest lines len len' cap cap' r open_here grown longer wider = record {
-    list = list_step kept kept' before (option_map decorated before) (decorated c) _ (map decorated (k ∷ rest)) _ r.list (plain_stays (option_map decorated before) (decorated c) (decorated k) (map decorated rest) r.comma_is open_here) before refl grown;
-    tokens = token_step kept kept' before before c c (kept_tokens (k ∷ rest)) (map bare (kept_tokens all)) (rw (kept_stays c k rest r.comma_is open_here) at r.tokens) refl refl grown;
-    moved = r.moved ∙ moved_stays (trailing_before before) (decorated c) (decorated k) (map decorated rest) r.comma_is open_here;
-    comma_is = tt;
-    room = omega (arith, r.room, longer, wider) }
+  list = list_step kept kept' before (option_map decorated before) (decorated c) _ (map decorated (k ∷ rest)) _ r.list (plain_stays (option_map decorated before) (decorated c) (decorated k) (map decorated rest) r.comma_is open_here) before refl grown;
+  tokens = token_step kept kept' before before c c (kept_tokens (k ∷ rest)) (map bare (kept_tokens all)) (rw (kept_stays c k rest r.comma_is open_here) at r.tokens) refl refl grown;
+  moved = r.moved ∙ moved_stays (trailing_before before) (decorated c) (decorated k) (map decorated rest) r.comma_is open_here;
+  comma_is = tt;
+  room = omega (arith, r.room, longer, wider);
+}
 
 -- a comma before something else stays; where none waits, nothing changes
 pub reached_pass : (all kept kept' : List WrappedToken) (before before' comma : Option WrappedToken) (k : WrappedToken) (rest : List WrappedToken) (lines : List (List (List ℕ))) (len len' cap cap' : ℕ)
@@ -198,8 +203,9 @@ pub reached_other : (all kept kept' : List WrappedToken) (before : Option Wrappe
     → kept' ≡ kept ++ option_to_list before → len' ≡ len + length (option_to_list before) → cap ≤ cap'
     → Reached all kept' (Some x) None rest lines len' cap'
 reached_other all kept kept' before x rest lines len len' cap cap' r e grown longer wider = record {
-    list = list_step kept kept' before (option_map decorated before) (decorated x) _ (map decorated rest) _ r.list (plain_other (option_map decorated before) (decorated x) (map decorated rest) e) before refl grown;
-    tokens = token_step kept kept' before before x x (kept_tokens rest) (map bare (kept_tokens all)) (rw (kept_other x rest e) at r.tokens) refl refl grown;
-    moved = r.moved ∙ moved_other (trailing_before before) (decorated x) (map decorated rest) e;
-    comma_is = tt;
-    room = omega (arith, r.room, longer, wider) }
+  list = list_step kept kept' before (option_map decorated before) (decorated x) _ (map decorated rest) _ r.list (plain_other (option_map decorated before) (decorated x) (map decorated rest) e) before refl grown;
+  tokens = token_step kept kept' before before x x (kept_tokens rest) (map bare (kept_tokens all)) (rw (kept_other x rest e) at r.tokens) refl refl grown;
+  moved = r.moved ∙ moved_other (trailing_before before) (decorated x) (map decorated rest) e;
+  comma_is = tt;
+  room = omega (arith, r.room, longer, wider);
+}

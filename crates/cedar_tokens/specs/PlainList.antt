@@ -1,5 +1,5 @@
 -- A decorated list without its trailing commas. Their comments go to their neighbours.
-use Rattle.std.specs.Prelude.{◌≡◌, ℕ, List, [], ◌∷◌, ◌++◌, Bool, true, false, ◌&&◌, if◌then◌else◌, codes}
+use Rattle.std.specs.Prelude.{◌≡◌, ℕ, List, [], ◌∷◌, ◌++◌, Bool, true, false, ◌&&◌, if◌then◌else◌, codes, ⊤}
 use Rattle.std.specs.Str.{bytes_eq}
 use Rattle.cedar_tokens.specs.Units.{is_one_of}
 use Rattle.cedar_tokens.specs.Listing.{Decorated, comments}
@@ -52,6 +52,13 @@ kept_tokens [] = []
 kept_tokens (c ∷ []) = c ∷ []
 kept_tokens (c ∷ (b ∷ ts)) = if is_trailing_comma (decorated c) (decorated b) then kept_tokens (b ∷ ts) else c ∷ kept_tokens (b ∷ ts)
 
--- taking the trailing commas away twice is taking them away once
+-- no two commas stand next to each other
+abbrev pub NoTwoCommas : List Decorated → Type 0
+NoTwoCommas [] = ⊤
+NoTwoCommas (c ∷ []) = ⊤
+NoTwoCommas (c ∷ (b ∷ ts)) = ((is_comma c.text && is_comma b.text) ≡ false) × NoTwoCommas (b ∷ ts)
+
+-- where no two commas stand next to each other, a list without its trailing commas has none left
+-- (of `,,)` it keeps the first comma, which then stands before the bracket)
 abbrev pub PlainListIsPlain : Type 0
-PlainListIsPlain = (l : List Decorated) → plain_list (plain_list l) ≡ plain_list l
+PlainListIsPlain = (l : List Decorated) → NoTwoCommas l → plain_list (plain_list l) ≡ plain_list l

@@ -3,22 +3,24 @@ ghost use Rattle.std.specs.Prelude.{◌≡◌, ◌≤◌, ◌++◌, ◌∷◌, [
 ghost use Rattle.cedar_tokens.specs.PlainList.{is_comma, is_closing_bracket, is_trailing_comma, plain_list, kept_tokens};
 ghost use Rattle.std.specs.Prelude.{◌+◌, ◌&&◌, not, Option, true, false, length, List, ℕ};
 ghost use Rattle.std.specs.Option.{option_map, option_to_list};
-ghost use Rattle.cedar_tokens.specs.PlainList.{with_trailing_of};
+ghost use Rattle.cedar_tokens.specs.PlainList.{with_trailing_of, PlainListIsPlain};
 ghost use Rattle.cedar_tokens.specs.MovedLines.{moved_lines, lines_for, leaves, lines_of, lines_left, trailing_before, with_lines, HasNext, Follows, LeftToToken, MovedToBracket};
 ghost use Rattle.cedar_tokens.specs.Tokens.{bare, decorated, leading_lines, trailing_text, token_text};
 
+use crate::token::{Comment, WrappedToken, get_comment};
 use std::alloc::{AllocError, Global};
 use std::mem;
 use std::vec::IntoIter;
-
-use crate::token::{get_comment, Comment, WrappedToken};
 
 /// Takes the trailing commas out of `tokens`: each comma whose next token is `)`, `]` or `}`.
 ///
 /// Its comments stay between the same neighbours. Where no comment stands between the token before and the comma, that
 /// token gets the comma's trailing text. Else the bracket's lines begin with the comma's leading lines and the comments
 /// of its trailing text. Spans stay as they are. All memory is taken first: after a refusal `tokens` is as before.
-pub fn drop_trailing_commas(alloc: Global, tokens: &mut Vec<WrappedToken<'_>>) -> Result<(), AllocError>
+pub fn drop_trailing_commas(
+    alloc: Global,
+    tokens: &mut Vec<WrappedToken<'_>>,
+) -> Result<(), AllocError>
     ensures plain { OnOk result (map decorated tokens.new.items ≡ plain_list (map decorated tokens.old.items)) }
     ensures kept { OnOk result (map bare tokens.new.items ≡ map bare (kept_tokens tokens.old.items)) }
     ensures err { OnErr result (tokens.new.items ≡ tokens.old.items) }
@@ -29,6 +31,11 @@ pub fn drop_trailing_commas(alloc: Global, tokens: &mut Vec<WrappedToken<'_>>) -
     *tokens = without_trailing_commas(all, moved, kept);
     Ok(())
 }
+
+/// Where no two commas stand next to each other, taking the trailing commas out twice is taking them out once.
+pub fn plain_list_is_plain()
+    ensures { PlainListIsPlain }
+{}
 
 fn is_comma(token: &WrappedToken<'_>) -> bool
     ensures { result ≡ is_comma (token_text token.now.token) }
@@ -47,20 +54,29 @@ fn leaves(before: Option<&WrappedToken<'_>>, comma: &WrappedToken<'_>) -> bool
     ensures { result ≡ leaves (option_map (λ w. trailing_text w.now.comment) before.entry) (decorated comma.now) }
 {
     match before {
-        Some(token) => token.comment.trailing_comment().is_empty() && comma.comment.leading_comment().is_empty(),
+        Some(token) => token.comment.trailing_comment().is_empty()
+            && comma.comment.leading_comment().is_empty(),
         None => false,
     }
 }
 
 // Whether `token` is a trailing comma whose comments go to the bracket behind it.
-fn moves(before: Option<&WrappedToken<'_>>, token: &WrappedToken<'_>, next: &WrappedToken<'_>) -> bool
+fn moves(
+    before: Option<&WrappedToken<'_>>,
+    token: &WrappedToken<'_>,
+    next: &WrappedToken<'_>,
+) -> bool
     ensures { result ≡ (is_trailing_comma (decorated token.now) (decorated next.now) && not (leaves (option_map (λ w. trailing_text w.now.comment) before.entry) (decorated token.now))) }
 {
     is_comma(token) && is_closing_bracket(next) && !leaves(before, token)
 }
 
 // The lines of the bracket that takes the comma's comments.
-fn lines_for<'src>(alloc: Global, comma: &WrappedToken<'src>, bracket: &WrappedToken<'src>) -> Result<Vec<&'src str>, AllocError>
+fn lines_for<'src>(
+    alloc: Global,
+    comma: &WrappedToken<'src>,
+    bracket: &WrappedToken<'src>,
+) -> Result<Vec<&'src str>, AllocError>
     ensures { IfOk result (λ v. map (λ l. l.now) v.items ≡ lines_for (decorated comma.now) (decorated bracket.now)) }
 {
     let mut lines = Vec::new(alloc);
@@ -73,7 +89,10 @@ fn lines_for<'src>(alloc: Global, comma: &WrappedToken<'src>, bracket: &WrappedT
 }
 
 // The lines of each bracket that takes a comma's comments, in order.
-fn all_moved_lines<'src>(alloc: Global, tokens: &[WrappedToken<'src>]) -> Result<Vec<Vec<&'src str>>, AllocError>
+fn all_moved_lines<'src>(
+    alloc: Global,
+    tokens: &[WrappedToken<'src>],
+) -> Result<Vec<Vec<&'src str>>, AllocError>
     ensures { IfOk result (λ v. map lines_of v.items ≡ moved_lines None (map decorated tokens.now)) }
 {
     let mut moved = Vec::new(alloc);
@@ -93,7 +112,10 @@ fn all_moved_lines<'src>(alloc: Global, tokens: &[WrappedToken<'src>]) -> Result
 }
 
 // The token with the comma's trailing text in place of its own.
-fn with_trailing<'src>(mut token: WrappedToken<'src>, comma: &WrappedToken<'src>) -> WrappedToken<'src>
+fn with_trailing<'src>(
+    mut token: WrappedToken<'src>,
+    comma: &WrappedToken<'src>,
+) -> WrappedToken<'src>
     ensures decorated { decorated result ≡ with_trailing_of (decorated token.entry) (decorated comma.now) }
     ensures bare { bare result ≡ bare token.entry }
 {
@@ -112,7 +134,12 @@ fn with_lines<'src>(bracket: WrappedToken<'src>, lines: Vec<&'src str>) -> Wrapp
 }
 
 // The neighbours of a trailing comma with its comments.
-fn settle<'src>(before: Option<WrappedToken<'src>>, comma: &WrappedToken<'src>, bracket: WrappedToken<'src>, moved: &mut IntoIter<Vec<&'src str>, Global>) -> (Option<WrappedToken<'src>>, WrappedToken<'src>)
+fn settle<'src>(
+    before: Option<WrappedToken<'src>>,
+    comma: &WrappedToken<'src>,
+    bracket: WrappedToken<'src>,
+    moved: &mut IntoIter<Vec<&'src str>, Global>,
+) -> (Option<WrappedToken<'src>>, WrappedToken<'src>)
     requires moved { leaves (trailing_before before) (decorated comma.now) ≡ false → HasNext (lines_left moved.old) (lines_for (decorated comma.now) (decorated bracket)) }
     ensures left { leaves (trailing_before before.entry) (decorated comma.now) ≡ true → LeftToToken (option_map decorated before.entry) (decorated comma.now) (decorated bracket.entry) (option_map decorated result.0) (decorated result.1) × (lines_left moved.new ≡ lines_left moved.old) }
     ensures moved { leaves (trailing_before before.entry) (decorated comma.now) ≡ false → MovedToBracket (option_map decorated before.entry) (decorated comma.now) (decorated bracket.entry) (option_map decorated result.0) (decorated result.1) × Follows (lines_left moved.old) (lines_left moved.new) }
@@ -137,7 +164,11 @@ fn keep<'src>(kept: &mut Vec<WrappedToken<'src>>, token: Option<WrappedToken<'sr
 }
 
 // The last token that stays, where `next` comes behind `before` if it is there.
-fn pass<'src>(kept: &mut Vec<WrappedToken<'src>>, before: Option<WrappedToken<'src>>, next: Option<WrappedToken<'src>>) -> Option<WrappedToken<'src>>
+fn pass<'src>(
+    kept: &mut Vec<WrappedToken<'src>>,
+    before: Option<WrappedToken<'src>>,
+    next: Option<WrappedToken<'src>>,
+) -> Option<WrappedToken<'src>>
     requires room { vec_len kept.old + length (option_to_list before) ≤ vec_capacity kept.old }
     ensures some { IfSome next.entry (λ t. (result ≡ Some t) × (kept.new.items ≡ kept.old.items ++ option_to_list before.entry) × (vec_len kept.new ≡ vec_len kept.old + length (option_to_list before.entry))) }
     ensures none { IfNone next.entry ((result ≡ before.entry) × (kept.new.items ≡ kept.old.items) × (vec_len kept.new ≡ vec_len kept.old)) }
@@ -153,7 +184,11 @@ fn pass<'src>(kept: &mut Vec<WrappedToken<'src>>, before: Option<WrappedToken<'s
 }
 
 // The tokens without the trailing commas; `moved` has the lines of the brackets that take their comments.
-fn without_trailing_commas<'src>(all: Vec<WrappedToken<'src>>, moved: Vec<Vec<&'src str>>, mut kept: Vec<WrappedToken<'src>>) -> Vec<WrappedToken<'src>>
+fn without_trailing_commas<'src>(
+    all: Vec<WrappedToken<'src>>,
+    moved: Vec<Vec<&'src str>>,
+    mut kept: Vec<WrappedToken<'src>>,
+) -> Vec<WrappedToken<'src>>
     requires none { kept.items ≡ [] }
     requires room { vec_len all ≤ vec_capacity kept }
     requires moved { map lines_of moved.items ≡ moved_lines None (map decorated all.items) }

@@ -1,11 +1,14 @@
 //! What no clause says: that the definitions mean what the written rules say, on worked examples, and that calls succeed.
-use std::alloc::{AllocError, Global};
-
 use crate::lexer::{LexFault, LexFaultKind, drop_trailing_commas, first_fault, get_token_stream};
 use crate::token::{Comment, Comments, Span, Token, WrappedToken, get_comment};
+use std::alloc::{AllocError, Global};
 
 // Each token as `[START..END TEXT <COMMENTS>]`, then `|` and each closing comment with a `;`.
-fn shown(alloc: Global, tokens: &[WrappedToken<'_>], closing: Comments<'_>) -> Result<String, AllocError> {
+fn shown(
+    alloc: Global,
+    tokens: &[WrappedToken<'_>],
+    closing: Comments<'_>,
+) -> Result<String, AllocError> {
     let mut out = String::new(alloc);
     for token in tokens {
         let start = token.span.start;
@@ -44,8 +47,14 @@ fn finds_faults(rt: HostRuntime) {
         ("\u{feff}a", Some((LexFaultKind::UnknownCharacter, 0))),
         ("permit\u{200b}(", Some((LexFaultKind::UnknownCharacter, 6))),
         ("permit\u{a0}(\u{2028}\u{85}\u{3000})", None),
-        ("permit(principal == User::\"a,action,resource);", Some((LexFaultKind::UnfinishedString, 26))),
-        ("permit(principal,action,resource)when{=};", Some((LexFaultKind::UnknownCharacter, 38))),
+        (
+            "permit(principal == User::\"a,action,resource);",
+            Some((LexFaultKind::UnfinishedString, 26)),
+        ),
+        (
+            "permit(principal,action,resource)when{=};",
+            Some((LexFaultKind::UnknownCharacter, 38)),
+        ),
         (") \"", Some((LexFaultKind::UnfinishedString, 2))),
         ("a & b", Some((LexFaultKind::UnknownCharacter, 2))),
         ("a | b", Some((LexFaultKind::UnknownCharacter, 2))),
@@ -82,13 +91,19 @@ fn reads_comments(rt: HostRuntime) -> Result<(), AllocError> {
 #[test]
 fn reads_streams(rt: HostRuntime) -> Result<(), AllocError> {
     for (text, want) in [
-        ("// a\npermit // b\n// c\n(// d", "[5..11 permit <// a\n// b>][22..23 ( <// c\n// d>]|"),
+        (
+            "// a\npermit // b\n// c\n(// d",
+            "[5..11 permit <// a\n// b>][22..23 ( <// c\n// d>]|",
+        ),
         ("truex 7a", "[0..5 truex <>][6..7 7 <>][7..8 a <>]|"),
         ("", "|"),
         ("// c", "|// c;"),
         ("//a\na", "[4..5 a <//a\n>]|"),
         ("a // a\n//b\nb//b", "[0..1 a <// a>][11..12 b <//b\n//b>]|"),
-        ("a;// t\r// u\n// v \n w // x // y\r //z", "[0..1 a <>][1..2 ; <// t\r// u>][19..20 w <// v\n// x // y\r //z>]|"),
+        (
+            "a;// t\r// u\n// v \n w // x // y\r //z",
+            "[0..1 a <>][1..2 ; <// t\r// u>][19..20 w <// v\n// x // y\r //z>]|",
+        ),
         (";\r// a\r// b\n// c\n", "[0..1 ; <// a\r// b>]|// c;"),
         ("a\r\n//b\r\nc", "[0..1 a <>][8..9 c <//b\n>]|"),
         ("a\n// e\r// f \n\"//x", "no split"),
@@ -99,7 +114,10 @@ fn reads_streams(rt: HostRuntime) -> Result<(), AllocError> {
         (";// a\u{2028}b", "[0..1 ; <// a\u{2028}b>]|"),
         ("a//é\n\u{2028}\"é\"", "[0..1 a <//é>][9..13 \"é\" <>]|"),
         ("\"a\n//b\"", "[0..7 \"a\n//b\" <>]|"),
-        ("a==b<=c<d:::", "[0..1 a <>][1..3 == <>][3..4 b <>][4..6 <= <>][6..7 c <>][7..8 < <>][8..9 d <>][9..11 :: <>][11..12 : <>]|"),
+        (
+            "a==b<=c<d:::",
+            "[0..1 a <>][1..3 == <>][3..4 b <>][4..6 <= <>][6..7 c <>][7..8 < <>][8..9 d <>][9..11 :: <>][11..12 : <>]|",
+        ),
     ] {
         let got = shown_stream(rt.alloc(), text, false)?;
         assert_eq!(rt; got.as_str(), want, "{text:?}");
@@ -111,17 +129,29 @@ fn reads_streams(rt: HostRuntime) -> Result<(), AllocError> {
 fn drops_trailing_commas(rt: HostRuntime) -> Result<(), AllocError> {
     for (text, want) in [
         ("(a,)", "[0..1 ( <>][1..2 a <>][3..4 ) <>]|"),
-        ("[1,2,]==[]", "[0..1 [ <>][1..2 1 <>][2..3 , <>][3..4 2 <>][5..6 ] <>][6..8 == <>][8..9 [ <>][9..10 ] <>]|"),
-        ("f({a:1,},)", "[0..1 f <>][1..2 ( <>][2..3 { <>][3..4 a <>][4..5 : <>][5..6 1 <>][7..8 } <>][9..10 ) <>]|"),
+        (
+            "[1,2,]==[]",
+            "[0..1 [ <>][1..2 1 <>][2..3 , <>][3..4 2 <>][5..6 ] <>][6..8 == <>][8..9 [ <>][9..10 ] <>]|",
+        ),
+        (
+            "f({a:1,},)",
+            "[0..1 f <>][1..2 ( <>][2..3 { <>][3..4 a <>][4..5 : <>][5..6 1 <>][7..8 } <>][9..10 ) <>]|",
+        ),
         (",", "[0..1 , <>]|"),
         (",,)", "[0..1 , <>][2..3 ) <>]|"),
         (",) // x", "[1..2 ) <// x>]|"),
         // The comma's trailing text stays on the token before it, where no comment stands between the two.
         ("r, // r\n)", "[0..1 r <// r>][8..9 ) <>]|"),
         // Else all its comments lead the bracket, before the bracket's own lines.
-        ("r // a\n// b\n, // c\n// d\n)", "[0..1 r <// a>][24..25 ) <// b\n// c\n// d\n>]|"),
+        (
+            "r // a\n// b\n, // c\n// d\n)",
+            "[0..1 r <// a>][24..25 ) <// b\n// c\n// d\n>]|",
+        ),
         ("1 // a\n, // b\n]", "[0..1 1 <// a>][15..16 ] <// b\n>]|"),
-        ("r\n// b\n, // c\r// d\n} // e", "[0..1 r <>][20..21 } <// b\n// c\n// d\n// e>]|"),
+        (
+            "r\n// b\n, // c\r// d\n} // e",
+            "[0..1 r <>][20..21 } <// b\n// c\n// d\n// e>]|",
+        ),
         // The first token has none before it.
         ("// a\n, // b\n// c\n)", "[17..18 ) <// a\n// b\n// c\n>]|"),
         ("(, // b\n)", "[0..1 ( <// b>][8..9 ) <>]|"),
@@ -140,7 +170,56 @@ fn prints_tokens_and_comments(rt: HostRuntime) -> Result<(), AllocError> {
     let printed = format!(in rt.alloc(); "{comment}")?;
     assert_eq!(rt; printed.as_str(), "// a\n// b\n// t");
 
-    let texts = ["true", "false", "if", "permit", "forbid", "when", "unless", "in", "has", "like", "is", "then", "else", "principal", "action", "resource", "context", "?principal", "?resource", "a_1", "007", "\"x\\\"\"", "@", ".", ",", ";", ":", "::", "(", ")", "{", "}", "[", "]", "==", "!=", "<", "<=", ">", ">=", "||", "&&", "+", "-", "*", "/", "%", "!"];
+    let texts = [
+        "true",
+        "false",
+        "if",
+        "permit",
+        "forbid",
+        "when",
+        "unless",
+        "in",
+        "has",
+        "like",
+        "is",
+        "then",
+        "else",
+        "principal",
+        "action",
+        "resource",
+        "context",
+        "?principal",
+        "?resource",
+        "a_1",
+        "007",
+        "\"x\\\"\"",
+        "@",
+        ".",
+        ",",
+        ";",
+        ":",
+        "::",
+        "(",
+        ")",
+        "{",
+        "}",
+        "[",
+        "]",
+        "==",
+        "!=",
+        "<",
+        "<=",
+        ">",
+        ">=",
+        "||",
+        "&&",
+        "+",
+        "-",
+        "*",
+        "/",
+        "%",
+        "!",
+    ];
     for text in texts {
         let (tokens, _) = get_token_stream(rt.alloc(), text)?.expect(&rt, "the text splits");
         assert_eq!(rt; tokens.len(), 1, "{text}");
@@ -150,7 +229,10 @@ fn prints_tokens_and_comments(rt: HostRuntime) -> Result<(), AllocError> {
         assert_eq!(rt; printed.as_str(), want.as_str());
     }
 
-    let (tokens, _) = get_token_stream(rt.alloc(), "// a\npermit // b\n// c\n(// d")?.expect(&rt, "the text splits");
+    let (tokens, _) = get_token_stream(rt.alloc(), "// a\npermit // b\n// c\n(// d")?.expect(
+        &rt,
+        "the text splits",
+    );
     assert_eq!(rt; tokens.len(), 2);
     let second = format!(in rt.alloc(); "{}", tokens[1])?;
     assert_eq!(rt; second.as_str(), "// c\n( // d");
@@ -178,7 +260,16 @@ fn moves_comments_out(rt: HostRuntime) -> Result<(), AllocError> {
     assert!(rt; token.comment == Comment::empty(rt.alloc()));
     assert_eq!(rt; token.span, span);
     assert!(rt; token.token == Token::Comma);
-    assert!(rt; Token::Identifier(String::from_str(rt.alloc(), "7")?) != Token::Number(String::from_str(rt.alloc(), "7")?));
-    assert_eq!(rt; first_fault("="), Some(LexFault { kind: LexFaultKind::UnknownCharacter, at: 0 }));
+    assert!(rt;
+        Token::Identifier(String::from_str(rt.alloc(), "7")?)
+            != Token::Number(String::from_str(rt.alloc(), "7")?)
+    );
+    assert_eq!(rt;
+        first_fault("="),
+        Some(LexFault {
+            kind: LexFaultKind::UnknownCharacter,
+            at: 0
+        })
+    );
     Ok(())
 }
