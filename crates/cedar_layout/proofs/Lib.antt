@@ -1,0 +1,13 @@
+pub mod Rule
+pub mod Rows
+pub mod Values
+pub mod Steps
+pub mod Laid
+pub mod Atoms
+pub mod Width
+pub mod Cuts
+pub mod Choices
+pub mod Counts
+pub mod Measuring
+pub mod Printing
+pub mod Releasing

@@ -1,0 +1,20 @@
+-- How many nodes a document has.
+use Rattle.std.specs.Prelude.{ℕ, ◌+◌, sum}
+use Rattle.cedar_layout.specs.declared.layout.Document.{Document}
+use Rattle.cedar_layout.specs.declared.layout.Document.TheOpen.{Document-F, Nil, Text, Line, LineOrNil, Hard, Seq, Nest, Group}
+use Rattle.cedar_layout.specs.declared.layout.Document.TheFolds.{fold-Document}
+
+-- one, and those of the documents that it holds
+abbrev pub nodes_step : Document-F ℕ → ℕ
+nodes_step Nil = 1
+nodes_step (Text s) = 1
+nodes_step Line = 1
+nodes_step LineOrNil = 1
+nodes_step Hard = 1
+nodes_step (Seq v) = 1 + sum v.items
+nodes_step (Nest n b) = 1 + b.value
+nodes_step (Group b) = 1 + b.value
+
+-- the cases of `Document` in a document
+abbrev pub nodes : Document → ℕ
+nodes = fold-Document ℕ nodes_step

@@ -1,0 +1,239 @@
+//! Documents, texts with places where they may break, and the layout of a document at a width.
+ghost use Rattle.std.specs.Prelude.{◌≡◌, ◌+◌, ◌*◌, ◌<◌, ◌≤◌, ◌++◌, ℕ, List, false, length, map, take, string_bytes, IfOk, OnOk, OnErr};
+ghost use Rattle.std.specs.List.{flat_map};
+ghost use Rattle.cedar_layout.specs.Layout.{◌·◌, nest, group, atoms, print, Doc, Choice, Piece, AreMadeOf, pieces, text_of_choice, IsChoiceAt, IsTheLayoutAt};
+ghost use Rattle.cedar_layout.specs.Computed.{laid};
+ghost use Rattle.cedar_layout.specs.Nodes.{nodes};
+ghost use Rattle.cedar_layout.specs.Value.{doc_of, interspersed};
+ghost use Rattle.cedar_layout.specs.Width.{KeepsWidth};
+
+mod measure;
+mod print;
+mod release;
+mod steps;
+
+use crate::layout::release::release_all;
+use std::alloc::{AllocError, Global};
+use std::marker::Brand;
+use std::sync::ledger::{Blank, Ledger};
+pub use steps::Steps;
+
+/// A text with places where it may break.
+pub enum Document<'src> {
+    /// Nothing.
+    Nil,
+    /// A text, which is never broken.
+    Text(&'src str),
+    /// A space where it is laid flat, else a break.
+    Line,
+    /// Nothing where it is laid flat, else a break.
+    LineOrNil,
+    /// A break, everywhere.
+    Hard,
+    /// One document after the other.
+    Seq(Vec<Document<'src>>),
+    /// A document whose breaks are indented by so many columns more.
+    Nest(isize, Box<Document<'src>>),
+    /// A document that is laid flat as a whole where that fits.
+    Group(Box<Document<'src>>),
+}
+
+impl<'src> Document<'src> {
+    /// This document and then the other one.
+    pub fn append(self, alloc: Global, other: Document<'src>) -> Result<Document<'src>, AllocError>
+        ensures { IfOk result (λ d. doc_of d ≡ doc_of self.entry · doc_of other.entry) }
+    {
+        let mut docs = Vec::with_capacity(alloc, 2)?;
+        docs.push(self)?;
+        docs.push(other)?;
+        Ok(Document::Seq(docs))
+    }
+
+    /// This document, its breaks indented by `n` columns more.
+    pub fn nest(self, alloc: Global, n: isize) -> Result<Document<'src>, AllocError>
+        ensures { IfOk result (λ d. doc_of d ≡ nest n (doc_of self.entry)) }
+    {
+        Ok(Document::Nest(n, Box::new(alloc, self)?))
+    }
+
+    /// This document, laid flat as a whole where that fits.
+    pub fn group(self, alloc: Global) -> Result<Document<'src>, AllocError>
+        ensures { IfOk result (λ d. doc_of d ≡ group (doc_of self.entry)) }
+    {
+        Ok(Document::Group(Box::new(alloc, self)?))
+    }
+}
+
+impl<'src> Clone for Document<'src> {
+    ghost is_clone = { λ d e. doc_of e ≡ doc_of d };
+
+    fn clone(&self) -> Result<Document<'src>, AllocError> {
+        copy(self)
+    }
+}
+
+impl Drop for Document<'_> {
+    fn drop(mut self) {
+        loop {
+            match self {
+                Document::Nil
+                | Document::Text(_)
+                | Document::Line
+                | Document::LineOrNil
+                | Document::Hard => return,
+                Document::Seq(docs) => {
+                    release_all(docs);
+                    return;
+                }
+                Document::Nest(_, inner) => self = Box::into_inner(inner),
+                Document::Group(inner) => self = Box::into_inner(inner),
+            }
+        }
+    }
+}
+
+/// A copy, made with the allocators of the document's own parts.
+fn copy<'src>(doc: &Document<'src>) -> Result<Document<'src>, AllocError>
+    ensures { IfOk result (λ d. doc_of d ≡ doc_of doc.now) }
+{
+    match doc {
+        Document::Nil => Ok(Document::Nil),
+        Document::Text(s) => Ok(Document::Text(s)),
+        Document::Line => Ok(Document::Line),
+        Document::LineOrNil => Ok(Document::LineOrNil),
+        Document::Hard => Ok(Document::Hard),
+        Document::Seq(docs) => {
+            let mut all = Vec::with_capacity(*docs.allocator(), docs.len())?;
+            for d in docs {
+                all.push(copy(d)?)?;
+            }
+            Ok(Document::Seq(all))
+        }
+        Document::Nest(n, inner) => {
+            let inside = copy(inner)?;
+            Ok(Document::Nest(*n, Box::new(*Box::allocator(inner), inside)?))
+        }
+        Document::Group(inner) => {
+            let inside = copy(inner)?;
+            Ok(Document::Group(Box::new(*Box::allocator(inner), inside)?))
+        }
+    }
+}
+
+/// The documents one after the other, with a copy of `sep` between neighbours. Of no documents it is `Nil`.
+pub fn intersperse<'src>(
+    alloc: Global,
+    docs: Vec<Document<'src>>,
+    sep: &Document<'src>,
+) -> Result<Document<'src>, AllocError>
+    ensures { IfOk result (λ d. doc_of d ≡ interspersed (doc_of sep.now) (map doc_of docs.entry.items)) }
+{
+    let mut all = Vec::new(alloc);
+    for d in docs {
+        if !all.is_empty() {
+            all.push(sep.clone()?)?;
+        }
+        all.push(d)?;
+    }
+    Ok(Document::Seq(all))
+}
+
+/// Appends the layout of a document at a width, in columns. It begins in column 0, with indentation 0.
+pub fn render(
+    alloc: Global,
+    doc: &Document<'_>,
+    width: usize,
+    out: &mut String,
+) -> Result<(), AllocError>
+    // No other text is a layout at the width.
+    ensures ok { OnOk result ((t : List ℕ)
+        × IsTheLayoutAt width (doc_of doc.now) t
+        × (string_bytes out.new ≡ string_bytes out.old ++ t)) }
+    ensures err { OnErr result (string_bytes out.new ≡ string_bytes out.old) }
+{
+    render_from::<Brand>(alloc, doc, width, out, Blank::new(1))
+}
+
+/// The same, with steps that nobody reads.
+fn render_from<L: Ledger>(
+    alloc: Global,
+    doc: &Document<'_>,
+    width: usize,
+    out: &mut String,
+    blank: Blank,
+) -> Result<(), AllocError>
+    requires name { blank.name ≡ L.name }
+    requires parts { blank.parts ≡ L.parts }
+    requires some { 0 < L.parts }
+    ensures ok { OnOk result ((t : List ℕ)
+        × IsTheLayoutAt width (doc_of doc.now) t
+        × (string_bytes out.new ≡ string_bytes out.old ++ t)) }
+    ensures err { OnErr result (string_bytes out.new ≡ string_bytes out.old) }
+{
+    let mut steps: Steps<L> = Steps::new(blank);
+    render_counted(alloc, doc, width, out, &mut steps)
+}
+
+/// Like `render`, and counts the steps: one for each case of the document that is taken up, once for measuring and
+/// once for printing.
+pub fn render_counted<L: Ledger>(
+    alloc: Global,
+    doc: &Document<'_>,
+    width: usize,
+    out: &mut String,
+    steps: &mut Steps<L>,
+) -> Result<(), AllocError>
+    ensures ok { OnOk result ((t : List ℕ)
+        × IsTheLayoutAt width (doc_of doc.now) t
+        × (string_bytes out.new ≡ string_bytes out.old ++ t)) }
+    ensures err { OnErr result (string_bytes out.new ≡ string_bytes out.old) }
+
+    ensures steps { OnOk result (steps.new ≡ steps.old + 2 * nodes doc.now) }
+    ensures least { steps.old ≤ steps.new }
+    ensures most { steps.new ≤ steps.old + 2 * nodes doc.now }
+{
+    let start = out.len();
+    match measure_and_print(alloc, doc, width, out, steps) {
+        Ok(()) => Ok(()),
+        Err(e) => {
+            out.truncate(start);
+            Err(e)
+        }
+    }
+}
+
+/// Both passes. Where memory is refused, a part of the layout may have been appended.
+fn measure_and_print<L: Ledger>(
+    alloc: Global,
+    doc: &Document<'_>,
+    width: usize,
+    out: &mut String,
+    steps: &mut Steps<L>,
+) -> Result<(), AllocError>
+    ensures ok { OnOk result (string_bytes out.new ≡ string_bytes out.old ++ flat_map print (laid width (doc_of doc.now) false 0 0 0)) }
+    ensures kept { take (length (string_bytes out.old)) (string_bytes out.new) ≡ string_bytes out.old }
+    ensures steps { OnOk result (steps.new ≡ steps.old + 2 * nodes doc.now) }
+    ensures least { steps.old ≤ steps.new }
+    ensures most { steps.new ≤ steps.old + 2 * nodes doc.now }
+{
+    let notes = measure::measure(alloc, doc, steps)?;
+    print::print_document(alloc, doc, width, notes, out, steps)
+}
+
+/// Under every choice each piece is made of the atom at its place: a text, or the flat or broken form of a line.
+pub fn every_choice_prints_the_atoms()
+    ensures { (d : Doc) (c : Choice d) → (ps : List Piece) × AreMadeOf ps (atoms d) × (text_of_choice d c ≡ flat_map print ps) }
+{}
+
+/// In the layout at a width no line that is wider holds a `Line` or a `LineOrNil` that is laid flat.
+pub fn wide_lines_are_broken()
+    ensures { (w : ℕ) (d : Doc) (c : Choice d) → IsChoiceAt w d c → KeepsWidth w 0 (pieces d c false 0) }
+{}
+
+/// At each width exactly one choice follows the rule at each group.
+pub fn one_layout_at_a_width()
+    ensures { (w : ℕ) (d : Doc) → (c : Choice d) × IsChoiceAt w d c × ((b : Choice d) → IsChoiceAt w d b → b ≡ c) }
+{}
+
+#[cfg(test)]
+mod tests;

@@ -1,0 +1,75 @@
+//! Letting documents go. A derived drop calls itself once for each level and runs out of stack on deep documents. Here
+//! the sequences' own vectors are the stack, so no memory is asked for.
+ghost use Rattle.std.specs.Prelude.{◌≡◌, ◌+◌, ◌≤◌, ◌<◌, [], ◌∷◌, ◌++◌, vec_len};
+ghost use Rattle.std.specs.Vec.{vec_capacity};
+ghost use Rattle.cedar_layout.specs.Releasing.{work};
+
+use crate::layout::Document;
+
+/// Lets documents go, the last one first.
+pub(crate) fn release_all(mut docs: Vec<Document<'_>>) {
+    while let Some(doc) = docs.pop() {
+        docs = doc.released(docs);
+    }
+    docs.destroy_empty();
+}
+
+impl<'src> Document<'src> {
+    /// The documents that are left where this one goes: `docs`, which have room for one more, and those that it holds.
+    fn released(self, mut docs: Vec<Document<'src>>) -> Vec<Document<'src>>
+        requires { vec_len docs < vec_capacity docs }
+        ensures { work result.items + 1 ≤ work (docs.entry.items ++ self.entry ∷ []) }
+    {
+        match self {
+            Document::Nil
+            | Document::Text(_)
+            | Document::Line
+            | Document::LineOrNil
+            | Document::Hard => docs,
+            Document::Seq(more) => joined(docs, more),
+            Document::Nest(_, inner) => {
+                put(&mut docs, Box::into_inner(inner));
+                docs
+            }
+            Document::Group(inner) => {
+                put(&mut docs, Box::into_inner(inner));
+                docs
+            }
+        }
+    }
+}
+
+/// Both lists in one: `docs` with one of `more` in its room, as the first of the others.
+fn joined<'src>(mut docs: Vec<Document<'src>>, mut more: Vec<Document<'src>>) -> Vec<Document<'src>>
+    requires { vec_len docs < vec_capacity docs }
+    ensures { work result.items + 1 ≤ work (docs.entry.items ++ Document.Seq more.entry ∷ []) }
+{
+    if docs.is_empty() {
+        docs.destroy_empty();
+        return more;
+    }
+    match more.pop() {
+        None => {
+            more.destroy_empty();
+            docs
+        }
+        Some(last) => {
+            put(&mut docs, last);
+            match more.insert(0, Document::Seq(docs)) {
+                Ok(()) => more,
+                Err(_) => unreachable!(),
+            }
+        }
+    }
+}
+
+/// Puts a document in the room that there is.
+fn put<'src>(docs: &mut Vec<Document<'src>>, doc: Document<'src>)
+    requires { vec_len docs.old < vec_capacity docs.old }
+    ensures { docs.new.items ≡ docs.old.items ++ doc.entry ∷ [] }
+{
+    match docs.push(doc) {
+        Ok(()) => {}
+        Err(_) => unreachable!(),
+    }
+}

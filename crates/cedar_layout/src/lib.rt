@@ -1,0 +1,4 @@
+//! Documents and their layout.
+#![tactic(auto)]
+
+pub mod layout;
