@@ -1,8 +1,7 @@
 -- At each width there is exactly one choice.
 use Rattle.std.proofs.Common.{◌≡◌, ℕ, Bool, true, false, ◌||◌, IsTrue, ◌↔◌, ◌⊎◌, List, [], ◌+◌, ◌++◌, refl, sym, ap, subst, ◌∙◌}
 use Rattle.std.specs.List.{AllByRecursion}
-use Rattle.std.proofs.lemmas.Bool.{false≢true}
-use Rattle.cedar_layout.specs.Layout.{Doc, nil, text_then, line_then, line_or_nil_then, hard_then, nest_then, group_then, Atom, atoms, columns, Choice, pieces, indented, column_after, Place, places, Fits, FollowsRule, IsChoiceAt}
+use Rattle.cedar_layout.specs.Layout.{Doc, nil, text_then, line_then, line_or_nil_then, hard_then, nest_then, group_then, Atom, atoms, columns, Choice, pieces, indented, column_after, places, Fits, FollowsRule, IsChoiceAt}
 use Rattle.cedar_layout.proofs.Rule.{All-left, All-right, rule_is_met}
 
 -- two tests of the same fact are equal

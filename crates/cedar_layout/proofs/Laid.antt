@@ -1,15 +1,9 @@
 -- Laws of the computed layout: of documents one after the other, and of numbers that are capped.
-use Rattle.std.proofs.Common.{◌≡◌, ℕ, ◌+◌, ◌-◌, ◌^◌, ◌<◌, ◌≤◌, min, Bool, true, false, not, ◌||◌, ◌&&◌, nat_le, cond, List, [], ◌∷◌, ◌++◌, length, take, drop, get_or, length-take, refl, sym, ap, ◌∙◌, subst, arith, append_assoc, append-nil}
-use Rattle.std.specs.List.{flat_map}
+use Rattle.std.proofs.Common.{◌≡◌, ℕ, ◌+◌, ◌^◌, ◌<◌, Bool, true, false, not, ◌||◌, ◌&&◌, nat_le, List, [], ◌∷◌, ◌++◌, refl, sym, ap, ◌∙◌, arith, append_assoc}
 use Rattle.std.proofs.lemmas.Bool.Decides.{nat_tests}
-use Rattle.std.proofs.lemmas.List.{take-append-le}
-use Rattle.std.proofs.lemmas.List.Concat.{flat_map-append}
-use Rattle.cedar_layout.specs.Layout.{Doc, nil, text_then, line_then, line_or_nil_then, hard_then, nest_then, group_then, ◌·◌, Atom, word, space_or_break, nothing_or_break, must_break, atoms, columns, flat_columns, has_hard, Piece, written, space, nothing, broken, print, indented, column_after, text, line, line_or_nil}
+use Rattle.cedar_layout.specs.Layout.{Doc, nil, text_then, line_then, line_or_nil_then, hard_then, nest_then, group_then, ◌·◌, Atom, word, space_or_break, nothing_or_break, must_break, atoms, columns, flat_columns, has_hard, Piece, written, space, nothing, broken, indented, column_after}
 use Rattle.cedar_layout.specs.Computed.{tail_then, fits, laid, capped}
-use Rattle.cedar_layout.specs.declared.layout.Document.{Document}
-use Rattle.cedar_layout.specs.Value.{doc_of, docs_of}
 use Rattle.cedar_layout.proofs.Values.{atoms-dot}
-use Rattle.cedar_layout.proofs.Steps.{docs_of-drop}
 
 pub tail_then-append : (xs ys : List Atom) (t : ℕ) → tail_then (xs ++ ys) t ≡ tail_then xs (tail_then ys t)
 tail_then-append [] ys t = refl
@@ -40,9 +34,6 @@ column_after-capped n m (written s ∷ ps) e = column_after-capped (n + columns 
 column_after-capped n m (space ∷ ps) e = column_after-capped (n + 1) (m + 1) ps (capped-add_both n m 1 e)
 column_after-capped n m (nothing ∷ ps) e = column_after-capped n m ps e
 column_after-capped n m (broken i ∷ ps) e = refl
-
-le-capped : (w x n m t u : ℕ) → w < 2 ^ 64 → capped n ≡ capped m → capped t ≡ capped u → n + x + t ≤ w → m + x + u ≤ w
-le-capped w x n m t u h e k l = omega arith
 
 nat_le-capped : (w x n m t u : ℕ) → w < 2 ^ 64 → capped n ≡ capped m → capped t ≡ capped u → nat_le (n + x + t) w ≡ nat_le (m + x + u) w
 nat_le-capped w x n m t u h e k = grind (arith, nat_tests)
@@ -117,67 +108,3 @@ laid-capped w (group_then d r) f i n m t u h e k =
     let ps = laid w d b i n T in
     let same = laid-capped w d b i n m T U h e K ∙ ap (λ x. laid w d (f || x) i m U) (fits-capped w (atoms d) n m T U h e K) in
     both_capped ps _ n m (λ x. laid w r f i x t) (λ x. laid w r f i x u) e same (λ x y l. laid-capped w r f i x y t u h l k)
-
--- ---- the steps of the loops
-
-pub tail_back : (ds : List Document) (i : ℕ) (d : Document) (after q r : ℕ) → 0 < i → i ≤ length ds → d ≡ get_or ds (i - 1) d → q ≡ capped (tail_then (atoms (docs_of (drop i ds))) after) → r ≡ capped (tail_then (atoms (doc_of d)) q) → r ≡ capped (tail_then (atoms (docs_of (drop (i - 1) ds))) after)
-tail_back ds i d after q r z l e hq hr =
-    let at = docs_of-drop ds (i - 1) d (omega arith) ∙ ap (λ x. doc_of x · docs_of (drop (i - 1 + 1) ds)) (sym e) in
-    let back : i - 1 + 1 ≡ i = omega arith in
-    let rest = docs_of (drop i ds) in
-    let split = at ∙ ap (λ k. doc_of d · docs_of (drop k ds)) back in
-    let q1 : capped q ≡ capped (tail_then (atoms rest) after) = omega (arith, hq) in
-    hr ∙ tail_then-capped (atoms (doc_of d)) q (tail_then (atoms rest) after) q1
-    ∙ ap capped (sym (tail_then-dot (doc_of d) rest after))
-    ∙ ap (λ x. capped (tail_then (atoms x) after)) (sym split)
-
--- one document of a sequence, with what it writes and where it ends
-module _ (w : ℕ) (d rest : Doc) (f : Bool) (i n t q m : ℕ) (h : w < 2 ^ 64) (hq : q ≡ capped (tail_then (atoms rest) t)) where
-  first_is : laid w d f i n q ≡ laid w d f i n (tail_then (atoms rest) t)
-  first_is = laid-capped w d f i n n q (tail_then (atoms rest) t) h refl (omega (arith, hq))
-
-  rest_is : m ≡ capped (column_after n (laid w d f i n q)) → laid w rest f i m t ≡ laid w rest f i (column_after n (laid w d f i n (tail_then (atoms rest) t))) t
-  rest_is hm = laid-capped w rest f i m (column_after n (laid w d f i n q)) t t h (omega (arith, hm)) refl ∙ ap (λ ps. laid w rest f i (column_after n ps) t) first_is
-
-  pub seq_bytes : (o p x : List ℕ) → m ≡ capped (column_after n (laid w d f i n q)) → p ≡ o ++ flat_map print (laid w d f i n q) → o ++ flat_map print (laid w (d · rest) f i n t) ≡ x → p ++ flat_map print (laid w rest f i m t) ≡ x
-  seq_bytes o p x hm hp hx =
-      let a = laid w d f i n (tail_then (atoms rest) t) in
-      let b = laid w rest f i (column_after n a) t in
-      ap (λ y. y ++ flat_map print (laid w rest f i m t)) (hp ∙ ap (λ ps. o ++ flat_map print ps) first_is)
-      ∙ ap (λ ps. (o ++ flat_map print a) ++ flat_map print ps) (rest_is hm)
-      ∙ append_assoc o (flat_map print a) (flat_map print b)
-      ∙ ap (λ y. o ++ y) (sym (flat_map-append print a b))
-      ∙ ap (λ ps. o ++ flat_map print ps) (sym (laid-dot w d rest f i n t))
-      ∙ hx
-
-  pub seq_column : (x : ℕ) → m ≡ capped (column_after n (laid w d f i n q)) → capped (column_after n (laid w (d · rest) f i n t)) ≡ x → capped (column_after m (laid w rest f i m t)) ≡ x
-  seq_column x hm hx =
-      let a = laid w d f i n (tail_then (atoms rest) t) in
-      let b = laid w rest f i (column_after n a) t in
-      let hm1 : m ≡ capped (column_after n a) = hm ∙ ap (λ ps. capped (column_after n ps)) first_is in
-      column_after-capped m (column_after n a) (laid w rest f i m t) (omega (arith, hm1))
-      ∙ ap (λ ps. capped (column_after (column_after n a) ps)) (rest_is hm)
-      ∙ ap capped (sym (column_after-append n a b))
-      ∙ ap (λ ps. capped (column_after n ps)) (sym (laid-dot w d rest f i n t))
-      ∙ hx
-
--- ---- where one document ends
-
-pub text_end : (w : ℕ) (d : Doc) (s : List ℕ) (f : Bool) (i n t m : ℕ) → d ≡ text s → m ≡ capped (n + columns s) → m ≡ capped (column_after n (laid w d f i n t))
-text_end w d s f i n t m e h = subst (λ x. m ≡ capped (column_after n (laid w x f i n t))) (sym e) h
-
-pub line_end : (w : ℕ) (d : Doc) (f : Bool) (i n t m : ℕ) → d ≡ line → f ≡ true → m ≡ capped (n + 1) → m ≡ capped (column_after n (laid w d f i n t))
-line_end w d f i n t m e b h =
-    subst (λ x. m ≡ capped (column_after n (laid w x f i n t))) (sym e)
-    (subst (λ y. m ≡ capped (column_after n (laid w line y i n t))) (sym b) h)
-
-pub line_or_nil_end : (w : ℕ) (d : Doc) (f : Bool) (i n t : ℕ) → d ≡ line_or_nil → f ≡ true → n < 2 ^ 128 → n ≡ capped (column_after n (laid w d f i n t))
-line_or_nil_end w d f i n t e b h =
-    subst (λ x. n ≡ capped (column_after n (laid w x f i n t))) (sym e)
-    (subst (λ y. n ≡ capped (column_after n (laid w line_or_nil y i n t))) (sym b) (omega arith))
-
--- what was there stays at the front
-pub keep_start : (a b c x : List ℕ) → take (length a) b ≡ a → c ≡ b ++ x → take (length a) c ≡ a
-keep_start a b c x h e =
-    let l : length a ≤ length b = omega (arith, length-take (length a) b, ap length h) in
-    ap (take (length a)) e ∙ take-append-le (length a) b x l ∙ h

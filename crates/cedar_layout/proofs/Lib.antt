@@ -1,7 +1,7 @@
 pub mod Rule
 pub mod Rows
 pub mod Values
-pub mod Steps
+pub mod Contents
 pub mod Laid
 pub mod Atoms
 pub mod Width

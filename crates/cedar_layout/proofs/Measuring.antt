@@ -1,17 +1,17 @@
 -- The laws of the measuring pass.
-use Rattle.std.proofs.Common.{◌≡◌, ℕ, ℤ, ◌+◌, ◌-◌, ◌<◌, ◌≤◌, ◌^◌, Bool, true, false, ◌||◌, List, [], ◌∷◌, ◌++◌, map, reverse, length, take, get_or, arith, subst, refl, sym, ap, ◌∙◌, append_assoc, append-nil}
+use Rattle.std.proofs.Common.{◌≡◌, ℕ, ℤ, ◌+◌, ◌<◌, ◌^◌, Bool, true, false, ◌||◌, List, [], ◌∷◌, ◌++◌, map, reverse, length, take, get_or, arith, subst, refl, sym, ap, ◌∙◌, append_assoc, append-nil}
 use Rattle.std.proofs.lemmas.List.{take_more, map-append, reverse-append}
 use Rattle.std.proofs.Math.Seq.{take-length}
 use Rattle.cedar_layout.specs.declared.layout.Document.{Document}
 use Rattle.cedar_layout.specs.declared.layout.measure.Note.{Note}
 use Rattle.cedar_layout.specs.declared.layout.measure.Measures.{Measures}
 use Rattle.cedar_layout.specs.declared.layout.measure.Pending.{Pending}
-use Rattle.cedar_layout.specs.Layout.{Doc, nil, text_then, line_then, line_or_nil_then, hard_then, nest_then, group_then, ◌·◌, text, line, line_or_nil, hard, nest, group, Atom, atoms, columns, flat_columns, has_hard}
+use Rattle.cedar_layout.specs.Layout.{Doc, nil, text_then, line_then, line_or_nil_then, hard_then, nest_then, group_then, ◌·◌, text, nest, group, Atom, atoms, columns, flat_columns, has_hard}
 use Rattle.cedar_layout.specs.Value.{doc_of, docs_of}
 use Rattle.cedar_layout.specs.Computed.{tail_then, capped}
 use Rattle.cedar_layout.specs.Measuring.{noted, all_notes, measured, note_of, before_group, Item, whole, start_of_group, item, items_of, notes_to_come}
 use Rattle.cedar_layout.proofs.Values.{atoms-dot, docs_of-push}
-use Rattle.cedar_layout.proofs.Steps.{has_hard-dot, flat_columns-append}
+use Rattle.cedar_layout.proofs.Contents.{has_hard-dot, flat_columns-append}
 use Rattle.cedar_layout.proofs.Laid.{tail_then-dot, tail_then-capped}
 
 -- ---- notes
@@ -88,9 +88,6 @@ or_assoc : (a b c : Bool) → ((a || b) || c) ≡ (a || (b || c))
 or_assoc true b c = refl
 or_assoc false b c = refl
 
-measured-nil : (m : Measures) → InRange m → measured nil m ≡ m
-measured-nil m h = same_measures _ _ _ _ _ _ refl (omega (arith, h.columns)) (omega (arith, h.tail))
-
 pub measured-dot : (a b : Doc) (m : Measures) → measured (a · b) m ≡ measured a (measured b m)
 measured-dot a b m =
     let hard_is = ap (λ x. x || m.has_hard) (has_hard-dot a b) ∙ or_assoc (has_hard (atoms a)) (has_hard (atoms b)) m.has_hard in
@@ -107,9 +104,6 @@ items_of-push ps p = ap reverse (map-append item ps (p ∷ [])) ∙ reverse-appe
 -- a document that holds no others
 pub leaf_step : (xs : List Item) (d : Doc) (known m : Measures) → all_notes d known.tail ≡ [] → measured d known ≡ m → notes_to_come xs m ≡ notes_to_come (whole d ∷ xs) known
 leaf_step xs d known m e h = ap (notes_to_come xs) (sym h) ∙ ap (λ y. y ++ notes_to_come xs (measured d known)) (sym e)
-
-pub nil_step : (xs : List Item) (d : Doc) (m : Measures) → InRange m → d ≡ nil → notes_to_come xs m ≡ notes_to_come (whole d ∷ xs) m
-nil_step xs d m h e = subst (λ x. notes_to_come xs m ≡ notes_to_come (whole x ∷ xs) m) (sym e) (leaf_step xs nil m m refl (measured-nil m h))
 
 pub text_step : (xs : List Item) (d : Doc) (s : List ℕ) (known m : Measures) → d ≡ text s → known.has_hard ≡ m.has_hard → m.columns ≡ capped (known.columns + columns s) → m.tail ≡ capped (known.tail + columns s) → notes_to_come xs m ≡ notes_to_come (whole d ∷ xs) known
 text_step xs d s known m e h c t =

@@ -1,5 +1,5 @@
 -- Each document that is let go leaves less work.
-use Rattle.std.proofs.Common.{◌≡◌, ◌≢◌, ℕ, ℤ, ◌+◌, ◌-◌, ◌*◌, ◌≤◌, ◌<◌, ◌⊎◌, ⊎_elim, List, [], ◌∷◌, ◌++◌, map, sum, refl, sym, ap, ◌∙◌, subst, arith}
+use Rattle.std.proofs.Common.{◌≡◌, ◌≢◌, ℕ, ℤ, ◌+◌, ◌≤◌, ◌<◌, ◌⊎◌, ⊎_elim, List, [], ◌∷◌, ◌++◌, map, sum, refl, sym, ap, ◌∙◌, subst, arith}
 use Rattle.std.proofs.lemmas.List.Sums.{sum_by-cons}
 use Rattle.std.specs.declared.alloc.Global.{Global}
 use Rattle.std.specs.declared.vec.Vec.{Vec}
@@ -10,11 +10,11 @@ use Rattle.cedar_layout.specs.declared.layout.Document.TheOpen.{Document-F, Nil,
 use Rattle.cedar_layout.specs.declared.layout.Document.TheViews.{out-Document, roll-Document}
 use Rattle.cedar_layout.specs.declared.layout.Document.TheVariants.{Nil as Nil', Text as Text', Line as Line', LineOrNil as LineOrNil', Hard as Hard'}
 use Rattle.std.specs.Borrow.{Bor}
-use Rattle.cedar_layout.specs.declared.layout.Document.TheFolds.{fold-roll-Document, fold_out-Document, ind-Document, map-Document}
+use Rattle.cedar_layout.specs.declared.layout.Document.TheFolds.{fold-roll-Document, ind-Document, map-Document}
 use Rattle.cedar_layout.specs.Nodes.{nodes, nodes_step}
 use Rattle.cedar_layout.specs.Measuring.{nodes_of_all}
 use Rattle.cedar_layout.specs.Releasing.{first_of, nested, nested_step, nested_first, work}
-use Rattle.cedar_layout.proofs.Counts.{nodes_of_all-push, nodes_seq, nodes_nest, nodes_group}
+use Rattle.cedar_layout.proofs.Counts.{nodes_of_all-push, nodes_seq}
 
 abbrev IsWithin : Document → Type 0
 IsWithin d = nested d ≤ nodes d

@@ -1,9 +1,9 @@
 -- The worked rows, computed.
-use Rattle.std.proofs.Common.{◌≡◌, ℕ, ◌+◌, true, false, List, [], ◌∷◌, ◌++◌, negsuc, pos, refl, subst}
+use Rattle.std.proofs.Common.{◌≡◌, ℕ, false, List, [], ◌∷◌, ◌++◌, negsuc, pos, refl, subst}
 use Rattle.std.specs.Prelude.{codes}
 use Rattle.std.specs.List.{flat_map}
 use Rattle.unicode_width.proofs.Computing.{unicode_width}
-use Rattle.cedar_layout.specs.Layout.{Doc, nil, ◌·◌, text, line, line_or_nil, hard, nest, group, columns, print, IsLayoutAt}
+use Rattle.cedar_layout.specs.Layout.{Doc, ◌·◌, text, line, hard, nest, group, columns, print, IsLayoutAt}
 use Rattle.cedar_layout.specs.Computed.{laid}
 use Rattle.cedar_layout.proofs.Rule.{laid_is_layout}
 

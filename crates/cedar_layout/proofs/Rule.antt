@@ -1,9 +1,8 @@
 -- There is exactly one layout at a width, and it is the computed one.
-use Rattle.std.proofs.Common.{◌≡◌, ℕ, ◌+◌, ◌≤◌, Bool, true, false, not, ◌&&◌, ◌||◌, nat_le, IsTrue, IsFalse, ◌↔◌, ◌⊎◌, inl, inr, ⊎_elim, cond, List, [], ◌∷◌, ◌++◌, refl, sym, ap, subst, ◌∙◌, arith, append_assoc, rules}
+use Rattle.std.proofs.Common.{◌≡◌, ℕ, ◌+◌, ◌≤◌, Bool, true, false, not, ◌&&◌, ◌||◌, nat_le, IsTrue, IsFalse, ◌↔◌, ◌⊎◌, inl, inr, ⊎_elim, cond, List, [], ◌∷◌, ◌++◌, refl, sym, ap, subst, ◌∙◌}
 use Rattle.std.specs.List.{AllByRecursion, flat_map}
 use Rattle.std.proofs.lemmas.Bool.{false≢true, leb-true, le-leb}
-use Rattle.std.proofs.lemmas.Bool.Decides.{nat_tests}
-use Rattle.cedar_layout.specs.Layout.{Doc, nil, text_then, line_then, line_or_nil_then, hard_then, nest_then, group_then, Atom, word, space_or_break, nothing_or_break, must_break, atoms, columns, flat_columns, has_hard, Choice, Piece, written, space, nothing, broken, print, indented, pieces, text_of_choice, column_after, Place, places, tail, columns_of_all, Fits, FollowsRule, IsLayoutAt, IsTheLayoutAt}
+use Rattle.cedar_layout.specs.Layout.{Doc, nil, text_then, line_then, line_or_nil_then, hard_then, nest_then, group_then, Atom, word, space_or_break, nothing_or_break, must_break, atoms, columns, flat_columns, has_hard, Choice, Piece, written, space, nothing, broken, print, indented, pieces, column_after, Place, places, tail, columns_of_all, Fits, FollowsRule, IsLayoutAt, IsTheLayoutAt}
 use Rattle.cedar_layout.specs.Computed.{tail_then, fits, laid}
 
 -- ---- tails
@@ -105,10 +104,6 @@ laid_is_layout w d =
 
 pub layout_is_laid : (w : ℕ) (d : Doc) (t : List ℕ) → IsLayoutAt w d t → t ≡ flat_map print (laid w d false 0 0 0)
 layout_is_laid w d t h = h.2 ∙ ap (flat_map print) (pieces_are_laid w d h.0 false 0 0 [] h.1)
-
--- there is exactly one layout at a width
-pub one_layout : (w : ℕ) (d : Doc) (t u : List ℕ) → IsLayoutAt w d t → IsLayoutAt w d u → t ≡ u
-one_layout w d t u h k = layout_is_laid w d t h ∙ sym (layout_is_laid w d u k)
 
 pub laid_is_the_layout : (w : ℕ) (d : Doc) → IsTheLayoutAt w d (flat_map print (laid w d false 0 0 0))
 laid_is_the_layout w d = (laid_is_layout w d, λ u h. layout_is_laid w d u h)

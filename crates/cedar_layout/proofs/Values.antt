@@ -3,7 +3,7 @@ use Rattle.std.proofs.Common.{◌≡◌, ◌≢◌, ℕ, ℤ, Bool, true, false,
 use Rattle.cedar_layout.specs.declared.layout.Document.{Document}
 use Rattle.cedar_layout.specs.declared.layout.Document.TheOpen.{Document-F, Nil, Text, Line, LineOrNil, Hard, Seq, Nest, Group}
 use Rattle.cedar_layout.specs.declared.layout.Document.TheViews.{out-Document, roll-Document}
-use Rattle.cedar_layout.specs.declared.layout.Document.TheFolds.{fold-roll-Document, fold_out-Document, map-Document}
+use Rattle.cedar_layout.specs.declared.layout.Document.TheFolds.{fold-roll-Document, map-Document}
 use Rattle.cedar_layout.specs.declared.layout.Document.TheViews as made
 use Rattle.std.specs.declared.alloc.Global.{Global}
 use Rattle.std.proofs.lemmas.List.{map-append}
@@ -13,7 +13,7 @@ use Rattle.std.specs.declared.boxed.Box.{Box}
 use Rattle.std.specs.Borrow.{Bor}
 use Rattle.cedar_layout.specs.declared.layout.Document.TheVariants.{Nil as Nil', Text as Text', Line as Line', LineOrNil as LineOrNil', Hard as Hard'}
 use Rattle.cedar_layout.specs.Layout.{Doc, nil, text_then, line_then, line_or_nil_then, hard_then, nest_then, group_then, ◌·◌, atoms, word, space_or_break, nothing_or_break, must_break, text, line, line_or_nil, hard, nest, group}
-use Rattle.cedar_layout.specs.Value.{joined, interspersed, doc_of, doc_step, docs_of, doc_layer}
+use Rattle.cedar_layout.specs.Value.{interspersed, doc_of, doc_step, docs_of, doc_layer}
 
 -- ---- documents one after the other
 
@@ -58,9 +58,6 @@ step_is_layer (Group b) = refl
 
 pub doc_of_roll : (x : Document-F Document) → doc_of (roll-Document x) ≡ doc_layer x
 doc_of_roll x = fold-roll-Document Doc doc_step x ∙ step_is_layer x
-
-pub doc_of_out : (d : Document) → doc_of d ≡ doc_layer (out-Document d)
-doc_of_out d = fold_out-Document Doc doc_step d ∙ step_is_layer (out-Document d)
 
 pub doc_of_seq : (v : Vec Document Global) → doc_of (made.Seq v) ≡ docs_of v.items
 doc_of_seq v = ap doc_of (sym (made.rolls-Seq v)) ∙ doc_of_roll (Seq v)

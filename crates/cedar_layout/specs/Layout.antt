@@ -5,8 +5,8 @@ use Rattle.unicode_width.specs.Width.{str_width}
 
 -- ---- documents
 
--- A document is a list of things to lay out, each before the rest. Texts that are nested or grouped are documents of their own, so that two
--- documents are equal exactly if they differ only in `Nil` and in how sequences are nested.
+-- A document is a list of things to lay out, each before the rest. What is nested or grouped is a document of its own.
+-- So two documents are equal exactly if they differ only in `Nil` and in how sequences are nested.
 pub data Doc : Type 0 where
   nil : Doc
   text_then : List ℕ → Doc → Doc

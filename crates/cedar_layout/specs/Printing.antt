@@ -1,5 +1,5 @@
 -- The printing pass, over a stack of documents. It stands in no public contract.
-use Rattle.std.specs.Prelude.{◌≡◌, ℕ, ◌+◌, Bool, List, [], ◌∷◌, ◌++◌, map, sum_by}
+use Rattle.std.specs.Prelude.{◌≡◌, ℕ, Bool, List, [], ◌∷◌, ◌++◌, map, sum_by}
 use Rattle.cedar_layout.specs.declared.layout.measure.Note.{Note}
 use Rattle.cedar_layout.specs.declared.layout.print.Pending.{Pending}
 use Rattle.cedar_layout.specs.Layout.{Doc, atoms, Piece, column_after}

@@ -1,8 +1,8 @@
-use Rattle.std.proofs.Common.{◌≡◌, ◌+◌, ◌++◌, ◌∷◌, [], drop, rules, sym, ap, ◌∙◌}
+use Rattle.std.proofs.Common.{◌+◌, drop, sym, ap, ◌∙◌}
 use Rattle.cedar_layout.specs.Layout.{◌·◌}
 use Rattle.cedar_layout.specs.Value.{doc_of, docs_of}
 use Rattle.cedar_layout.proofs.Values.{copy_step, doc_of_seq, dot-nil}
-use Rattle.cedar_layout.proofs.Steps.{docs_of-drop, docs_of-drop_all}
+use Rattle.cedar_layout.proofs.Contents.{docs_of-drop, docs_of-drop_all}
 use Rattle.cedar_layout.proofs.layout.+copy.Goals as goal
 
 pub loop-d-preserved : goal.loop-d-preserved

@@ -1,4 +1,4 @@
-use Rattle.std.proofs.Common.{◌≡◌, ◌++◌, ◌∷◌, [], length, vec_len, refl, sym, ap, ◌∙◌, rules}
+use Rattle.std.proofs.Common.{◌≡◌, ◌++◌, ◌∷◌, [], length, vec_len, refl, ap, ◌∙◌, rules}
 use Rattle.cedar_layout.specs.Value.{doc_of}
 use Rattle.cedar_layout.proofs.Values.{interspersed_first, interspersed_more, not_empty, is_nil, push_not_nil}
 use Rattle.cedar_layout.proofs.layout.intersperse.Goals as goal

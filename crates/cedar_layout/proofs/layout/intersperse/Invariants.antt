@@ -1,5 +1,4 @@
-use Rattle.std.proofs.Common.{◌≡◌, ◌↔◌, List, [], map}
-use Rattle.cedar_layout.specs.declared.layout.Document.{Document}
+use Rattle.std.proofs.Common.{◌≡◌, ◌↔◌, [], map}
 use Rattle.cedar_layout.specs.Value.{doc_of, docs_of, interspersed}
 use Rattle.cedar_layout.proofs.layout.intersperse.Given as goal
 

@@ -1,5 +1,4 @@
-use Rattle.std.proofs.Common.{◌≡◌, List, [], ◌∷◌, ◌++◌, ap, ◌∙◌, rules}
-use Rattle.cedar_layout.specs.declared.layout.Document.{Document}
+use Rattle.std.proofs.Common.{◌≡◌, [], ◌∷◌, ap, ◌∙◌, rules}
 use Rattle.cedar_layout.specs.Layout.{◌·◌}
 use Rattle.cedar_layout.specs.Value.{doc_of, docs_of}
 use Rattle.cedar_layout.proofs.Values.{dot-nil, doc_of_seq}

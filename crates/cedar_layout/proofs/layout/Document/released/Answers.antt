@@ -1,4 +1,4 @@
-use Rattle.std.proofs.Common.{◌≡◌, ◌+◌, ap, ◌∙◌, sym}
+use Rattle.std.proofs.Common.{◌+◌, ap, ◌∙◌, sym}
 use Rattle.cedar_layout.specs.Nodes.{nodes}
 use Rattle.cedar_layout.specs.Releasing.{nested}
 use Rattle.cedar_layout.proofs.Counts.{nodes_pos, nodes_nest, nodes_group}

@@ -1,4 +1,4 @@
-use Rattle.std.proofs.Common.{◌≡◌, ◌+◌, ◌*◌, ◌≤◌, take}
+use Rattle.std.proofs.Common.{◌≡◌, ◌+◌, ◌*◌, take}
 use Rattle.cedar_layout.specs.Value.{docs_of}
 use Rattle.cedar_layout.specs.Measuring.{items_of, nodes_of_all, nodes_to_take, turns}
 use Rattle.cedar_layout.proofs.Measuring.{IsPushed}

@@ -1,4 +1,4 @@
-use Rattle.std.proofs.Common.{◌≡◌, [], length, vec_len, ap, ◌∙◌, sym, append-nil, rules}
+use Rattle.std.proofs.Common.{◌≡◌, [], length, vec_len, rules}
 use Rattle.cedar_layout.proofs.Values.{not_empty, is_nil}
 use Rattle.cedar_layout.proofs.Releasing.{first_joined, none_joined, all_joined}
 use Rattle.cedar_layout.proofs.layout.release.joined.Goals as goal
