@@ -1,0 +1,104 @@
+use Rattle.std.proofs.Common.{◌+◌, ◌*◌, ◌<◌, ◌≤◌, length}
+use Rattle.cedar_cst.proofs.cst.expressions.+parser.Given as goal
+
+abbrev pub decreases-parse_call : goal.decreases-parse_call
+decreases-parse_call l = 16 * l.depth + 0
+
+abbrev pub decreases-parse_access : goal.decreases-parse_access
+decreases-parse_access l = 16 * l.depth + 1
+
+abbrev pub decreases-parse_reference : goal.decreases-parse_reference
+decreases-parse_reference l = 16 * l.depth + 1
+
+abbrev pub decreases-parse_item : goal.decreases-parse_item
+decreases-parse_item l = 16 * l.depth + 2
+
+abbrev pub decreases-parse_member : goal.decreases-parse_member
+decreases-parse_member l = 16 * l.depth + 3
+
+abbrev pub decreases-parse_unary : goal.decreases-parse_unary
+decreases-parse_unary l = 16 * l.depth + 4
+
+abbrev pub decreases-parse_mult : goal.decreases-parse_mult
+decreases-parse_mult l = 16 * l.depth + 5
+
+abbrev pub decreases-parse_add : goal.decreases-parse_add
+decreases-parse_add l = 16 * l.depth + 6
+
+abbrev pub decreases-parse_type_test : goal.decreases-parse_type_test
+decreases-parse_type_test l = 16 * l.depth + 7
+
+abbrev pub decreases-parse_compared : goal.decreases-parse_compared
+decreases-parse_compared l = 16 * l.depth + 7
+
+abbrev pub decreases-parse_relation : goal.decreases-parse_relation
+decreases-parse_relation l = 16 * l.depth + 8
+
+abbrev pub decreases-parse_and : goal.decreases-parse_and
+decreases-parse_and l = 16 * l.depth + 9
+
+abbrev pub decreases-parse_or : goal.decreases-parse_or
+decreases-parse_or l = 16 * l.depth + 10
+
+abbrev pub decreases-parse_expr : goal.decreases-parse_expr
+decreases-parse_expr l = 16 * l.depth + 11
+
+abbrev pub decreases-parse_branch : goal.decreases-parse_branch
+decreases-parse_branch l = 16 * l.depth + 12
+
+abbrev pub decreases-parse_if : goal.decreases-parse_if
+decreases-parse_if l = 16 * l.depth + 13
+
+abbrev pub decreases-parse_init : goal.decreases-parse_init
+decreases-parse_init l = 16 * l.depth + 12
+
+abbrev pub decreases-parse_inits : goal.decreases-parse_inits
+decreases-parse_inits l = 16 * l.depth + 13
+
+abbrev pub decreases-parse_exprs : goal.decreases-parse_exprs
+decreases-parse_exprs l = 16 * l.depth + 12
+
+abbrev pub decreases-parse_bracket : goal.decreases-parse_bracket
+decreases-parse_bracket l = 16 * l.depth + 14
+
+abbrev pub invariant-parse_or-operands : goal.invariant-parse_or-operands
+invariant-parse_or-operands l = length l.rest < length l.fn.tokens
+
+abbrev pub decreases-parse_or-operands : goal.decreases-parse_or-operands
+decreases-parse_or-operands l = length l.rest
+
+abbrev pub invariant-parse_and-operands : goal.invariant-parse_and-operands
+invariant-parse_and-operands l = length l.rest < length l.fn.tokens
+
+abbrev pub decreases-parse_and-operands : goal.decreases-parse_and-operands
+decreases-parse_and-operands l = length l.rest
+
+abbrev pub invariant-parse_add-operands : goal.invariant-parse_add-operands
+invariant-parse_add-operands l = length l.rest < length l.fn.tokens
+
+abbrev pub decreases-parse_add-operands : goal.decreases-parse_add-operands
+decreases-parse_add-operands l = length l.rest
+
+abbrev pub invariant-parse_mult-operands : goal.invariant-parse_mult-operands
+invariant-parse_mult-operands l = length l.rest < length l.fn.tokens
+
+abbrev pub decreases-parse_mult-operands : goal.decreases-parse_mult-operands
+decreases-parse_mult-operands l = length l.rest
+
+abbrev pub invariant-parse_member-accesses : goal.invariant-parse_member-accesses
+invariant-parse_member-accesses l = length l.rest < length l.fn.tokens
+
+abbrev pub decreases-parse_member-accesses : goal.decreases-parse_member-accesses
+decreases-parse_member-accesses l = length l.rest
+
+abbrev pub invariant-parse_exprs-items : goal.invariant-parse_exprs-items
+invariant-parse_exprs-items l = length l.rest ≤ length l.fn.tokens
+
+abbrev pub decreases-parse_exprs-items : goal.decreases-parse_exprs-items
+decreases-parse_exprs-items l = length l.rest
+
+abbrev pub invariant-parse_inits-inits : goal.invariant-parse_inits-inits
+invariant-parse_inits-inits l = length l.rest ≤ length l.fn.tokens
+
+abbrev pub decreases-parse_inits-inits : goal.decreases-parse_inits-inits
+decreases-parse_inits-inits l = length l.rest

@@ -1,0 +1,54 @@
+//! Trees of policies, and the parser.
+ghost use Rattle.std.specs.Prelude.{MatchResult};
+ghost use Rattle.cedar_cst.specs.Numbers.{HasFittingNumbers};
+ghost use Rattle.cedar_cst.specs.Refusals.{RefusesInOrder};
+
+mod compare;
+mod error;
+mod expressions;
+pub mod laws;
+mod lexeme;
+mod nodes;
+mod reading;
+mod scopes;
+mod tree;
+mod words;
+
+use crate::cst::lexeme::{Lexeme, read_lexemes};
+use crate::cst::reading::Refusal;
+use crate::cst::scopes::parse_set;
+pub use compare::same_tree;
+pub use error::FormatError;
+use std::alloc::Global;
+pub use tree::{
+    Add, AddOp, And, Annotation, Cond, Expr, Ident, Literal, MemAccess, Member, Mult, MultOp, Name,
+    NegOp, Node, Or, Policies, Policy, Primary, RecInit, Ref, RelOp, Relation, Slot, Str, Unary,
+    VariableDef,
+};
+
+/// The policies of a text. Refuses what does not split into blanks, comments and tokens, at the first place where none begins; then
+/// the first number above 18446744073709551615; then what is not in the grammar, at the first token such that no policies begin
+/// with the tokens through it, or at the text's length where a token is missing.
+pub fn parse_policies<'src>(alloc: Global, text: &'src str) -> Result<Policies<'src>, FormatError>
+    ensures { MatchResult result (λ _. HasFittingNumbers text.now) (RefusesInOrder text.now) }
+{
+    let lexemes = read_lexemes(alloc, text)?;
+    match parse_set(alloc, &lexemes) {
+        Ok(policies) => Ok(policies),
+        Err(Refusal::Grammar { left }) => Err(FormatError::Grammar {
+            at: place(text, &lexemes, left),
+        }),
+        Err(Refusal::TooDeep { left }) => Err(FormatError::TooDeep {
+            at: place(text, &lexemes, left),
+        }),
+        Err(Refusal::OutOfMemory) => Err(FormatError::OutOfMemory),
+    }
+}
+
+// Where the token starts from which on so many are left; the text's length where none is left.
+fn place(text: &str, lexemes: &[Lexeme], left: usize) -> usize {
+    match lexemes.get(lexemes.len().saturating_sub(left)) {
+        Some(lexeme) => lexeme.span.start,
+        None => text.len(),
+    }
+}

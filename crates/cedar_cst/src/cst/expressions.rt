@@ -1,0 +1,392 @@
+//! Expressions. Recursion goes down the nesting alone; `depth` says how many brackets and `if`s may still be nested.
+ghost use Rattle.std.specs.Prelude.{◌<◌, ◌≤◌, length, IfOk};
+
+use crate::cst::lexeme::{Kind, Lexeme};
+use crate::cst::nodes::{
+    add_node, and_node, call_node, called_primary, compared_node, has_node, if_node, init_node,
+    is_node, like_node, list_node, lone_primary, lone_relation, member_node, mult_node, or_expr,
+    or_node, parens_node, record_node, unary_node, with_sign, with_type,
+};
+use crate::cst::reading::{
+    Parsed, begins, boxed, closed_by, expect, keep, past, refuse, skip, start_of, too_deep,
+};
+use crate::cst::tree::{
+    Add, And, Expr, MemAccess, Member, Mult, MultOp, Name, Node, Or, Primary, RecInit, RelOp,
+    Relation, Unary,
+};
+use crate::cst::words::{
+    begins_access, begins_bracket, begins_comparison, begins_expression, begins_identifier,
+    begins_key, begins_variable, is_lone_word, is_name, parse_comparison_sign,
+    parse_entity_or_name, parse_field, parse_has_field, parse_index, parse_key, parse_literal,
+    parse_path, parse_pattern, past_sum_sign, read_signs,
+};
+use std::alloc::Global;
+
+/// An expression.
+#[cycle(parser)]
+pub fn parse_expr<'t, 'src>(
+    alloc: Global,
+    tokens: &'t [Lexeme<'src>],
+    depth: usize,
+) -> Parsed<'t, 'src, Node<Expr<'src>>>
+    ensures { IfOk result (λ x. length x.1.now < length tokens.now) }
+{
+    if begins(tokens, Kind::If) {
+        if depth == 0 {
+            return Err(too_deep(tokens));
+        }
+        return parse_if(alloc, tokens, depth - 1);
+    }
+    or_expr(alloc, parse_or(alloc, tokens, depth))
+}
+
+// `if`, `then` and `else`.
+#[cycle(parser)]
+fn parse_if<'t, 'src>(
+    alloc: Global,
+    tokens: &'t [Lexeme<'src>],
+    depth: usize,
+) -> Parsed<'t, 'src, Node<Expr<'src>>>
+    ensures { IfOk result (λ x. length x.1.now < length tokens.now) }
+{
+    let (test, rest) = parse_branch(alloc, tokens, Kind::If, depth)?;
+    let (yes, rest) = parse_branch(alloc, rest, Kind::Then, depth)?;
+    let (no, rest) = parse_branch(alloc, rest, Kind::Else, depth)?;
+    Ok((if_node(start_of(tokens), test, yes, no), rest))
+}
+
+// A keyword, and the expression after it.
+#[cycle(parser)]
+fn parse_branch<'t, 'src>(
+    alloc: Global,
+    tokens: &'t [Lexeme<'src>],
+    keyword: Kind,
+    depth: usize,
+) -> Parsed<'t, 'src, Box<Node<Expr<'src>>>>
+    ensures { IfOk result (λ x. length x.1.now < length tokens.now) }
+{
+    match past(tokens, keyword) {
+        Some(after) => boxed(alloc, parse_expr(alloc, after, depth)),
+        None => Err(refuse(tokens)),
+    }
+}
+
+// Operands of `||`.
+#[cycle(parser)]
+fn parse_or<'t, 'src>(
+    alloc: Global,
+    tokens: &'t [Lexeme<'src>],
+    depth: usize,
+) -> Parsed<'t, 'src, Node<Or<'src>>>
+    ensures { IfOk result (λ x. length x.1.now < length tokens.now) }
+{
+    let (initial, mut rest) = parse_and(alloc, tokens, depth)?;
+    let mut extended = Vec::new(alloc);
+    'operands: while let Some(after) = past(rest, Kind::Or) {
+        keep(parse_and(alloc, after, depth), &mut extended, &mut rest)?;
+    }
+    Ok((or_node(initial, extended), rest))
+}
+
+// Operands of `&&`.
+#[cycle(parser)]
+fn parse_and<'t, 'src>(
+    alloc: Global,
+    tokens: &'t [Lexeme<'src>],
+    depth: usize,
+) -> Parsed<'t, 'src, Node<And<'src>>>
+    ensures { IfOk result (λ x. length x.1.now < length tokens.now) }
+{
+    let (initial, mut rest) = parse_relation(alloc, tokens, depth)?;
+    let mut extended = Vec::new(alloc);
+    'operands: while let Some(after) = past(rest, Kind::And) {
+        keep(
+            parse_relation(alloc, after, depth),
+            &mut extended,
+            &mut rest,
+        )?;
+    }
+    Ok((and_node(initial, extended), rest))
+}
+
+// One operand; or two with a comparison, `has`, `like` or `is` between them.
+#[cycle(parser)]
+fn parse_relation<'t, 'src>(
+    alloc: Global,
+    tokens: &'t [Lexeme<'src>],
+    depth: usize,
+) -> Parsed<'t, 'src, Node<Relation<'src>>>
+    ensures { IfOk result (λ x. length x.1.now < length tokens.now) }
+{
+    let (target, rest) = parse_add(alloc, tokens, depth)?;
+    if begins_comparison(rest) {
+        return compared_node(target, parse_compared(alloc, rest, depth));
+    }
+    if begins(rest, Kind::Has) {
+        return has_node(target, parse_has_field(alloc, rest));
+    }
+    if begins(rest, Kind::Like) {
+        return like_node(target, parse_pattern(alloc, rest));
+    }
+    if begins(rest, Kind::Is) {
+        return is_node(target, parse_type_test(alloc, rest, depth));
+    }
+    Ok((lone_relation(target), rest))
+}
+
+// A comparison's sign, and its second operand.
+#[cycle(parser)]
+fn parse_compared<'t, 'src>(
+    alloc: Global,
+    tokens: &'t [Lexeme<'src>],
+    depth: usize,
+) -> Parsed<'t, 'src, (RelOp, Node<Add<'src>>)>
+    ensures { IfOk result (λ x. length x.1.now < length tokens.now) }
+{
+    let (op, rest) = parse_comparison_sign(tokens)?;
+    with_sign(op, parse_add(alloc, rest, depth))
+}
+
+// `is`, a type, and perhaps `in` and an operand.
+#[cycle(parser)]
+fn parse_type_test<'t, 'src>(
+    alloc: Global,
+    tokens: &'t [Lexeme<'src>],
+    depth: usize,
+) -> Parsed<'t, 'src, (Node<Name<'src>>, Option<Node<Add<'src>>>)>
+    ensures { IfOk result (λ x. length x.1.now < length tokens.now) }
+{
+    let (_, rest) = expect(tokens, Kind::Is)?;
+    let (entity_type, rest) = parse_path(alloc, rest)?;
+    match past(rest, Kind::In) {
+        Some(after) => with_type(entity_type, parse_add(alloc, after, depth)),
+        None => Ok(((entity_type, None), rest)),
+    }
+}
+
+// Operands of `+` and `-`.
+#[cycle(parser)]
+fn parse_add<'t, 'src>(
+    alloc: Global,
+    tokens: &'t [Lexeme<'src>],
+    depth: usize,
+) -> Parsed<'t, 'src, Node<Add<'src>>>
+    ensures { IfOk result (λ x. length x.1.now < length tokens.now) }
+{
+    let (initial, mut rest) = parse_mult(alloc, tokens, depth)?;
+    let mut extended = Vec::new(alloc);
+    'operands: while let Some((op, after)) = past_sum_sign(rest) {
+        keep(
+            with_sign(op, parse_mult(alloc, after, depth)),
+            &mut extended,
+            &mut rest,
+        )?;
+    }
+    Ok((add_node(initial, extended), rest))
+}
+
+// Operands of `*`.
+#[cycle(parser)]
+fn parse_mult<'t, 'src>(
+    alloc: Global,
+    tokens: &'t [Lexeme<'src>],
+    depth: usize,
+) -> Parsed<'t, 'src, Node<Mult<'src>>>
+    ensures { IfOk result (λ x. length x.1.now < length tokens.now) }
+{
+    let (initial, mut rest) = parse_unary(alloc, tokens, depth)?;
+    let mut extended = Vec::new(alloc);
+    'operands: while let Some(after) = past(rest, Kind::Mul) {
+        let read = with_sign(MultOp::Times, parse_unary(alloc, after, depth));
+        keep(read, &mut extended, &mut rest)?;
+    }
+    Ok((mult_node(initial, extended), rest))
+}
+
+// A member behind at most four `!` or at most four `-`.
+#[cycle(parser)]
+fn parse_unary<'t, 'src>(
+    alloc: Global,
+    tokens: &'t [Lexeme<'src>],
+    depth: usize,
+) -> Parsed<'t, 'src, Node<Unary<'src>>>
+    ensures { IfOk result (λ x. length x.1.now < length tokens.now) }
+{
+    let (op, signs) = read_signs(tokens);
+    unary_node(
+        start_of(tokens),
+        op,
+        parse_member(alloc, &tokens[signs..], depth),
+    )
+}
+
+// A primary and what is accessed in it.
+#[cycle(parser)]
+fn parse_member<'t, 'src>(
+    alloc: Global,
+    tokens: &'t [Lexeme<'src>],
+    depth: usize,
+) -> Parsed<'t, 'src, Node<Member<'src>>>
+    ensures { IfOk result (λ x. length x.1.now < length tokens.now) }
+{
+    let ((item, mut access), mut rest) = parse_item(alloc, tokens, depth)?;
+    let mut callable = false;
+    'accesses: while begins_access(rest, callable) {
+        callable = begins(rest, Kind::Dot);
+        keep(parse_access(alloc, rest, depth), &mut access, &mut rest)?;
+    }
+    Ok((member_node(item, access), rest))
+}
+
+// A field, an index or a call.
+#[cycle(parser)]
+fn parse_access<'t, 'src>(
+    alloc: Global,
+    tokens: &'t [Lexeme<'src>],
+    depth: usize,
+) -> Parsed<'t, 'src, Node<MemAccess<'src>>>
+    ensures { IfOk result (λ x. length x.1.now < length tokens.now) }
+{
+    if begins(tokens, Kind::Dot) {
+        return parse_field(tokens);
+    }
+    if begins(tokens, Kind::LBracket) {
+        return parse_index(tokens);
+    }
+    parse_call(alloc, tokens, depth)
+}
+
+// A primary; and where it is a path that is called, the call.
+#[cycle(parser)]
+fn parse_item<'t, 'src>(
+    alloc: Global,
+    tokens: &'t [Lexeme<'src>],
+    depth: usize,
+) -> Parsed<'t, 'src, (Node<Primary<'src>>, Vec<Node<MemAccess<'src>>>)>
+    ensures { IfOk result (λ x. length x.1.now < length tokens.now) }
+{
+    if begins_identifier(tokens) {
+        return parse_reference(alloc, tokens, depth);
+    }
+    if !begins_bracket(tokens) {
+        return lone_primary(alloc, parse_literal(tokens));
+    }
+    if depth == 0 {
+        return Err(too_deep(tokens));
+    }
+    lone_primary(alloc, parse_bracket(alloc, tokens, depth - 1))
+}
+
+// A variable, an entity, or a path and its call. A path alone that is no variable is refused at the token after it.
+#[cycle(parser)]
+fn parse_reference<'t, 'src>(
+    alloc: Global,
+    tokens: &'t [Lexeme<'src>],
+    depth: usize,
+) -> Parsed<'t, 'src, (Node<Primary<'src>>, Vec<Node<MemAccess<'src>>>)>
+    ensures { IfOk result (λ x. length x.1.now < length tokens.now) }
+{
+    let (primary, rest) = parse_entity_or_name(alloc, tokens)?;
+    if is_name(&primary.inner) {
+        if begins(rest, Kind::LParen) {
+            return called_primary(alloc, primary, parse_call(alloc, rest, depth));
+        }
+        if !(begins_variable(tokens) && is_lone_word(&primary.inner)) {
+            return Err(refuse(rest));
+        }
+    }
+    Ok(((primary, Vec::new(alloc)), rest))
+}
+
+// The arguments of a call, in brackets.
+#[cycle(parser)]
+fn parse_call<'t, 'src>(
+    alloc: Global,
+    tokens: &'t [Lexeme<'src>],
+    depth: usize,
+) -> Parsed<'t, 'src, Node<MemAccess<'src>>>
+    ensures { IfOk result (λ x. length x.1.now < length tokens.now) }
+{
+    if depth == 0 {
+        return Err(too_deep(tokens));
+    }
+    let (open, rest) = expect(tokens, Kind::LParen)?;
+    let read = parse_exprs(alloc, rest, depth - 1);
+    call_node(open.span.start, closed_by(read, Kind::RParen))
+}
+
+// Expressions with commas between them, and perhaps one behind the last; or none.
+#[cycle(parser)]
+fn parse_exprs<'t, 'src>(
+    alloc: Global,
+    tokens: &'t [Lexeme<'src>],
+    depth: usize,
+) -> Parsed<'t, 'src, Vec<Node<Expr<'src>>>>
+    ensures { IfOk result (λ x. length x.1.now ≤ length tokens.now) }
+{
+    let mut items = Vec::new(alloc);
+    let mut rest = tokens;
+    'items: while begins_expression(rest) {
+        keep(parse_expr(alloc, rest, depth), &mut items, &mut rest)?;
+        if !skip(&mut rest, Kind::Comma) {
+            break;
+        }
+    }
+    Ok((items, rest))
+}
+
+// A parenthesis, a list or a record.
+#[cycle(parser)]
+fn parse_bracket<'t, 'src>(
+    alloc: Global,
+    tokens: &'t [Lexeme<'src>],
+    depth: usize,
+) -> Parsed<'t, 'src, Node<Primary<'src>>>
+    ensures { IfOk result (λ x. length x.1.now < length tokens.now) }
+{
+    let start = start_of(tokens);
+    if let Some(after) = past(tokens, Kind::LParen) {
+        let read = boxed(alloc, parse_expr(alloc, after, depth));
+        return parens_node(start, closed_by(read, Kind::RParen));
+    }
+    if let Some(after) = past(tokens, Kind::LBracket) {
+        let read = parse_exprs(alloc, after, depth);
+        return list_node(start, closed_by(read, Kind::RBracket));
+    }
+    let (_, rest) = expect(tokens, Kind::LBrace)?;
+    let read = parse_inits(alloc, rest, depth);
+    record_node(start, closed_by(read, Kind::RBrace))
+}
+
+// Entries of a record with commas between them, and perhaps one behind the last; or none.
+#[cycle(parser)]
+fn parse_inits<'t, 'src>(
+    alloc: Global,
+    tokens: &'t [Lexeme<'src>],
+    depth: usize,
+) -> Parsed<'t, 'src, Vec<Node<RecInit<'src>>>>
+    ensures { IfOk result (λ x. length x.1.now ≤ length tokens.now) }
+{
+    let mut inits = Vec::new(alloc);
+    let mut rest = tokens;
+    'inits: while begins_key(rest) {
+        keep(parse_init(alloc, rest, depth), &mut inits, &mut rest)?;
+        if !skip(&mut rest, Kind::Comma) {
+            break;
+        }
+    }
+    Ok((inits, rest))
+}
+
+// A key, `:`, and its value.
+#[cycle(parser)]
+fn parse_init<'t, 'src>(
+    alloc: Global,
+    tokens: &'t [Lexeme<'src>],
+    depth: usize,
+) -> Parsed<'t, 'src, Node<RecInit<'src>>>
+    ensures { IfOk result (λ x. length x.1.now < length tokens.now) }
+{
+    let ((key, _), rest) = closed_by(parse_key(alloc, tokens), Kind::Colon)?;
+    init_node(key, parse_expr(alloc, rest, depth))
+}

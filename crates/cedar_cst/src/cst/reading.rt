@@ -1,0 +1,140 @@
+//! Steps over tokens that every parse function shares.
+ghost use Rattle.std.specs.Prelude.{◌≡◌, ◌<◌, ◌≤◌, length, IfOk, IfSome};
+ghost use Rattle.cedar_cst.specs.Reading.{Keeps, Closes, Boxes};
+ghost use Rattle.cedar_cst.specs.declared.cst.reading.Refusal.TheVariants.{OutOfMemory};
+
+use crate::cst::lexeme::{Kind, Lexeme};
+use std::alloc::{AllocFailed, Global};
+
+/// Why tokens are refused, where `left` counts the tokens from the refused one on.
+#[derive(Clone, Copy, Debug)]
+pub enum Refusal {
+    Grammar { left: usize },
+    TooDeep { left: usize },
+    OutOfMemory,
+}
+
+impl<T: Drop> From<AllocFailed<T>> for Refusal {
+    ghost from_gives = { λ _ e. e ≡ OutOfMemory };
+
+    fn from(_failed: AllocFailed<T>) -> Refusal {
+        Refusal::OutOfMemory
+    }
+}
+
+/// What was read, and the tokens after it.
+pub type Parsed<'t, 'src, T> = Result<(T, &'t [Lexeme<'src>]), Refusal>;
+
+/// The refusal at the first of these tokens.
+pub fn refuse(tokens: &[Lexeme]) -> Refusal {
+    Refusal::Grammar { left: tokens.len() }
+}
+
+/// The refusal at the first of these tokens, where it alone is nested too deeply.
+pub fn too_deep(tokens: &[Lexeme]) -> Refusal {
+    Refusal::TooDeep { left: tokens.len() }
+}
+
+/// Whether the first token is of this kind.
+pub fn begins(tokens: &[Lexeme], wanted: Kind) -> bool {
+    match tokens.split_first() {
+        Some((first, _)) => first.kind == wanted,
+        None => false,
+    }
+}
+
+/// The tokens after the first, where that is of this kind.
+pub fn past<'t, 'src>(tokens: &'t [Lexeme<'src>], wanted: Kind) -> Option<&'t [Lexeme<'src>]>
+    ensures { IfSome result (λ rest. length rest.now < length tokens.now) }
+{
+    match tokens.split_first() {
+        Some((first, rest)) => {
+            if first.kind == wanted {
+                Some(rest)
+            } else {
+                None
+            }
+        }
+        None => None,
+    }
+}
+
+/// Goes past a token of this kind, where one stands first, and says whether it did.
+pub fn skip<'t, 'src>(rest: &mut &'t [Lexeme<'src>], wanted: Kind) -> bool
+    ensures { length rest.new.now ≤ length rest.old.now }
+{
+    let tokens = *rest;
+    *rest = past(tokens, wanted).unwrap_or(tokens);
+    begins(tokens, wanted)
+}
+
+/// The token of this kind, and the tokens after it.
+pub fn expect<'t, 'src>(tokens: &'t [Lexeme<'src>], wanted: Kind) -> Parsed<'t, 'src, Lexeme<'src>>
+    ensures { IfOk result (λ x. length x.1.now < length tokens.now) }
+{
+    match tokens.split_first() {
+        Some((first, rest)) => {
+            if first.kind == wanted {
+                Ok((*first, rest))
+            } else {
+                Err(refuse(tokens))
+            }
+        }
+        None => Err(refuse(tokens)),
+    }
+}
+
+/// Where the first token starts.
+pub fn start_of(tokens: &[Lexeme]) -> usize {
+    match tokens.split_first() {
+        Some((first, _)) => first.span.start,
+        None => 0,
+    }
+}
+
+/// Keeps an item that was read, and goes on behind it.
+pub fn keep<'t, 'src, T: Drop>(
+    read: Parsed<'t, 'src, T>,
+    items: &mut Vec<T>,
+    rest: &mut &'t [Lexeme<'src>],
+) -> Result<(), Refusal>
+    ensures { Keeps read.entry items.old.items items.new.items rest.new result }
+{
+    match read {
+        Ok((item, after)) => {
+            *rest = after;
+            items.push(item)?;
+            Ok(())
+        }
+        Err(refusal) => Err(refusal),
+    }
+}
+
+/// What was read and the token of this kind after it, of which the end is answered.
+pub fn closed_by<'t, 'src, T: Drop>(
+    read: Parsed<'t, 'src, T>,
+    wanted: Kind,
+) -> Parsed<'t, 'src, (T, usize)>
+    ensures { Closes read.entry result }
+{
+    match read {
+        Ok((value, rest)) => match expect(rest, wanted) {
+            Ok((close, rest)) => Ok(((value, close.span.end), rest)),
+            Err(refusal) => Err(refusal),
+        },
+        Err(refusal) => Err(refusal),
+    }
+}
+
+/// What was read, in a box.
+pub fn boxed<'t, 'src, T: Drop>(
+    alloc: Global,
+    read: Parsed<'t, 'src, T>,
+) -> Parsed<'t, 'src, Box<T>>
+    ensures { Boxes read.entry result }
+{
+    match read {
+        Ok((value, rest)) => Ok((Box::new(alloc, value)?, rest)),
+        Err(refusal) => Err(refusal),
+    }
+}

@@ -1,0 +1,318 @@
+//! Policies: annotations, scopes and conditions.
+ghost use Rattle.std.specs.Prelude.{◌<◌, ◌≤◌, length, IfOk};
+
+use crate::cst::expressions::parse_expr;
+use crate::cst::lexeme::{Kind, Lexeme};
+use crate::cst::nodes::{and_node, lone_relation, or_expr, or_node};
+use crate::cst::reading::{
+    Parsed, Refusal, begins, closed_by, expect, keep, past, refuse, skip, start_of,
+};
+use crate::cst::tree::{
+    Add, Annotation, Cond, Expr, Ident, Name, Node, Policies, Policy, Primary, RelOp, Slot,
+    VariableDef,
+};
+use crate::cst::words::{
+    begins_identifier, lone_operand, parse_any_word, parse_entity, parse_one_of, parse_path,
+    parse_slot_or_entity, parse_str,
+};
+use cedar_tokens::token::Span;
+use std::alloc::Global;
+
+/// How many brackets and `if`s may stand inside each other in a condition.
+const MAX_NESTING: usize = 128;
+
+/// The policies that the tokens are.
+pub fn parse_set<'src>(alloc: Global, tokens: &[Lexeme<'src>]) -> Result<Policies<'src>, Refusal> {
+    let mut policies = Vec::new(alloc);
+    let mut rest = tokens;
+    'policies: while begins_policy(rest) {
+        keep(parse_policy(alloc, rest), &mut policies, &mut rest)?;
+    }
+    if rest.is_empty() {
+        Ok(Policies { policies })
+    } else {
+        Err(refuse(rest))
+    }
+}
+
+// Whether a policy begins with the first token.
+fn begins_policy(tokens: &[Lexeme]) -> bool {
+    begins(tokens, Kind::At) || begins(tokens, Kind::Permit) || begins(tokens, Kind::Forbid)
+}
+
+// A policy, from its annotations to its `;`.
+fn parse_policy<'t, 'src>(
+    alloc: Global,
+    tokens: &'t [Lexeme<'src>],
+) -> Parsed<'t, 'src, Node<Policy<'src>>>
+    ensures { IfOk result (λ x. length x.1.now < length tokens.now) }
+{
+    let (annotations, rest) = parse_annotations(alloc, tokens)?;
+    let (effect, rest) = parse_one_of(rest, Kind::Permit, Kind::Forbid)?;
+    let (variables, rest) = parse_scope(alloc, rest)?;
+    let ((conds, end), rest) = closed_by(parse_conds(alloc, rest), Kind::SemiColon)?;
+    let span = Span {
+        start: start_of(tokens),
+        end,
+    };
+    let inner = Policy {
+        annotations,
+        effect,
+        variables,
+        conds,
+    };
+    Ok((Node { inner, span }, rest))
+}
+
+// Annotations, or none.
+fn parse_annotations<'t, 'src>(
+    alloc: Global,
+    tokens: &'t [Lexeme<'src>],
+) -> Parsed<'t, 'src, Vec<Node<Annotation<'src>>>>
+    ensures { IfOk result (λ x. length x.1.now ≤ length tokens.now) }
+{
+    let mut annotations = Vec::new(alloc);
+    let mut rest = tokens;
+    'annotations: while begins(rest, Kind::At) {
+        keep(parse_annotation(rest), &mut annotations, &mut rest)?;
+    }
+    Ok((annotations, rest))
+}
+
+// `@`, a word, and perhaps a string in brackets.
+fn parse_annotation<'t, 'src>(
+    tokens: &'t [Lexeme<'src>],
+) -> Parsed<'t, 'src, Node<Annotation<'src>>>
+    ensures { IfOk result (λ x. length x.1.now < length tokens.now) }
+{
+    let (at, rest) = expect(tokens, Kind::At)?;
+    let (key, rest) = parse_any_word(rest)?;
+    let start = at.span.start;
+    match past(rest, Kind::LParen) {
+        Some(after) => {
+            let ((value, end), rest) = closed_by(parse_str(after), Kind::RParen)?;
+            let value = Some(value);
+            let inner = Annotation { key, value };
+            Ok((
+                Node {
+                    inner,
+                    span: Span { start, end },
+                },
+                rest,
+            ))
+        }
+        None => {
+            let end = key.span.end;
+            let inner = Annotation { key, value: None };
+            Ok((
+                Node {
+                    inner,
+                    span: Span { start, end },
+                },
+                rest,
+            ))
+        }
+    }
+}
+
+// The three variables in brackets, and perhaps a comma behind the last.
+fn parse_scope<'t, 'src>(
+    alloc: Global,
+    tokens: &'t [Lexeme<'src>],
+) -> Parsed<
+    't,
+    'src,
+    (
+        Node<VariableDef<'src>>,
+        Node<VariableDef<'src>>,
+        Node<VariableDef<'src>>,
+    ),
+>
+    ensures { IfOk result (λ x. length x.1.now < length tokens.now) }
+{
+    let (_, rest) = expect(tokens, Kind::LParen)?;
+    let principal = parse_variable(alloc, rest, Slot::Principal);
+    let ((principal, _), rest) = closed_by(principal, Kind::Comma)?;
+    let ((action, _), rest) = closed_by(parse_action(alloc, rest), Kind::Comma)?;
+    let (resource, mut rest) = parse_variable(alloc, rest, Slot::Resource)?;
+    skip(&mut rest, Kind::Comma);
+    let (_, rest) = expect(rest, Kind::RParen)?;
+    Ok(((principal, action, resource), rest))
+}
+
+// `principal` or `resource`, and perhaps a type, an entity or the slot.
+fn parse_variable<'t, 'src>(
+    alloc: Global,
+    tokens: &'t [Lexeme<'src>],
+    slot: Slot,
+) -> Parsed<'t, 'src, Node<VariableDef<'src>>>
+    ensures { IfOk result (λ x. length x.1.now < length tokens.now) }
+{
+    let kind = match slot {
+        Slot::Principal => Kind::Principal,
+        Slot::Resource => Kind::Resource,
+    };
+    let (variable, rest) = parse_one_of(tokens, kind, kind)?;
+    if let Some(after) = past(rest, Kind::Equal) {
+        let (entity, rest) = parse_slot_or_entity(alloc, after, slot)?;
+        let entity = lone_operand(alloc, entity);
+        return Ok((
+            variable_node(variable, None, Some((RelOp::Eq, entity))),
+            rest,
+        ));
+    }
+    if let Some(after) = past(rest, Kind::In) {
+        let (entity, rest) = parse_slot_or_entity(alloc, after, slot)?;
+        let entity = lone_operand(alloc, entity);
+        return Ok((
+            variable_node(variable, None, Some((RelOp::In, entity))),
+            rest,
+        ));
+    }
+    if let Some(after) = past(rest, Kind::Is) {
+        let (entity_type, rest) = parse_path(alloc, after)?;
+        if let Some(after) = past(rest, Kind::In) {
+            let (entity, rest) = parse_slot_or_entity(alloc, after, slot)?;
+            let entity = Some((RelOp::In, lone_operand(alloc, entity)));
+            return Ok((variable_node(variable, Some(entity_type), entity), rest));
+        }
+        return Ok((variable_node(variable, Some(entity_type), None), rest));
+    }
+    Ok((variable_node(variable, None, None), rest))
+}
+
+// `action`, and perhaps an entity or a list of entities.
+fn parse_action<'t, 'src>(
+    alloc: Global,
+    tokens: &'t [Lexeme<'src>],
+) -> Parsed<'t, 'src, Node<VariableDef<'src>>>
+    ensures { IfOk result (λ x. length x.1.now < length tokens.now) }
+{
+    let (variable, rest) = parse_one_of(tokens, Kind::Action, Kind::Action)?;
+    if let Some(after) = past(rest, Kind::Equal) {
+        let (entity, rest) = parse_entity(alloc, after)?;
+        let entity = lone_operand(alloc, entity);
+        return Ok((
+            variable_node(variable, None, Some((RelOp::Eq, entity))),
+            rest,
+        ));
+    }
+    if let Some(after) = past(rest, Kind::In) {
+        let (entities, rest) = parse_entity_or_list(alloc, after)?;
+        let entities = lone_operand(alloc, entities);
+        return Ok((
+            variable_node(variable, None, Some((RelOp::In, entities))),
+            rest,
+        ));
+    }
+    Ok((variable_node(variable, None, None), rest))
+}
+
+// A variable with its type, and its operator with what follows that.
+fn variable_node<'src>(
+    variable: Node<Ident<'src>>,
+    entity_type: Option<Node<Name<'src>>>,
+    ineq: Option<(RelOp, Node<Add<'src>>)>,
+) -> Node<VariableDef<'src>> {
+    let end = match (&ineq, &entity_type) {
+        (Some((_, operand)), _) => operand.span.end,
+        (None, Some(name)) => name.span.end,
+        (None, None) => variable.span.end,
+    };
+    let span = Span {
+        start: variable.span.start,
+        end,
+    };
+    let inner = VariableDef {
+        variable,
+        entity_type,
+        ineq,
+    };
+    Node { inner, span }
+}
+
+// An entity, or entities in square brackets.
+fn parse_entity_or_list<'t, 'src>(
+    alloc: Global,
+    tokens: &'t [Lexeme<'src>],
+) -> Parsed<'t, 'src, Node<Primary<'src>>>
+    ensures { IfOk result (λ x. length x.1.now < length tokens.now) }
+{
+    match past(tokens, Kind::LBracket) {
+        Some(after) => {
+            let ((items, end), rest) = closed_by(parse_entities(alloc, after), Kind::RBracket)?;
+            let span = Span {
+                start: start_of(tokens),
+                end,
+            };
+            let inner = Primary::EList(items);
+            Ok((Node { inner, span }, rest))
+        }
+        None => parse_entity(alloc, tokens),
+    }
+}
+
+// Entities with commas between them, and perhaps one behind the last; or none.
+fn parse_entities<'t, 'src>(
+    alloc: Global,
+    tokens: &'t [Lexeme<'src>],
+) -> Parsed<'t, 'src, Vec<Node<Expr<'src>>>>
+    ensures { IfOk result (λ x. length x.1.now ≤ length tokens.now) }
+{
+    let mut items = Vec::new(alloc);
+    let mut rest = tokens;
+    'items: while begins_identifier(rest) {
+        keep(parse_entity_expr(alloc, rest), &mut items, &mut rest)?;
+        if !skip(&mut rest, Kind::Comma) {
+            break;
+        }
+    }
+    Ok((items, rest))
+}
+
+// An entity as an expression without any operator.
+fn parse_entity_expr<'t, 'src>(
+    alloc: Global,
+    tokens: &'t [Lexeme<'src>],
+) -> Parsed<'t, 'src, Node<Expr<'src>>>
+    ensures { IfOk result (λ x. length x.1.now < length tokens.now) }
+{
+    let (entity, rest) = parse_entity(alloc, tokens)?;
+    let relation = lone_relation(lone_operand(alloc, entity));
+    let and = and_node(relation, Vec::new(alloc));
+    let or = or_node(and, Vec::new(alloc));
+    or_expr(alloc, Ok((or, rest)))
+}
+
+// Conditions, or none.
+fn parse_conds<'t, 'src>(
+    alloc: Global,
+    tokens: &'t [Lexeme<'src>],
+) -> Parsed<'t, 'src, Vec<Node<Cond<'src>>>>
+    ensures { IfOk result (λ x. length x.1.now ≤ length tokens.now) }
+{
+    let mut conds = Vec::new(alloc);
+    let mut rest = tokens;
+    'conds: while begins(rest, Kind::When) || begins(rest, Kind::Unless) {
+        keep(parse_cond(alloc, rest), &mut conds, &mut rest)?;
+    }
+    Ok((conds, rest))
+}
+
+// `when` or `unless`, and an expression in braces.
+fn parse_cond<'t, 'src>(
+    alloc: Global,
+    tokens: &'t [Lexeme<'src>],
+) -> Parsed<'t, 'src, Node<Cond<'src>>>
+    ensures { IfOk result (λ x. length x.1.now < length tokens.now) }
+{
+    let (cond, rest) = parse_one_of(tokens, Kind::When, Kind::Unless)?;
+    let (_, rest) = expect(rest, Kind::LBrace)?;
+    let ((expr, end), rest) = closed_by(parse_expr(alloc, rest, MAX_NESTING), Kind::RBrace)?;
+    let span = Span {
+        start: cond.span.start,
+        end,
+    };
+    let inner = Cond { cond, expr };
+    Ok((Node { inner, span }, rest))
+}

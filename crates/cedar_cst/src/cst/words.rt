@@ -1,0 +1,592 @@
+//! Kinds of tokens, and the nodes that are read without nesting: words, strings, names, entities, literals.
+ghost use Rattle.std.specs.Prelude.{◌≡◌, ◌<◌, ◌≤◌, length, IfOk, IfSome};
+ghost use Rattle.cedar_tokens.specs.Listing.{without_zeros};
+
+use crate::cst::lexeme::{Kind, Lexeme};
+use crate::cst::reading::{Parsed, begins, expect, keep, past, refuse};
+use crate::cst::tree::{
+    Add, AddOp, Ident, Literal, MemAccess, Member, Mult, Name, NegOp, Node, Primary, Ref, RelOp,
+    Slot, Str, Unary,
+};
+use cedar_tokens::token::Span;
+use std::alloc::Global;
+
+/// Whether the kind is that of a word.
+pub fn is_word(kind: Kind) -> bool {
+    is_identifier(kind)
+        || matches!(
+            kind,
+            Kind::True
+                | Kind::False
+                | Kind::If
+                | Kind::Then
+                | Kind::Else
+                | Kind::In
+                | Kind::Is
+                | Kind::Like
+                | Kind::Has
+        )
+}
+
+/// Whether the kind is that of a word that can name something: all words but `true false if then else in is like has`.
+pub fn is_identifier(kind: Kind) -> bool {
+    is_variable(kind)
+        || matches!(
+            kind,
+            Kind::Permit | Kind::Forbid | Kind::When | Kind::Unless | Kind::Identifier
+        )
+}
+
+/// Whether the kind is that of one of the four variables.
+pub fn is_variable(kind: Kind) -> bool {
+    matches!(
+        kind,
+        Kind::Principal | Kind::Action | Kind::Resource | Kind::Context
+    )
+}
+
+/// Whether the first token can name something.
+pub fn begins_identifier(tokens: &[Lexeme]) -> bool {
+    match tokens.split_first() {
+        Some((first, _)) => is_identifier(first.kind),
+        None => false,
+    }
+}
+
+/// Whether an expression begins with the first token.
+pub fn begins_expression(tokens: &[Lexeme]) -> bool {
+    match tokens.split_first() {
+        Some((first, _)) => {
+            is_identifier(first.kind)
+                || matches!(
+                    first.kind,
+                    Kind::If
+                        | Kind::Neg
+                        | Kind::Dash
+                        | Kind::True
+                        | Kind::False
+                        | Kind::Number
+                        | Kind::Str
+                        | Kind::LParen
+                        | Kind::LBracket
+                        | Kind::LBrace
+                )
+        }
+        None => false,
+    }
+}
+
+/// Whether a variable stands first.
+pub fn begins_variable(tokens: &[Lexeme]) -> bool {
+    match tokens.split_first() {
+        Some((first, _)) => is_variable(first.kind),
+        None => false,
+    }
+}
+
+/// Whether a key of a record begins with the first token.
+pub fn begins_key(tokens: &[Lexeme]) -> bool {
+    begins_identifier(tokens) || begins(tokens, Kind::Str)
+}
+
+/// Whether what is accessed begins with the first token; a call does where it is `callable`.
+pub fn begins_access(tokens: &[Lexeme], callable: bool) -> bool {
+    begins(tokens, Kind::Dot)
+        || begins(tokens, Kind::LBracket)
+        || (callable && begins(tokens, Kind::LParen))
+}
+
+/// Whether a parenthesis, a list or a record begins with the first token.
+pub fn begins_bracket(tokens: &[Lexeme]) -> bool {
+    begins(tokens, Kind::LParen) || begins(tokens, Kind::LBracket) || begins(tokens, Kind::LBrace)
+}
+
+// The comparison that a kind stands for.
+fn comparison_of(kind: Kind) -> Option<RelOp> {
+    match kind {
+        Kind::Lt => Some(RelOp::Less),
+        Kind::Le => Some(RelOp::LessEq),
+        Kind::Gt => Some(RelOp::Greater),
+        Kind::Ge => Some(RelOp::GreaterEq),
+        Kind::NotEqual => Some(RelOp::NotEq),
+        Kind::Equal => Some(RelOp::Eq),
+        Kind::In => Some(RelOp::In),
+        _ => None,
+    }
+}
+
+/// Whether a comparison's sign stands first.
+pub fn begins_comparison(tokens: &[Lexeme]) -> bool {
+    match tokens.split_first() {
+        Some((first, _)) => comparison_of(first.kind).is_some(),
+        None => false,
+    }
+}
+
+/// A comparison's sign.
+pub fn parse_comparison_sign<'t, 'src>(tokens: &'t [Lexeme<'src>]) -> Parsed<'t, 'src, RelOp>
+    ensures { IfOk result (λ x. length x.1.now < length tokens.now) }
+{
+    match tokens.split_first() {
+        Some((first, rest)) => match comparison_of(first.kind) {
+            Some(op) => Ok((op, rest)),
+            None => Err(refuse(tokens)),
+        },
+        None => Err(refuse(tokens)),
+    }
+}
+
+/// The `+` or `-` that stands first, and the tokens after it.
+pub fn past_sum_sign<'t, 'src>(tokens: &'t [Lexeme<'src>]) -> Option<(AddOp, &'t [Lexeme<'src>])>
+    ensures { IfSome result (λ x. length x.1.now < length tokens.now) }
+{
+    let (first, rest) = tokens.split_first()?;
+    match first.kind {
+        Kind::Add => Some((AddOp::Plus, rest)),
+        Kind::Dash => Some((AddOp::Minus, rest)),
+        _ => None,
+    }
+}
+
+// How many tokens of this kind stand first, four at most.
+fn sign_count(tokens: &[Lexeme], sign: Kind) -> u8
+    ensures limit { result ≤ 4 }
+    ensures inside { result ≤ length tokens.now }
+{
+    'signs: for count in 0..4 {
+        match tokens.get(usize::from(count)) {
+            Some(token) if token.kind == sign => {}
+            _ => return count,
+        }
+    }
+    4
+}
+
+/// The signs that stand first, four at most, and how many they are.
+pub fn read_signs(tokens: &[Lexeme]) -> (Option<NegOp>, usize)
+    ensures { result.1 ≤ length tokens.now }
+{
+    let bangs = sign_count(tokens, Kind::Neg);
+    if bangs > 0 {
+        return (Some(NegOp::Bang(bangs)), usize::from(bangs));
+    }
+    let dashes = sign_count(tokens, Kind::Dash);
+    if dashes > 0 {
+        return (Some(NegOp::Dash(dashes)), usize::from(dashes));
+    }
+    (None, 0)
+}
+
+/// The token as a word.
+pub fn ident_node<'src>(word: Lexeme<'src>) -> Node<Ident<'src>> {
+    Node {
+        inner: Ident(word.text),
+        span: word.span,
+    }
+}
+
+/// The token as a string.
+pub fn str_node<'src>(string: Lexeme<'src>) -> Node<Str<'src>> {
+    Node {
+        inner: Str(string.text),
+        span: string.span,
+    }
+}
+
+/// A word that can name something.
+pub fn parse_ident<'t, 'src>(tokens: &'t [Lexeme<'src>]) -> Parsed<'t, 'src, Node<Ident<'src>>>
+    ensures { IfOk result (λ x. length x.1.now < length tokens.now) }
+{
+    match tokens.split_first() {
+        Some((first, rest)) => {
+            if is_identifier(first.kind) {
+                Ok((ident_node(*first), rest))
+            } else {
+                Err(refuse(tokens))
+            }
+        }
+        None => Err(refuse(tokens)),
+    }
+}
+
+/// Any word.
+pub fn parse_any_word<'t, 'src>(tokens: &'t [Lexeme<'src>]) -> Parsed<'t, 'src, Node<Ident<'src>>>
+    ensures { IfOk result (λ x. length x.1.now < length tokens.now) }
+{
+    match tokens.split_first() {
+        Some((first, rest)) => {
+            if is_word(first.kind) {
+                Ok((ident_node(*first), rest))
+            } else {
+                Err(refuse(tokens))
+            }
+        }
+        None => Err(refuse(tokens)),
+    }
+}
+
+/// One of two words.
+pub fn parse_one_of<'t, 'src>(
+    tokens: &'t [Lexeme<'src>],
+    wanted: Kind,
+    other: Kind,
+) -> Parsed<'t, 'src, Node<Ident<'src>>>
+    ensures { IfOk result (λ x. length x.1.now < length tokens.now) }
+{
+    match tokens.split_first() {
+        Some((first, rest)) => {
+            if first.kind == wanted || first.kind == other {
+                Ok((ident_node(*first), rest))
+            } else {
+                Err(refuse(tokens))
+            }
+        }
+        None => Err(refuse(tokens)),
+    }
+}
+
+/// A string.
+pub fn parse_str<'t, 'src>(tokens: &'t [Lexeme<'src>]) -> Parsed<'t, 'src, Node<Str<'src>>>
+    ensures { IfOk result (λ x. length x.1.now < length tokens.now) }
+{
+    let (string, rest) = expect(tokens, Kind::Str)?;
+    Ok((str_node(string), rest))
+}
+
+/// Where a name's first word starts.
+pub fn name_start(path: &[Node<Ident<'_>>], name: &Node<Ident<'_>>) -> usize {
+    match path.first() {
+        Some(first) => first.span.start,
+        None => name.span.start,
+    }
+}
+
+/// The words of a path and its last word as a name.
+pub fn name_node<'src>(path: Vec<Node<Ident<'src>>>, name: Node<Ident<'src>>) -> Node<Name<'src>> {
+    let span = Span {
+        start: name_start(&path, &name),
+        end: name.span.end,
+    };
+    Node {
+        inner: Name { path, name },
+        span,
+    }
+}
+
+/// Words joined by `::`.
+pub fn parse_path<'t, 'src>(
+    alloc: Global,
+    tokens: &'t [Lexeme<'src>],
+) -> Parsed<'t, 'src, Node<Name<'src>>>
+    ensures { IfOk result (λ x. length x.1.now < length tokens.now) }
+{
+    let (mut name, mut rest) = parse_ident(tokens)?;
+    let mut path = Vec::new(alloc);
+    'words: while let Some(after) = past(rest, Kind::DoubleColon) {
+        let (next, after) = parse_ident(after)?;
+        path.push(name)?;
+        name = next;
+        rest = after;
+    }
+    Ok((name_node(path, name), rest))
+}
+
+/// An entity as a primary.
+pub fn entity_node<'src>(path: Node<Name<'src>>, eid: Node<Str<'src>>) -> Node<Primary<'src>> {
+    let span = Span {
+        start: path.span.start,
+        end: eid.span.end,
+    };
+    let entity = Node {
+        inner: Ref { path, eid },
+        span,
+    };
+    Node {
+        inner: Primary::Ref(entity),
+        span,
+    }
+}
+
+/// A name as a primary.
+pub fn name_primary<'src>(name: Node<Name<'src>>) -> Node<Primary<'src>> {
+    let span = name.span;
+    Node {
+        inner: Primary::Name(name),
+        span,
+    }
+}
+
+/// A literal as a primary.
+pub fn literal_primary<'src>(literal: Literal<'src>, span: Span) -> Node<Primary<'src>> {
+    let literal = Node {
+        inner: literal,
+        span,
+    };
+    Node {
+        inner: Primary::Literal(literal),
+        span,
+    }
+}
+
+// The digits without leading zeros, and `0` for zero.
+fn without_zeros(digits: &str) -> &str
+    ensures { result.now ≡ without_zeros digits.now }
+{
+    let mut rest = digits;
+    'zeros: while let Some(after) = rest.strip_prefix('0') {
+        if after.is_empty() {
+            break;
+        }
+        rest = after;
+    }
+    rest
+}
+
+// The literal that a token is.
+fn literal_of<'src>(token: Lexeme<'src>) -> Option<Literal<'src>> {
+    match token.kind {
+        Kind::True => Some(Literal::True),
+        Kind::False => Some(Literal::False),
+        Kind::Number => Some(Literal::Num(without_zeros(token.text))),
+        Kind::Str => Some(Literal::Str(token.text)),
+        _ => None,
+    }
+}
+
+/// A literal as a primary.
+pub fn parse_literal<'t, 'src>(tokens: &'t [Lexeme<'src>]) -> Parsed<'t, 'src, Node<Primary<'src>>>
+    ensures { IfOk result (λ x. length x.1.now < length tokens.now) }
+{
+    match tokens.split_first() {
+        Some((first, rest)) => match literal_of(*first) {
+            Some(literal) => Ok((literal_primary(literal, first.span), rest)),
+            None => Err(refuse(tokens)),
+        },
+        None => Err(refuse(tokens)),
+    }
+}
+
+/// A key of a record.
+pub fn parse_key<'t, 'src>(
+    alloc: Global,
+    tokens: &'t [Lexeme<'src>],
+) -> Parsed<'t, 'src, Node<Primary<'src>>>
+    ensures { IfOk result (λ x. length x.1.now < length tokens.now) }
+{
+    if begins(tokens, Kind::Str) {
+        return parse_literal(tokens);
+    }
+    let (word, rest) = parse_ident(tokens)?;
+    Ok((name_primary(name_node(Vec::new(alloc), word)), rest))
+}
+
+/// Words joined by `::`, up to a string after `::`, which makes them an entity. What follows a `::` is told by the next token.
+pub fn parse_entity_or_name<'t, 'src>(
+    alloc: Global,
+    tokens: &'t [Lexeme<'src>],
+) -> Parsed<'t, 'src, Node<Primary<'src>>>
+    ensures { IfOk result (λ x. length x.1.now < length tokens.now) }
+{
+    let (mut name, mut rest) = parse_ident(tokens)?;
+    let mut path = Vec::new(alloc);
+    'words: while let Some(after) = past(rest, Kind::DoubleColon) {
+        if begins(after, Kind::Str) {
+            let (eid, after) = parse_str(after)?;
+            return Ok((entity_node(name_node(path, name), eid), after));
+        }
+        let (next, after) = parse_ident(after)?;
+        path.push(name)?;
+        name = next;
+        rest = after;
+    }
+    Ok((name_primary(name_node(path, name)), rest))
+}
+
+/// An entity.
+pub fn parse_entity<'t, 'src>(
+    alloc: Global,
+    tokens: &'t [Lexeme<'src>],
+) -> Parsed<'t, 'src, Node<Primary<'src>>>
+    ensures { IfOk result (λ x. length x.1.now < length tokens.now) }
+{
+    let (primary, rest) = parse_entity_or_name(alloc, tokens)?;
+    match primary.inner {
+        Primary::Ref(_) => Ok((primary, rest)),
+        _ => Err(refuse(rest)),
+    }
+}
+
+/// A slot, or an entity.
+pub fn parse_slot_or_entity<'t, 'src>(
+    alloc: Global,
+    tokens: &'t [Lexeme<'src>],
+    slot: Slot,
+) -> Parsed<'t, 'src, Node<Primary<'src>>>
+    ensures { IfOk result (λ x. length x.1.now < length tokens.now) }
+{
+    let kind = match slot {
+        Slot::Principal => Kind::PrincipalSlot,
+        Slot::Resource => Kind::ResourceSlot,
+    };
+    match expect(tokens, kind) {
+        Ok((token, rest)) => {
+            let span = token.span;
+            let slot = Node { inner: slot, span };
+            let primary = Node {
+                inner: Primary::Slot(slot),
+                span,
+            };
+            Ok((primary, rest))
+        }
+        Err(_) => parse_entity(alloc, tokens),
+    }
+}
+
+/// Whether a primary is a name.
+pub fn is_name(primary: &Primary<'_>) -> bool {
+    matches!(primary, Primary::Name(_))
+}
+
+/// Whether a primary is a name of one word.
+pub fn is_lone_word(primary: &Primary<'_>) -> bool {
+    match primary {
+        Primary::Name(name) => name.inner.path.is_empty(),
+        _ => false,
+    }
+}
+
+/// A primary with what is accessed in it as an operand of comparisons.
+pub fn operand<'src>(
+    alloc: Global,
+    item: Node<Primary<'src>>,
+    access: Vec<Node<MemAccess<'src>>>,
+    span: Span,
+) -> Node<Add<'src>> {
+    let member = Node {
+        inner: Member { item, access },
+        span,
+    };
+    let unary = Node {
+        inner: Unary {
+            op: None,
+            item: member,
+        },
+        span,
+    };
+    let mult = Node {
+        inner: Mult {
+            initial: unary,
+            extended: Vec::new(alloc),
+        },
+        span,
+    };
+    Node {
+        inner: Add {
+            initial: mult,
+            extended: Vec::new(alloc),
+        },
+        span,
+    }
+}
+
+/// A primary that stands alone as an operand.
+pub fn lone_operand<'src>(alloc: Global, item: Node<Primary<'src>>) -> Node<Add<'src>> {
+    let span = item.span;
+    operand(alloc, item, Vec::new(alloc), span)
+}
+
+/// A string as an operand.
+pub fn parse_text_operand<'t, 'src>(
+    alloc: Global,
+    tokens: &'t [Lexeme<'src>],
+) -> Parsed<'t, 'src, Node<Add<'src>>>
+    ensures { IfOk result (λ x. length x.1.now < length tokens.now) }
+{
+    let (string, rest) = expect(tokens, Kind::Str)?;
+    let primary = literal_primary(Literal::Str(string.text), string.span);
+    Ok((lone_operand(alloc, primary), rest))
+}
+
+/// `.` and a word.
+pub fn parse_field<'t, 'src>(tokens: &'t [Lexeme<'src>]) -> Parsed<'t, 'src, Node<MemAccess<'src>>>
+    ensures { IfOk result (λ x. length x.1.now < length tokens.now) }
+{
+    let (dot, rest) = expect(tokens, Kind::Dot)?;
+    let (field, rest) = parse_ident(rest)?;
+    let span = Span {
+        start: dot.span.start,
+        end: field.span.end,
+    };
+    let access = Node {
+        inner: MemAccess::Field(field),
+        span,
+    };
+    Ok((access, rest))
+}
+
+/// A string in square brackets.
+pub fn parse_index<'t, 'src>(tokens: &'t [Lexeme<'src>]) -> Parsed<'t, 'src, Node<MemAccess<'src>>>
+    ensures { IfOk result (λ x. length x.1.now < length tokens.now) }
+{
+    let (open, rest) = expect(tokens, Kind::LBracket)?;
+    let (string, rest) = parse_str(rest)?;
+    let (close, rest) = expect(rest, Kind::RBracket)?;
+    let span = Span {
+        start: open.span.start,
+        end: close.span.end,
+    };
+    let access = Node {
+        inner: MemAccess::Index(string),
+        span,
+    };
+    Ok((access, rest))
+}
+
+/// `like`, and a string as an operand.
+pub fn parse_pattern<'t, 'src>(
+    alloc: Global,
+    tokens: &'t [Lexeme<'src>],
+) -> Parsed<'t, 'src, Node<Add<'src>>>
+    ensures { IfOk result (λ x. length x.1.now < length tokens.now) }
+{
+    let (_, rest) = expect(tokens, Kind::Like)?;
+    parse_text_operand(alloc, rest)
+}
+
+/// `has`, and a string or words joined by `.`.
+pub fn parse_has_field<'t, 'src>(
+    alloc: Global,
+    tokens: &'t [Lexeme<'src>],
+) -> Parsed<'t, 'src, Node<Add<'src>>>
+    ensures { IfOk result (λ x. length x.1.now < length tokens.now) }
+{
+    let (_, rest) = expect(tokens, Kind::Has)?;
+    if begins(rest, Kind::Str) {
+        return parse_text_operand(alloc, rest);
+    }
+    parse_fields(alloc, rest)
+}
+
+// Words joined by `.`, as an operand.
+fn parse_fields<'t, 'src>(
+    alloc: Global,
+    tokens: &'t [Lexeme<'src>],
+) -> Parsed<'t, 'src, Node<Add<'src>>>
+    ensures { IfOk result (λ x. length x.1.now < length tokens.now) }
+{
+    let (word, mut rest) = parse_ident(tokens)?;
+    let item = name_primary(name_node(Vec::new(alloc), word));
+    let mut access = Vec::new(alloc);
+    'fields: while begins(rest, Kind::Dot) {
+        keep(parse_field(rest), &mut access, &mut rest)?;
+    }
+    let end = match access.last() {
+        Some(field) => field.span.end,
+        None => item.span.end,
+    };
+    let span = Span {
+        start: item.span.start,
+        end,
+    };
+    Ok((operand(alloc, item, access, span), rest))
+}

@@ -1,0 +1,4 @@
+// Trees of Cedar policies, and the parser that makes them.
+#![tactic(auto)]
+
+pub mod cst;
