@@ -16,6 +16,7 @@ pub mod RuleLaws
 pub mod RuleMaps
 pub mod RulePlaces
 pub mod RuleTests
+pub mod FittingLeaves
 pub mod TypedChains
 pub mod TypedExpressions
 pub mod WholeLaws

@@ -44,12 +44,12 @@ module _ {A B : Type 0} (h : A → B) (kind : A → Kind) (kind' : B → Kind) (
       let e : set_to kind' d (each h (yield f)) ≡ done (relabel h f) [] = set_agrees h kind kind' same d (yield f) ∙ ap (answer_of h) (set_complete kind d f g.shape) in
       record { shape = (set_sound kind' d (each h (yield f)) (relabel h f) [] e).among; leaves = relabel_yield f ∙ ap (each h) g.leaves }
 
-  begins_each : (p : Kind → Bool) (ts : List A) → begins kind' p (each h ts) ≡ begins kind p ts
+  pub begins_each : (p : Kind → Bool) (ts : List A) → begins kind' p (each h ts) ≡ begins kind p ts
   begins_each p [] = refl
   begins_each p (a ∷ ts) = ap p (same a)
 
   -- trailing commas stay such
-  plain_each : (ts : List A) → plain kind' (each h ts) ≡ each h (plain kind ts)
+  pub plain_each : (ts : List A) → plain kind' (each h ts) ≡ each h (plain kind ts)
   plain_each [] = refl
   plain_each (a ∷ ts) = ap (λ k. drop_if (is K.Comma k && begins kind' is_closing (each h ts)) (h a ∷ plain kind' (each h ts)) (plain kind' (each h ts))) (same a)
       ∙ ap (λ b. drop_if (is K.Comma (kind a) && b) (h a ∷ plain kind' (each h ts)) (plain kind' (each h ts))) (begins_each is_closing ts)
@@ -110,11 +110,11 @@ unfolding decorate
 decorated_tokens leading [] = refl
 decorated_tokens leading (t ∷ ts) = ap (λ z. t.0 ∷ z) (decorated_tokens (after_newline t.1) ts)
 
-listing_texts : (units : List (List ℕ)) → map (λ t. t.text) (listing units).tokens ≡ tokens units
+pub listing_texts : (units : List (List ℕ)) → map (λ t. t.text) (listing units).tokens ≡ tokens units
 unfolding listing
 listing_texts units = decorated_tokens (gaps units).first (gaps units).tokens ∙ gaps_tokens units
 
-map_map : {A B C : Type 0} → (g : B → C) (h : A → B) (xs : List A) → map g (map h xs) ≡ map (λ x. g (h x)) xs
+pub map_map : {A B C : Type 0} → (g : B → C) (h : A → B) (xs : List A) → map g (map h xs) ≡ map (λ x. g (h x)) xs
 map_map g h [] = refl
 map_map g h (x ∷ xs) = ap (λ z. g (h x) ∷ z) (map_map g h xs)
 

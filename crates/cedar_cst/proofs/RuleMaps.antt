@@ -30,7 +30,7 @@ module _ {A B : Type 0} (h : A → B) where
   each_length [] = refl
   each_length (a ∷ ts) = ap suc (each_length ts)
 
-  relabel_join : (f g : Forest Label A) → relabel (join f g) ≡ join (relabel f) (relabel g)
+  pub relabel_join : (f g : Forest Label A) → relabel (join f g) ≡ join (relabel f) (relabel g)
   relabel_join none g = refl
   relabel_join (leaf a f) g = ap (leaf (h a)) (relabel_join f g)
   relabel_join (branch l f k) g = ap (branch l (relabel f)) (relabel_join k g)

@@ -118,10 +118,10 @@ closing_agrees text = agrees_among is_closing is_closing_bracket fixed_tokens te
 closing_no_comma : (text : List ℕ) → IsTrue (is_closing (kind_of text)) → is K.Comma (kind_of text) ≡ false
 closing_no_comma text h = apart_at is_closing (is K.Comma) refl (kind_of text) h
 
-trailing_agrees : (c b : Decorated) → is_trailing_comma c b ≡ (is K.Comma (kind_of c.text) && is_closing (kind_of b.text))
+pub trailing_agrees : (c b : Decorated) → is_trailing_comma c b ≡ (is K.Comma (kind_of c.text) && is_closing (kind_of b.text))
 trailing_agrees c b = sym (rw (comma_agrees c.text, closing_agrees b.text) refl)
 
-abbrev texts : List Decorated → List (List ℕ)
+abbrev pub texts : List Decorated → List (List ℕ)
 texts l = map (λ t. t.text) l
 
 and_right_false : (b : Bool) → (b && false) ≡ false

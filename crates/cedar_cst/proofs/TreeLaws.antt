@@ -55,7 +55,7 @@ module _ {A : Type 0} (kind : A → Kind) where
   leaves_are_plain d ts f g = plain_leaves kind d f g.shape ∙ ap (plain kind) g.leaves
 
   pub every_tree_is_typed : EveryTreeIsTyped kind
-  every_tree_is_typed d ts f g = typed_set kind d f g.shape
+  every_tree_is_typed d ts f g = let r = typed_set kind d f g.shape in (r.0, r.1)
 
   pub typed_tree_is_unique : TypedTreeIsUnique kind
   typed_tree_is_unique = set_same kind

@@ -1,5 +1,5 @@
 -- Each policy of the grammar, without trailing commas, is that of a typed tree.
-use Rattle.std.specs.Prelude.{◌≡◌, ℕ, false, IsTrue, List, [], ◌∷◌}
+use Rattle.std.specs.Prelude.{◌≡◌, ℕ, false, ◌||◌, IsTrue, List, [], ◌∷◌}
 use Rattle.std.proofs.Common.{refl, ap, ◌∙◌, inl, inr}
 use Rattle.cedar_cst.specs.declared.cst.lexeme.Kind.{Kind}
 use Rattle.cedar_cst.specs.declared.cst.lexeme.Kind.TheVariants as K
@@ -11,14 +11,17 @@ use Rattle.cedar_cst.specs.Grammar as G
 use Rattle.cedar_cst.specs.TrailingCommas.{without_trailing}
 use Rattle.cedar_cst.specs.TypedTrees as T
 use Rattle.cedar_cst.specs.TypedTrees.{PartKind, Clause, parts, part_parts, policy_trees, set_tree}
-use Rattle.cedar_cst.proofs.KindSets.{within_at}
+use Rattle.cedar_cst.specs.Kinds.{is_word}
+use Rattle.cedar_cst.proofs.FittingLeaves.{Fits, PartFits, is_atom}
+use Rattle.std.specs.List.{AllByRecursion}
+use Rattle.cedar_cst.proofs.KindSets.{within, within_at}
 use Rattle.cedar_cst.proofs.TypedChains.{Typed, kept, lone, not_comma, opening_kept, names}
 use Rattle.cedar_cst.proofs.TypedExpressions.{Node, entity, alone, operand, list, typed_expression}
 
 module _ {A : Type 0} (kind : A → Kind) where
   -- typed parts whose forest is the row without trailing commas
   abbrev pub TypedPart : PartKind → Forest Label A → Type 0
-  TypedPart k f = (t : Clause A k) × (without_trailing kind f ≡ part_parts kind t)
+  TypedPart k f = (t : Clause A k) × (without_trailing kind f ≡ part_parts kind t) × PartFits kind t
 
   abbrev pub PartNode : Label → PartKind → Forest Label A → Type 0
   PartNode l k f = (g : Forest Label A) × (f ≡ branch l g none) × TypedPart k g
@@ -26,14 +29,14 @@ module _ {A : Type 0} (kind : A → Kind) where
   entity_operand : (f : Forest Label A) → G.Operand kind (G.Entity kind) f → Node kind L.add T.add f
   entity_operand = operand kind (G.Entity kind) (λ f x. alone kind f (entity kind f x))
 
-  slot : (s : Kind) (f : Forest Label A) → Tree L.primary (Tree L.slot (G.One kind s)) f → Node kind L.primary T.primary f
-  slot s f (g, e, (h, d, (a, c, o))) = (g, e, (T.slot a, rw (d, c) (ap (λ z. branch L.slot z none) (lone kind a))))
+  slot : (s : Kind) → IsTrue (within (is s) is_atom) → (f : Forest Label A) → Tree L.primary (Tree L.slot (G.One kind s)) f → Node kind L.primary T.primary f
+  slot s w f (g, e, (h, d, (a, c, o))) = (g, e, (T.slot a, rw (d, c) (ap (λ z. branch L.slot z none) (lone kind a)), within_at (is s) is_atom w (kind a) o))
 
-  entity_or : (s : Kind) (f : Forest Label A) → G.EntityOr kind s f → Node kind L.add T.add f
-  entity_or s = operand kind (Tree L.primary (Tree L.slot (G.One kind s)) ∪ G.Entity kind) go
+  entity_or : (s : Kind) → IsTrue (within (is s) is_atom) → (f : Forest Label A) → G.EntityOr kind s f → Node kind L.add T.add f
+  entity_or s w = operand kind (Tree L.primary (Tree L.slot (G.One kind s)) ∪ G.Entity kind) go
     where
       go : (f : Forest Label A) → (Tree L.primary (Tree L.slot (G.One kind s)) ∪ G.Entity kind) f → Typed kind T.member f
-      go f (inl x) = alone kind f (slot s f x)
+      go f (inl x) = alone kind f (slot s w f x)
       go f (inr x) = alone kind f (entity kind f x)
 
   -- a row that begins with a token, a word, a node
@@ -55,6 +58,7 @@ module _ {A : Type 0} (kind : A → Kind) where
           T.plain_expr (T.ors_one (T.ands_one (T.single n.2.0))),
           ap (without_trailing kind) (d ∙ ap (λ z. branch L.or z none) (c ∙ ap (λ z. branch L.and z none) (b ∙ ap (λ z. branch L.relation z none) n.1)))
               ∙ ap (λ z. branch L.or (branch L.and (branch L.relation (branch L.add z none) none) none) none) n.2.1,
+          n.2.2,
         ),
       )
 
@@ -62,7 +66,7 @@ module _ {A : Type 0} (kind : A → Kind) where
   list_operand = operand kind (Tree L.primary (Tree L.list (G.One kind K.LBracket · Maybe (G.Items kind (G.EntityItem kind)) · G.One kind K.RBracket))) go
     where
       go : (f : Forest Label A) → Tree L.primary (Tree L.list (G.One kind K.LBracket · Maybe (G.Items kind (G.EntityItem kind)) · G.One kind K.RBracket)) f → Typed kind T.member f
-      go f (p, e, (q, d, x)) = let t = list kind false (G.EntityItem kind) entity_item q x in alone kind f (p, e, (t.0, ap (without_trailing kind) d ∙ t.1))
+      go f (p, e, (q, d, x)) = let t = list kind false (G.EntityItem kind) entity_item q x in alone kind f (p, e, (t.0, ap (without_trailing kind) d ∙ t.1, t.2))
 
   -- a word and what stands behind it
   behind : (k : A) (v : Forest Label A) → without_trailing kind (branch L.ident (leaf k none) v) ≡ branch L.ident (leaf k none) (without_trailing kind v)
@@ -73,21 +77,22 @@ module _ {A : Type 0} (kind : A → Kind) where
   operated a g t e = kept kind a L.add g none ∙ ap (λ z. leaf a (branch L.add z none)) e
 
   -- a variable with an operator and its operand
-  with_operand : (g u w i p q : Forest Label A) (k o : A) → g ≡ join u w → u ≡ branch L.ident i none → i ≡ leaf k none → w ≡ join p q → p ≡ leaf o none → Node kind L.add T.add q → TypedPart T.variable g
-  with_operand g u w i p q k o d j m r b n = (
+  with_operand : (g u w i p q : Forest Label A) (k o : A) → IsTrue (is_atom (kind k)) → g ≡ join u w → u ≡ branch L.ident i none → i ≡ leaf k none → w ≡ join p q → p ≡ leaf o none → Node kind L.add T.add q → TypedPart T.variable g
+  with_operand g u w i p q k o a d j m r b n = (
     T.variable_op k o n.2.0,
     ap (without_trailing kind) (word_then g u w i k d j m ∙ ap (branch L.ident (leaf k none)) (one_then w p q o r b ∙ ap (leaf o) n.1)) ∙ behind k (leaf o (branch L.add n.0 none))
         ∙ ap (branch L.ident (leaf k none)) (operated o n.0 n.2.0 n.2.1),
+    (a, n.2.2),
   )
 
-  bare : (g u w i : Forest Label A) (k : A) → g ≡ join u w → u ≡ branch L.ident i none → i ≡ leaf k none → w ≡ none → TypedPart T.variable g
-  bare g u w i k d j m z = (T.variable_bare k, ap (without_trailing kind) (word_then g u w i k d j m ∙ ap (branch L.ident (leaf k none)) z) ∙ behind k none)
+  bare : (g u w i : Forest Label A) (k : A) → IsTrue (is_atom (kind k)) → g ≡ join u w → u ≡ branch L.ident i none → i ≡ leaf k none → w ≡ none → TypedPart T.variable g
+  bare g u w i k a d j m z = (T.variable_bare k, ap (without_trailing kind) (word_then g u w i k d j m ∙ ap (branch L.ident (leaf k none)) z) ∙ behind k none, a)
 
-  scoped : (v s : Kind) (f : Forest Label A) → G.Scoped kind v s f → PartNode L.variable T.variable f
-  scoped v s f (g, e, (u, w, d, (i, j, (k, m, n)), inr z)) = (g, e, bare g u w i k d j m z)
-  scoped v s f (g, e, (u, w, d, (i, j, (k, m, n)), inl (inl (p, q, r, (o, b, h), x)))) = (g, e, with_operand g u w i p q k o d j m r b (entity_or s q x))
-  scoped v s f (g, e, (u, w, d, (i, j, (k, m, n)), inl (inr (inr (p, q, r, (o, b, h), x))))) = (g, e, with_operand g u w i p q k o d j m r b (entity_or s q x))
-  scoped v s f (g, e, (u, w, d, (i, j, (k, m, n)), inl (inr (inl (p, q, r, (o, b, h), (x, y, c, (l, l', path), inr z)))))) =
+  scoped : (v s : Kind) → IsTrue (within (is v) is_atom) → IsTrue (within (is s) is_atom) → (f : Forest Label A) → G.Scoped kind v s f → PartNode L.variable T.variable f
+  scoped v s va sa f (g, e, (u, w, d, (i, j, (k, m, n)), inr z)) = (g, e, bare g u w i k (within_at (is v) is_atom va (kind k) n) d j m z)
+  scoped v s va sa f (g, e, (u, w, d, (i, j, (k, m, n)), inl (inl (p, q, r, (o, b, h), x)))) = (g, e, with_operand g u w i p q k o (within_at (is v) is_atom va (kind k) n) d j m r b (entity_or s sa q x))
+  scoped v s va sa f (g, e, (u, w, d, (i, j, (k, m, n)), inl (inr (inr (p, q, r, (o, b, h), x))))) = (g, e, with_operand g u w i p q k o (within_at (is v) is_atom va (kind k) n) d j m r b (entity_or s sa q x))
+  scoped v s va sa f (g, e, (u, w, d, (i, j, (k, m, n)), inl (inr (inl (p, q, r, (o, b, h), (x, y, c, (l, l', path), inr z)))))) =
       let t = names kind l path in (
         g,
         e,
@@ -95,11 +100,12 @@ module _ {A : Type 0} (kind : A → Kind) where
           T.variable_is k o t.0,
           ap (without_trailing kind) (word_then g u w i k d j m ∙ ap (branch L.ident (leaf k none)) (one_then w p q o r b ∙ ap (leaf o) (node_then q x y l L.name c l' ∙ ap (branch L.name l) z))) ∙ behind k (leaf o (branch L.name l none))
               ∙ ap (branch L.ident (leaf k none)) (kept kind o L.name l none ∙ ap (λ z. leaf o (branch L.name z none)) t.1),
+          (within_at (is v) is_atom va (kind k) n, t.2),
         ),
       )
-  scoped v s f (g, e, (u, w, d, (i, j, (k, m, n)), inl (inr (inl (p, q, r, (o, b, h), (x, y, c, (l, l', path), inl (p', q', r', (o', b', h'), x'))))))) =
+  scoped v s va sa f (g, e, (u, w, d, (i, j, (k, m, n)), inl (inr (inl (p, q, r, (o, b, h), (x, y, c, (l, l', path), inl (p', q', r', (o', b', h'), x'))))))) =
       let t = names kind l path in
-      let a = entity_or s q' x' in (
+      let a = entity_or s sa q' x' in (
         g,
         e,
         (
@@ -109,14 +115,15 @@ module _ {A : Type 0} (kind : A → Kind) where
               ∙ ap (branch L.ident (leaf k none)) (kept kind o L.name l (leaf o' (branch L.add a.0 none))
               ∙ ap (λ z. leaf o (branch L.name z (without_trailing kind (leaf o' (branch L.add a.0 none))))) t.1
               ∙ ap (λ z. leaf o (branch L.name (parts kind t.0) z)) (operated o' a.0 a.2.0 a.2.1)),
+          (within_at (is v) is_atom va (kind k) n, t.2, a.2.2),
         ),
       )
 
   action : (f : Forest Label A) → G.Action kind f → PartNode L.variable T.variable f
-  action f (g, e, (u, w, d, (i, j, (k, m, n)), inr z)) = (g, e, bare g u w i k d j m z)
-  action f (g, e, (u, w, d, (i, j, (k, m, n)), inl (inl (p, q, r, (o, b, h), x)))) = (g, e, with_operand g u w i p q k o d j m r b (entity_operand q x))
-  action f (g, e, (u, w, d, (i, j, (k, m, n)), inl (inr (p, q, r, (o, b, h), inl x)))) = (g, e, with_operand g u w i p q k o d j m r b (list_operand q x))
-  action f (g, e, (u, w, d, (i, j, (k, m, n)), inl (inr (p, q, r, (o, b, h), inr x)))) = (g, e, with_operand g u w i p q k o d j m r b (entity_operand q x))
+  action f (g, e, (u, w, d, (i, j, (k, m, n)), inr z)) = (g, e, bare g u w i k (within_at (is K.Action) is_atom refl (kind k) n) d j m z)
+  action f (g, e, (u, w, d, (i, j, (k, m, n)), inl (inl (p, q, r, (o, b, h), x)))) = (g, e, with_operand g u w i p q k o (within_at (is K.Action) is_atom refl (kind k) n) d j m r b (entity_operand q x))
+  action f (g, e, (u, w, d, (i, j, (k, m, n)), inl (inr (p, q, r, (o, b, h), inl x)))) = (g, e, with_operand g u w i p q k o (within_at (is K.Action) is_atom refl (kind k) n) d j m r b (list_operand q x))
+  action f (g, e, (u, w, d, (i, j, (k, m, n)), inl (inr (p, q, r, (o, b, h), inr x)))) = (g, e, with_operand g u w i p q k o (within_at (is K.Action) is_atom refl (kind k) n) d j m r b (entity_operand q x))
 
   annotation : (f : Forest Label A) → G.Annotation kind f → PartNode L.annotation T.annotation f
   annotation f (g, e, (u, v, d, (a, b, o), (w, y, c, (i, j, (k, m, n)), inr z))) = (
@@ -126,6 +133,7 @@ module _ {A : Type 0} (kind : A → Kind) where
       T.annotation_bare a k,
       ap (without_trailing kind) (one_then g u v a d b ∙ ap (leaf a) (word_then v w y i k c j m ∙ ap (branch L.ident (leaf k none)) z)) ∙ kept kind a L.ident (leaf k none) none
           ∙ ap (λ z. leaf a (branch L.ident z none)) (lone kind k),
+      (o, within_at is_word is_atom refl (kind k) n),
     ),
   )
   annotation f (g, e, (u, v, d, (a, b, o), (w, y, c, (i, j, (k, m, n)), inl (p, q, r, (l, l', h), (p', q', r', (x, x', (s, s', h')), (t, t', h'')))))) =
@@ -139,6 +147,7 @@ module _ {A : Type 0} (kind : A → Kind) where
               ∙ ap (λ z. leaf a (branch L.ident z (without_trailing kind (leaf l (branch L.str (leaf s none) (leaf t none)))))) (lone kind k)
               ∙ ap (λ z. leaf a (branch L.ident (leaf k none) z)) (kept kind l L.str (leaf s none) (leaf t none)
               ∙ ap (λ z. leaf l (branch L.str z (without_trailing kind (leaf t none)))) (lone kind s) ∙ ap (λ z. leaf l (branch L.str (leaf s none) z)) (lone kind t)),
+          (o, within_at is_word is_atom refl (kind k) n, h, within_at (is K.Str) is_atom refl (kind s) h', h''),
         ),
       )
 
@@ -152,22 +161,23 @@ module _ {A : Type 0} (kind : A → Kind) where
           ap (without_trailing kind) (word_then g u v i k c j m ∙ ap (branch L.ident (leaf k none)) (one_then v p q l r l' ∙ ap (leaf l) (node_then q x y b.0 L.expr s b.1 ∙ ap (branch L.expr b.0) t'))) ∙ behind k (leaf l (branch L.expr b.0 (leaf t none)))
               ∙ ap (branch L.ident (leaf k none)) (kept kind l L.expr b.0 (leaf t none)
               ∙ ap (λ z. leaf l (branch L.expr z (without_trailing kind (leaf t none)))) b.2.1 ∙ ap (λ z. leaf l (branch L.expr (parts kind b.2.0) z)) (lone kind t)),
+          (within_at (λ k. is K.When k || is K.Unless k) is_atom refl (kind k) n, h, b.2.2, h'),
         ),
       )
 
-  annotations : (f g : Forest Label A) → Many (G.Annotation kind) f → (t : Clause A T.annotations) × (without_trailing kind (join f g) ≡ join (part_parts kind t) (without_trailing kind g))
-  annotations f g (no_more i e) = (T.no_annotation, ap (λ z. without_trailing kind (join z g)) e)
+  annotations : (f g : Forest Label A) → Many (G.Annotation kind) f → (t : Clause A T.annotations) × (without_trailing kind (join f g) ≡ join (part_parts kind t) (without_trailing kind g)) × PartFits kind t
+  annotations f g (no_more i e) = (T.no_annotation, ap (λ z. without_trailing kind (join z g)) e, tt)
   annotations f g (one_more i u v e x m) =
       let a = annotation u x in
       let r = annotations v g m in
-      (T.annotations_more a.2.0 r.0, ap (λ z. without_trailing kind (join z g)) (e ∙ ap (λ z. join z v) a.1) ∙ ap (λ z. branch L.annotation z (without_trailing kind (join v g))) a.2.1 ∙ ap (branch L.annotation (part_parts kind a.2.0)) r.1)
+      (T.annotations_more a.2.0 r.0, ap (λ z. without_trailing kind (join z g)) (e ∙ ap (λ z. join z v) a.1) ∙ ap (λ z. branch L.annotation z (without_trailing kind (join v g))) a.2.1 ∙ ap (branch L.annotation (part_parts kind a.2.0)) r.1, (a.2.2, r.2))
 
-  conds : (d : ℕ) (f g : Forest Label A) → Many (G.Cond kind d) f → (t : Clause A T.conds) × (without_trailing kind (join f g) ≡ join (part_parts kind t) (without_trailing kind g))
-  conds d f g (no_more i e) = (T.no_cond, ap (λ z. without_trailing kind (join z g)) e)
+  conds : (d : ℕ) (f g : Forest Label A) → Many (G.Cond kind d) f → (t : Clause A T.conds) × (without_trailing kind (join f g) ≡ join (part_parts kind t) (without_trailing kind g)) × PartFits kind t
+  conds d f g (no_more i e) = (T.no_cond, ap (λ z. without_trailing kind (join z g)) e, tt)
   conds d f g (one_more i u v e x m) =
       let a = cond d u x in
       let r = conds d v g m in
-      (T.conds_more a.2.0 r.0, ap (λ z. without_trailing kind (join z g)) (e ∙ ap (λ z. join z v) a.1) ∙ ap (λ z. branch L.condition z (without_trailing kind (join v g))) a.2.1 ∙ ap (branch L.condition (part_parts kind a.2.0)) r.1)
+      (T.conds_more a.2.0 r.0, ap (λ z. without_trailing kind (join z g)) (e ∙ ap (λ z. join z v) a.1) ∙ ap (λ z. branch L.condition z (without_trailing kind (join v g))) a.2.1 ∙ ap (branch L.condition (part_parts kind a.2.0)) r.1, (a.2.2, r.2))
 
   -- a comma before the bracket is dropped
   before_bracket : (q : A) (f rest : Forest Label A) → IsTrue (is K.RParen (kind q)) → (G.One kind K.Comma ∪ Empty) f
@@ -183,9 +193,9 @@ module _ {A : Type 0} (kind : A → Kind) where
 
   policy : (d : ℕ) (f : Forest Label A) → G.Policy kind d f → PartNode L.policy T.policy f
   policy d f (g, e, (u1, v1, d1, ns, (u2, v2, d2, (i, j, (k, m, n)), (u3, v3, d3, (l, l', hl), (u4, v4, d4, p, (u5, v5, d5, (c, c', hc), (u6, v6, d6, a, (u7, v7, d7, (o, o', ho), (u8, v8, d8, r, (u9, v9, d9, w, (u10, v10, d10, (q, q', hq), (u11, v11, d11, cs, (s, s', hs))))))))))))) =
-      let tp = scoped K.Principal K.PrincipalSlot u4 p in
+      let tp = scoped K.Principal K.PrincipalSlot refl refl u4 p in
       let ta = action u6 a in
-      let tr = scoped K.Resource K.ResourceSlot u8 r in
+      let tr = scoped K.Resource K.ResourceSlot refl refl u8 r in
       let tc = conds d u11 (leaf s none) cs in
       let behind_scope : v8 ≡ join u9 (leaf q (join u11 (leaf s none))) = d9 ∙ ap (join u9) (d10 ∙ ap (λ z. join z v10) q' ∙ ap (leaf q) (d11 ∙ ap (join u11) s')) in
       let scope : v2 ≡ leaf l (branch L.variable tp.0 (leaf c (branch L.variable ta.0 (leaf o (branch L.variable tr.0 v8))))) =
@@ -205,16 +215,17 @@ module _ {A : Type 0} (kind : A → Kind) where
         (
           T.policy_of tn.0 k l tp.2.0 c ta.2.0 o tr.2.0 q tc.0 s,
           ap (without_trailing kind) d1 ∙ tn.1 ∙ ap (λ z. join (part_parts kind tn.0) (without_trailing kind z)) word ∙ ap (join (part_parts kind tn.0)) (behind k v2 ∙ ap (branch L.ident (leaf k none)) inside),
+          (tn.2, within_at (λ k. is K.Permit k || is K.Forbid k) is_atom refl (kind k) n, hl, tp.2.2, hc, ta.2.2, ho, tr.2.2, hq, tc.2, hs),
         ),
       )
 
-  policies : (d : ℕ) (f : Forest Label A) → Many (G.Policy kind d) f → (ps : List (Clause A T.policy)) × (without_trailing kind f ≡ policy_trees kind ps)
-  policies d f (no_more i e) = ([], ap (without_trailing kind) e)
+  policies : (d : ℕ) (f : Forest Label A) → Many (G.Policy kind d) f → (ps : List (Clause A T.policy)) × (without_trailing kind f ≡ policy_trees kind ps) × AllByRecursion (PartFits kind) ps
+  policies d f (no_more i e) = ([], ap (without_trailing kind) e, tt)
   policies d f (one_more i u v e x m) =
       let p = policy d u x in
       let r = policies d v m in
-      (p.2.0 ∷ r.0, ap (without_trailing kind) (e ∙ ap (λ z. join z v) p.1) ∙ ap (λ z. branch L.policy z (without_trailing kind v)) p.2.1 ∙ ap (branch L.policy (part_parts kind p.2.0)) r.1)
+      (p.2.0 ∷ r.0, ap (without_trailing kind) (e ∙ ap (λ z. join z v) p.1) ∙ ap (λ z. branch L.policy z (without_trailing kind v)) p.2.1 ∙ ap (branch L.policy (part_parts kind p.2.0)) r.1, (p.2.2, r.2))
 
-  -- Each tree of the grammar, without trailing commas, is that of typed policies.
-  pub typed_set : (d : ℕ) (f : Forest Label A) → G.PolicySet kind d f → (ps : List (Clause A T.policy)) × (without_trailing kind f ≡ set_tree kind ps)
-  typed_set d f (g, e, m) = let r = policies d g m in (r.0, ap (without_trailing kind) e ∙ ap (λ z. branch L.policies z none) r.1)
+  -- Each tree of the grammar, without trailing commas, is that of typed policies, whose leaves fit.
+  pub typed_set : (d : ℕ) (f : Forest Label A) → G.PolicySet kind d f → (ps : List (Clause A T.policy)) × (without_trailing kind f ≡ set_tree kind ps) × AllByRecursion (PartFits kind) ps
+  typed_set d f (g, e, m) = let r = policies d g m in (r.0, ap (without_trailing kind) e ∙ ap (λ z. branch L.policies z none) r.1, r.2)

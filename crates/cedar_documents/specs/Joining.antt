@@ -1,0 +1,20 @@
+-- The decorated list of two texts with a line feed between them.
+use Rattle.std.specs.Prelude.{ℕ, List, [], ◌∷◌, ◌++◌}
+use Rattle.cedar_tokens.specs.Listing.{Decorated, Listing, IsListing}
+
+-- these comments in front of the first token's, or of the closing ones
+abbrev pub ahead_tokens : List (List ℕ) → List Decorated → List Decorated
+ahead_tokens cs [] = []
+ahead_tokens cs (t ∷ ts) = record { text = t.text; leading = cs ++ t.leading; trailing = t.trailing } ∷ ts
+
+abbrev pub ahead_closing : List (List ℕ) → List Decorated → List (List ℕ) → List (List ℕ)
+ahead_closing cs [] closing = cs ++ closing
+ahead_closing cs (t ∷ ts) closing = closing
+
+-- one list and then another
+abbrev pub follow : Listing → Listing → Listing
+follow l m = record { tokens = l.tokens ++ ahead_tokens l.closing m.tokens; closing = ahead_closing l.closing m.tokens m.closing }
+
+-- a line feed between two texts that split: the one list and then the other
+abbrev pub LawOfJoining : Type 0
+LawOfJoining = (x y : List ℕ) (l m : Listing) → IsListing x l → IsListing y m → IsListing (x ++ (10 ∷ y)) (follow l m)
