@@ -147,10 +147,10 @@ fn drops_trailing_commas(rt: HostRuntime) -> Result<(), AllocError> {
             "r // a\n// b\n, // c\n// d\n)",
             "[0..1 r <// a>][24..25 ) <// b\n// c\n// d\n>]|",
         ),
-        ("1 // a\n, // b\n]", "[0..1 1 <// a>][15..16 ] <// b\n>]|"),
+        ("1 // a\n, // b\n]", "[0..1 1 <// a>][14..15 ] <// b\n>]|"),
         (
             "r\n// b\n, // c\r// d\n} // e",
-            "[0..1 r <>][20..21 } <// b\n// c\n// d\n// e>]|",
+            "[0..1 r <>][19..20 } <// b\n// c\n// d\n// e>]|",
         ),
         // The first token has none before it.
         ("// a\n, // b\n// c\n)", "[17..18 ) <// a\n// b\n// c\n>]|"),
@@ -253,7 +253,7 @@ fn moves_comments_out(rt: HostRuntime) -> Result<(), AllocError> {
     assert_eq!(rt; token.comment.trailing_comment(), "// t");
     assert!(rt; copy != token);
 
-    token.comment = Comment::from_parts(lines, "// t");
+    let mut token = WrappedToken::new(Token::Comma, span, Comment::from_parts(lines, "// t"));
     assert!(rt; copy == token);
     let taken = token.consume_comment();
     assert!(rt; taken == copy.comment);
