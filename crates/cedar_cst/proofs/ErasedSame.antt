@@ -27,12 +27,12 @@ use Rattle.cedar_cst.specs.declared.cst.tree.Member as Member
 use Rattle.cedar_cst.specs.declared.cst.tree.AddOp.{AddOp}
 use Rattle.cedar_cst.specs.declared.cst.tree.Slot.{Slot}
 use Rattle.cedar_cst.specs.declared.cst.tree.NegOp.{NegOp}
-use Rattle.cedar_cst.specs.Trees.{Label, Forest, none, leaf, branch, join}
-use Rattle.cedar_cst.specs.Trees as L
+use Rattle.cedar_grammar.specs.Trees.{Label, Forest, none, leaf, branch, join}
+use Rattle.cedar_grammar.specs.Trees as L
 use Rattle.cedar_cst.specs.Erased.{Erased, node, ident_tree, path_parts, name_tree, variant_label, literal_text, slot_text, relop_text, addop_text, times, signs_or, signs, expr_parts, or_parts, or_rest, and_rest, relation_parts, compare_tree, in_parts, add_parts, add_rest, mult_parts, mult_rest, unary_parts, access_trees, access_parts, expr_items, more_items, primary_parts, init_items, more_inits, value_parts, annotation_trees, type_parts, operator_parts, variable_tree, more_variables, variable_items, cond_trees, policy_parts, policy_trees, scope_variables, without_spans}
 use Rattle.cedar_cst.specs.Same.{SameEach, SameOption, SameIdent, SameStr, SameName, SameLiteral, SameExpr, SameOr, SameAnds, SameRelations, SameRelation, SameCompared, SameIn, SameAdd, SameMults, SameMult, SameUnaries, SameUnary, SameAccesses, SameAccess, SameExprs, SamePrimary, SameInits, SameAnnotation, SameOperator, SameVariable, SameCond, SamePolicy}
 use Rattle.cedar_cst.specs.Laws.{SameTreeIsByFields}
-use Rattle.cedar_cst.proofs.PartsSame.{last_same, ins, nxt, lab, shape, hd}
+use Rattle.cedar_grammar.proofs.PartsSame.{last_same, ins, nxt, lab, shape, hd}
 
 abbrev Bare : Type 0
 Bare = Forest Label (List ℕ)

@@ -1,67 +1,25 @@
 -- The tree of nodes of a text: the text is accepted, and the tree's leaves are the plain list's texts.
-use Rattle.std.specs.Prelude.{◌≡◌, ℕ, ◌+◌, Bool, true, false, ◌&&◌, List, [], ◌∷◌, ◌++◌, length, map, if◌then◌else◌}
+use Rattle.std.specs.Prelude.{◌≡◌, ℕ, ◌+◌, Bool, true, false, List, [], ◌∷◌, ◌++◌, length, map, if◌then◌else◌}
 use Rattle.std.proofs.Common.{refl, sym, ap, ◌∙◌, subst}
 use Rattle.cedar_tokens.specs.Units.{is_token}
 use Rattle.cedar_tokens.specs.Split.{SplitIsUnique}
-use Rattle.cedar_tokens.specs.Listing.{Decorated, listing, Gaps, gaps, decorate, after_newline, token_value}
+use Rattle.cedar_tokens.specs.Listing.{Decorated, token_value}
 use Rattle.cedar_tokens.specs.PlainList.{plain_list}
 use Rattle.cedar_tokens.specs.Places.{token_spans}
-use Rattle.cedar_cst.specs.declared.cst.lexeme.Kind.{Kind}
-use Rattle.cedar_cst.specs.declared.cst.lexeme.Kind.TheVariants as K
-use Rattle.cedar_cst.specs.Kinds.{is, is_closing, begins}
-use Rattle.cedar_cst.specs.Trees.{Label, Forest, none, leaf, branch, yield}
-use Rattle.cedar_cst.specs.Grammar.{G}
-use Rattle.cedar_cst.specs.TokenKinds.{kind_of}
-use Rattle.cedar_cst.specs.TrailingCommas.{drop_if, plain, without_trailing}
-use Rattle.cedar_cst.specs.Texts.{greatest_depth, tokens}
+use Rattle.cedar_grammar.specs.Trees.{Label, Forest, none, leaf, branch, yield}
+use Rattle.cedar_grammar.specs.Grammar.{G}
+use Rattle.cedar_grammar.specs.TokenKinds.{kind_of}
+use Rattle.cedar_grammar.specs.TrailingCommas.{plain, without_trailing}
+use Rattle.cedar_grammar.specs.Texts.{greatest_depth, tokens}
+use Rattle.cedar_grammar.specs.Placed.{Placed, with_places, placed, kind_of_placed}
 use Rattle.cedar_cst.specs.Erased.{erase}
-use Rattle.cedar_cst.specs.NodeTrees.{Placed, with_places, placed, kind_of_placed, spanned}
+use Rattle.cedar_cst.specs.NodeTrees.{spanned}
 use Rattle.cedar_cst.specs.Laws.{TreeIsOfAccepted, NodesHaveThePlainTexts}
-use Rattle.cedar_cst.specs.Reader.Reading.{done}
-use Rattle.cedar_cst.specs.Reader.Lines.{set_to}
-use Rattle.cedar_cst.proofs.RuleMaps.{each, relabel, answer_of, set_agrees}
-use Rattle.cedar_cst.proofs.WholeLaws.{set_sound, set_complete}
-use Rattle.cedar_cst.proofs.PlainLaws.{plain_leaves}
-use Rattle.cedar_cst.proofs.TextKinds.{plain_texts_agree}
-
--- A change of leaves that keeps their kinds.
-module _ {A B : Type 0} (h : A → B) (kind : A → Kind) (kind' : B → Kind) (same : (a : A) → kind' (h a) ≡ kind a) where
-  pub relabel_yield : (f : Forest Label A) → yield (relabel h f) ≡ each h (yield f)
-  relabel_yield f = go f
-    where
-      each_append : (xs ys : List A) → each h (xs ++ ys) ≡ each h xs ++ each h ys
-      each_append [] ys = refl
-      each_append (x ∷ xs) ys = ap (λ z. h x ∷ z) (each_append xs ys)
-
-      go : (f : Forest Label A) → yield (relabel h f) ≡ each h (yield f)
-      go none = refl
-      go (leaf a f) = ap (λ z. h a ∷ z) (go f)
-      go (branch l f g) = ap (λ z. z ++ yield (relabel h g)) (go f) ∙ ap (λ z. each h (yield f) ++ z) (go g) ∙ sym (each_append (yield f) (yield g))
-
-  -- trees of the grammar stay such
-  pub relabelled : (d : ℕ) (f : Forest Label A) (ts : List A) → G kind d f ts → G kind' d (relabel h f) (each h ts)
-  relabelled d f ts g =
-      let e : set_to kind' d (each h (yield f)) ≡ done (relabel h f) [] = set_agrees h kind kind' same d (yield f) ∙ ap (answer_of h) (set_complete kind d f g.shape) in
-      record { shape = (set_sound kind' d (each h (yield f)) (relabel h f) [] e).among; leaves = relabel_yield f ∙ ap (each h) g.leaves }
-
-  pub begins_each : (p : Kind → Bool) (ts : List A) → begins kind' p (each h ts) ≡ begins kind p ts
-  begins_each p [] = refl
-  begins_each p (a ∷ ts) = ap p (same a)
-
-  -- trailing commas stay such
-  pub plain_each : (ts : List A) → plain kind' (each h ts) ≡ each h (plain kind ts)
-  plain_each [] = refl
-  plain_each (a ∷ ts) = ap (λ k. drop_if (is K.Comma k && begins kind' is_closing (each h ts)) (h a ∷ plain kind' (each h ts)) (plain kind' (each h ts))) (same a)
-      ∙ ap (λ b. drop_if (is K.Comma (kind a) && b) (h a ∷ plain kind' (each h ts)) (plain kind' (each h ts))) (begins_each is_closing ts)
-      ∙ ap (λ z. drop_if (is K.Comma (kind a) && begins kind is_closing ts) (h a ∷ z) z) (plain_each ts) ∙ moved (is K.Comma (kind a) && begins kind is_closing ts)
-    where
-      moved : (b : Bool) → drop_if b (h a ∷ each h (plain kind ts)) (each h (plain kind ts)) ≡ each h (drop_if b (a ∷ plain kind ts) (plain kind ts))
-      moved true = refl
-      moved false = refl
-
-pub each_map : {A B : Type 0} → (h : A → B) (ts : List A) → each h ts ≡ map h ts
-each_map h [] = refl
-each_map h (a ∷ ts) = ap (λ z. h a ∷ z) (each_map h ts)
+use Rattle.cedar_grammar.proofs.RuleMaps.{each, relabel}
+use Rattle.cedar_grammar.proofs.PlainLaws.{plain_leaves}
+use Rattle.cedar_grammar.proofs.TextKinds.{plain_texts_agree}
+use Rattle.cedar_grammar.proofs.Relabelling.{relabelled, plain_each, each_map, map_map}
+use Rattle.cedar_grammar.proofs.ListingTexts.{listing_texts}
 
 -- the tokens with their places are the tokens
 placed_texts : (units : List (List ℕ)) (p : ℕ) → each (λ (t : Placed). t.text) (with_places (tokens units) (token_spans p units)) ≡ tokens units
@@ -92,31 +50,6 @@ spanned_leaves none = refl
 spanned_leaves (leaf t f) = ap (λ z. token_value t.text ∷ z) (spanned_leaves f)
 spanned_leaves (branch l f g) = ap (λ z. z ++ yield (spanned (λ t. t.text) (λ t. t.span) g)) (spanned_leaves f) ∙ ap (λ z. map (λ (t : Placed). token_value t.text) (yield f) ++ z) (spanned_leaves g)
     ∙ sym (map_append (λ (t : Placed). token_value t.text) (yield f) (yield g))
-
--- the texts of the decorated list are the tokens
-gaps_tokens : (units : List (List ℕ)) → map (λ g. g.0) (gaps units).tokens ≡ tokens units
-unfolding gaps
-gaps_tokens [] = refl
-gaps_tokens (u ∷ us) = go (gaps_tokens us) (is_token u)
-  where
-    go : map (λ g. g.0) (gaps us).tokens ≡ tokens us → (b : Bool)
-        → (let z : Gaps = if b then record { first = []; tokens = (u, (gaps us).first) ∷ (gaps us).tokens } else record { first = u ++ (gaps us).first; tokens = (gaps us).tokens } in map (λ g. g.0) z.tokens)
-        ≡ (if b then u ∷ tokens us else tokens us)
-    go h true = ap (λ z. u ∷ z) h
-    go h false = h
-
-decorated_tokens : (leading : List ℕ) (ts : List (List ℕ × List ℕ)) → map (λ (t : Decorated). t.text) (decorate leading ts).tokens ≡ map (λ (g : List ℕ × List ℕ). g.0) ts
-unfolding decorate
-decorated_tokens leading [] = refl
-decorated_tokens leading (t ∷ ts) = ap (λ z. t.0 ∷ z) (decorated_tokens (after_newline t.1) ts)
-
-pub listing_texts : (units : List (List ℕ)) → map (λ t. t.text) (listing units).tokens ≡ tokens units
-unfolding listing
-listing_texts units = decorated_tokens (gaps units).first (gaps units).tokens ∙ gaps_tokens units
-
-pub map_map : {A B C : Type 0} → (g : B → C) (h : A → B) (xs : List A) → map g (map h xs) ≡ map (λ x. g (h x)) xs
-map_map g h [] = refl
-map_map g h (x ∷ xs) = ap (λ z. g (h x) ∷ z) (map_map g h xs)
 
 pub nodes_have_the_plain_texts : SplitIsUnique → NodesHaveThePlainTexts
 nodes_have_the_plain_texts unique text p l t is_list =

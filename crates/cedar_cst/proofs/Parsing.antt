@@ -8,29 +8,30 @@ use Rattle.cedar_tokens.specs.Split.{SplitsInto}
 use Rattle.cedar_tokens.specs.Places.{token_spans}
 use Rattle.cedar_tokens.specs.Listing.{token_value}
 use Rattle.cedar_tokens.specs.declared.token.Span.{Span}
-use Rattle.cedar_cst.specs.declared.cst.lexeme.Kind.{Kind}
-use Rattle.cedar_cst.specs.declared.cst.lexeme.Kind.TheVariants as K
+use Rattle.cedar_grammar.specs.declared.kind.Kind.{Kind}
+use Rattle.cedar_grammar.specs.declared.kind.Kind.TheVariants as K
 use Rattle.cedar_cst.specs.declared.cst.lexeme.Lexeme.{Lexeme}
 use Rattle.cedar_cst.specs.declared.cst.tree.Policies.{Policies}
-use Rattle.cedar_cst.specs.Kinds.{is, is_closing}
-use Rattle.cedar_cst.specs.Trees.{Label, Forest, none, leaf, branch, yield}
-use Rattle.cedar_cst.specs.Grammar.{G}
-use Rattle.cedar_cst.specs.TokenKinds.{kind_of}
-use Rattle.cedar_cst.specs.HopelessPlaces.{Hopeless, Unfinished}
-use Rattle.cedar_cst.specs.Numbers.{is_too_large}
-use Rattle.cedar_cst.specs.Texts.{greatest_depth, tokens, IsRefused}
-use Rattle.cedar_cst.specs.TrailingCommas.{drop_if, closes_next, without_trailing}
+use Rattle.cedar_grammar.specs.Kinds.{is, is_closing}
+use Rattle.cedar_grammar.specs.Trees.{Label, Forest, none, leaf, branch, yield}
+use Rattle.cedar_grammar.specs.Grammar.{G}
+use Rattle.cedar_grammar.specs.TokenKinds.{kind_of}
+use Rattle.cedar_grammar.specs.HopelessPlaces.{Hopeless, Unfinished}
+use Rattle.cedar_grammar.specs.Numbers.{is_too_large}
+use Rattle.cedar_grammar.specs.Texts.{greatest_depth, tokens, IsRefused}
+use Rattle.cedar_grammar.specs.TrailingCommas.{drop_if, closes_next, without_trailing}
 use Rattle.cedar_cst.specs.Erased.{erase}
-use Rattle.cedar_cst.specs.NodeTrees.{Placed, with_places, placed, kind_of_placed, is_node, end_of, span_of, spanned, IsTreeOf}
+use Rattle.cedar_cst.specs.NodeTrees.{is_node, end_of, span_of, spanned, IsTreeOf}
+use Rattle.cedar_grammar.specs.Placed.{Placed, with_places, placed, kind_of_placed}
 use Rattle.cedar_cst.specs.Lexemes.{AreLexemes, nodes_of}
-use Rattle.cedar_cst.specs.Reader.Reading.{Answer, done, stuck}
-use Rattle.cedar_cst.specs.Reader.Lines.{set_to}
-use Rattle.cedar_cst.proofs.RuleMaps.{each, relabel, answer_of, set_agrees}
-use Rattle.cedar_cst.proofs.WholeLaws.{set_sound, set_local}
-use Rattle.cedar_cst.proofs.Answers.{Says, says_of}
-use Rattle.cedar_cst.proofs.TextKinds.{samples}
-use Rattle.cedar_cst.proofs.TextLaws.{cuts, unit_cut}
-use Rattle.cedar_cst.proofs.NodeLaws.{relabelled, each_map}
+use Rattle.cedar_grammar.specs.Reader.Reading.{Answer, done, stuck}
+use Rattle.cedar_grammar.specs.Reader.Lines.{set_to}
+use Rattle.cedar_grammar.proofs.RuleMaps.{each, relabel, answer_of, set_agrees}
+use Rattle.cedar_grammar.proofs.WholeLaws.{set_sound, set_local}
+use Rattle.cedar_grammar.proofs.Answers.{Says, says_of}
+use Rattle.cedar_grammar.proofs.TextKinds.{samples}
+use Rattle.cedar_grammar.proofs.TextLaws.{cuts, unit_cut}
+use Rattle.cedar_grammar.proofs.Relabelling.{relabelled, each_map}
 
 -- A change of leaves and what depends on them.
 module _ {A B : Type 0} (h : A → B) where

@@ -13,7 +13,7 @@ use Rattle.std.proofs.lemmas.List.Sums.{sum_by-append}
 use Rattle.std.proofs.lemmas.List.Folds.{list_any-append}
 use Rattle.cedar_tokens.specs.Units.{FindsLongest, IsUnit, IsFirstUnit, BeginsNoUnit, is_number}
 use Rattle.cedar_tokens.specs.Split.{Scans, IsFirstFault}
-use Rattle.cedar_cst.specs.Numbers.{is_too_large, IsFirstTooLarge, HasFittingNumbers}
+use Rattle.cedar_grammar.specs.Numbers.{is_too_large, IsFirstTooLarge, HasFittingNumbers}
 
 -- where the first number above the limit begins, if one of the units is
 abbrev pub FindsLarge : List (List ℕ) → Option ℕ → Type 0

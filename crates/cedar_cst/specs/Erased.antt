@@ -27,7 +27,7 @@ use Rattle.cedar_cst.specs.declared.cst.tree.Add as Add
 use Rattle.cedar_cst.specs.declared.cst.tree.Mult as Mult
 use Rattle.cedar_cst.specs.declared.cst.tree.Unary as Unary
 use Rattle.cedar_cst.specs.declared.cst.tree.Member as Member
-use Rattle.cedar_cst.specs.Trees.{Label, Forest, none, leaf, branch, join}
+use Rattle.cedar_grammar.specs.Trees.{Label, Forest, none, leaf, branch, join}
 
 -- trees whose nodes have spans
 abbrev pub Erased : Type 0

@@ -4,11 +4,11 @@ use Rattle.std.specs.List.{list_any, AllByRecursion}
 use Rattle.cedar_tokens.specs.Split.{SplitsInto}
 use Rattle.cedar_tokens.specs.Places.{token_spans}
 use Rattle.cedar_cst.specs.declared.cst.lexeme.Lexeme.{Lexeme}
-use Rattle.cedar_cst.specs.Trees.{Label, Forest}
-use Rattle.cedar_cst.specs.TokenKinds.{kind_of}
-use Rattle.cedar_cst.specs.Numbers.{is_too_large}
-use Rattle.cedar_cst.specs.Texts.{tokens}
-use Rattle.cedar_cst.specs.TrailingCommas.{without_trailing}
+use Rattle.cedar_grammar.specs.Trees.{Label, Forest}
+use Rattle.cedar_grammar.specs.TokenKinds.{kind_of}
+use Rattle.cedar_grammar.specs.Numbers.{is_too_large}
+use Rattle.cedar_grammar.specs.Texts.{tokens}
+use Rattle.cedar_grammar.specs.TrailingCommas.{without_trailing}
 use Rattle.cedar_cst.specs.Erased.{Erased}
 use Rattle.cedar_cst.specs.NodeTrees.{spanned}
 

@@ -3,16 +3,14 @@ use Rattle.std.specs.Prelude.{◌≡◌, ℕ, Bool, true, false, List, [], ◌�
 use Rattle.std.specs.List.{list_any}
 use Rattle.cedar_tokens.specs.Split.{SplitsInto}
 use Rattle.cedar_tokens.specs.Listing.{token_value}
-use Rattle.cedar_tokens.specs.Places.{token_spans}
 use Rattle.cedar_tokens.specs.declared.token.Span.{Span}
-use Rattle.cedar_cst.specs.declared.cst.lexeme.Kind.{Kind}
 use Rattle.cedar_cst.specs.declared.cst.tree.Policies.{Policies}
-use Rattle.cedar_cst.specs.Trees.{Label, Forest, none, leaf, branch, yield}
-use Rattle.cedar_cst.specs.Grammar.{G}
-use Rattle.cedar_cst.specs.TokenKinds.{kind_of}
-use Rattle.cedar_cst.specs.Numbers.{is_too_large}
-use Rattle.cedar_cst.specs.Texts.{greatest_depth, tokens}
-use Rattle.cedar_cst.specs.TrailingCommas.{without_trailing}
+use Rattle.cedar_grammar.specs.Trees.{Label, Forest, none, leaf, branch, yield}
+use Rattle.cedar_grammar.specs.Grammar.{G}
+use Rattle.cedar_grammar.specs.Numbers.{is_too_large}
+use Rattle.cedar_grammar.specs.Texts.{greatest_depth}
+use Rattle.cedar_grammar.specs.Placed.{Placed, placed, kind_of_placed}
+use Rattle.cedar_grammar.specs.TrailingCommas.{without_trailing}
 use Rattle.cedar_cst.specs.Erased.{Erased, erase}
 
 -- whether trees of this label are nodes of the Rust types, which have spans
@@ -45,22 +43,6 @@ module _ {A : Type 0} (text : A → List ℕ) (place : A → Span) where
   spanned none = none
   spanned (leaf t f) = leaf (token_value (text t)) (spanned f)
   spanned (branch l f g) = branch (l, if is_node l then span_of (yield f) else None) (spanned f) (spanned g)
-
--- a token's text and its place
-pub record Placed : Type 0 where
-  pub text : List ℕ
-  pub span : Span
-
-abbrev pub with_places : List (List ℕ) → List Span → List Placed
-with_places (t ∷ ts) (s ∷ ss) = record { text = t; span = s } ∷ with_places ts ss
-with_places ts ss = []
-
--- the tokens of a text that has these units, with their places
-abbrev pub placed : List (List ℕ) → List Placed
-placed units = with_places (tokens units) (token_spans 0 units)
-
-abbrev pub kind_of_placed : Placed → Kind
-kind_of_placed t = kind_of t.text
 
 -- the text is accepted, and its tree without trailing commas is that of the policies, with all spans
 pub record IsTreeOf (text : List ℕ) (policies : Policies) : Type 0 where

@@ -4,8 +4,8 @@ use Rattle.cedar_tokens.specs.Split.{IsFirstFault, fault_kind}
 use Rattle.cedar_tokens.specs.declared.lexer.LexFaultKind.TheVariants as Fault
 use Rattle.cedar_cst.specs.declared.cst.error.FormatError.{FormatError}
 use Rattle.cedar_cst.specs.declared.cst.error.FormatError.TheVariants.{UnknownCharacter, UnfinishedString, NumberTooLarge, Grammar, TooDeep, NoDocument, Unsound, OutOfMemory}
-use Rattle.cedar_cst.specs.Numbers.{IsFirstTooLarge, HasFittingNumbers}
-use Rattle.cedar_cst.specs.Texts.{IsRefused}
+use Rattle.cedar_grammar.specs.Numbers.{IsFirstTooLarge, HasFittingNumbers}
+use Rattle.cedar_grammar.specs.Texts.{IsRefused}
 
 -- why the text's tokens are refused before the grammar is asked: its first fault; or else its first number above the limit
 abbrev pub RefusesTokens : List ℕ → FormatError → Type 0

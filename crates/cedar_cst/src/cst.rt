@@ -1,6 +1,6 @@
 //! Trees of policies, and the parser.
 ghost use Rattle.std.specs.Prelude.{MatchResult};
-ghost use Rattle.cedar_cst.specs.Numbers.{HasFittingNumbers};
+ghost use Rattle.cedar_grammar.specs.Numbers.{HasFittingNumbers};
 ghost use Rattle.cedar_cst.specs.Refusals.{RefusesInOrder};
 
 mod compare;

@@ -8,18 +8,19 @@ use Rattle.cedar_tokens.specs.Listing.{Decorated, Listing, token_value, without_
 use Rattle.cedar_tokens.proofs.Prefixes.{and_parts}
 use Rattle.cedar_tokens.proofs.Scanning.{split_unique}
 use Rattle.cedar_tokens.proofs.Longest.{is_token-number}
-use Rattle.cedar_cst.specs.declared.cst.lexeme.Kind.TheVariants as K
-use Rattle.cedar_cst.specs.Kinds.{is, is_closing, begins}
-use Rattle.cedar_cst.specs.TokenKinds.{kind_of}
-use Rattle.cedar_cst.specs.Grammar.{G}
-use Rattle.cedar_cst.specs.Laws.{kind_of_decorated}
-use Rattle.cedar_cst.specs.Numbers.{is_too_large}
-use Rattle.cedar_cst.specs.Texts.{greatest_depth, tokens}
-use Rattle.cedar_cst.specs.TrailingCommas.{drop_if, plain}
-use Rattle.cedar_cst.specs.TypedTrees.{set_tree}
-use Rattle.cedar_cst.proofs.RuleMaps.{each, relabel}
-use Rattle.cedar_cst.proofs.TextKinds.{plain_texts_agree}
-use Rattle.cedar_cst.proofs.NodeLaws.{relabelled, listing_texts, each_map}
+use Rattle.cedar_grammar.specs.declared.kind.Kind.TheVariants as K
+use Rattle.cedar_grammar.specs.Kinds.{is, is_closing, begins}
+use Rattle.cedar_grammar.specs.TokenKinds.{kind_of}
+use Rattle.cedar_grammar.specs.Grammar.{G}
+use Rattle.cedar_grammar.specs.Laws.{kind_of_decorated}
+use Rattle.cedar_grammar.specs.Numbers.{is_too_large}
+use Rattle.cedar_grammar.specs.Texts.{greatest_depth, tokens}
+use Rattle.cedar_grammar.specs.TrailingCommas.{drop_if, plain}
+use Rattle.cedar_grammar.specs.TypedTrees.{set_tree}
+use Rattle.cedar_grammar.proofs.RuleMaps.{each, relabel}
+use Rattle.cedar_grammar.proofs.TextKinds.{plain_texts_agree}
+use Rattle.cedar_grammar.proofs.Relabelling.{relabelled, each_map}
+use Rattle.cedar_grammar.proofs.ListingTexts.{listing_texts}
 use Rattle.cedar_documents.specs.Leaves.{part_map}
 use Rattle.cedar_documents.specs.Output.{with_value, tokens_of}
 use Rattle.cedar_documents.specs.Canonical.{OutputIsAccepted}

@@ -7,12 +7,12 @@ use Rattle.cedar_tokens.specs.Listing.{Decorated, IsListing, listing, gaps, deco
 use Rattle.cedar_tokens.specs.Split.{SplitsInto}
 use Rattle.cedar_tokens.proofs.CommentLines.{comments_nil}
 use Rattle.cedar_tokens.proofs.Scanning.{split_unique}
-use Rattle.cedar_cst.specs.TypedTrees.{Clause, policy, part_yield}
+use Rattle.cedar_grammar.specs.TypedTrees.{Clause, policy, part_yield}
 use Rattle.cedar_documents.specs.Table.{part_table}
 use Rattle.cedar_documents.specs.Fit.{PartFit}
 use Rattle.cedar_documents.specs.Gaps.{Spelled}
 use Rattle.cedar_documents.specs.Good.{IsGood, IsLine}
-use Rattle.cedar_documents.specs.Cleaning.{IsCleaned}
+use Rattle.cedar_layout.specs.Cleaning.{IsCleaned}
 use Rattle.cedar_documents.specs.Output.{join, closing_text, PolicyTexts, IsSomeLayout, with_value, tokens_of, EveryLayoutReadsBack}
 use Rattle.cedar_documents.proofs.Units.{comment_first}
 use Rattle.cedar_documents.proofs.Scanned.{scans_unit}

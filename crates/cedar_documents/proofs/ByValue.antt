@@ -4,7 +4,7 @@ use Rattle.std.specs.Prelude.{pos, if◌then◌else◌}
 use Rattle.std.proofs.lemmas.List.{map-append}
 use Rattle.cedar_tokens.specs.Listing.{Decorated}
 use Rattle.cedar_layout.specs.Layout.{Doc, nil, line, line_or_nil, hard, text, ◌·◌, nest, group}
-use Rattle.cedar_cst.specs.TypedTrees.{Tree, NodeKind, PartKind, Clause, name, accesses, variable, yield, conds, policy, name_one, name_more, ref_of, args_one, args_more, init_of, inits_one, inits_more, literal, slot, reference, named, parens, list_empty, list_of, record_empty, record_of, no_access, field, call_empty, call, index, member_of, unsigned, signed, products_one, products_more, mult_of, sums_one, sums_more, add_of, single, compare, has_or_like, is_type, is_in, ands_one, ands_more, ors_one, ors_more, plain_expr, if_expr, variable_bare, variable_is, variable_op, variable_is_op, cond_of, no_cond, conds_more, annotation_bare, annotation_value, no_annotation, annotations_more, policy_of, part_yield, tree_map}
+use Rattle.cedar_grammar.specs.TypedTrees.{Tree, NodeKind, PartKind, Clause, name, accesses, variable, yield, conds, policy, name_one, name_more, ref_of, args_one, args_more, init_of, inits_one, inits_more, literal, slot, reference, named, parens, list_empty, list_of, record_empty, record_of, no_access, field, call_empty, call, index, member_of, unsigned, signed, products_one, products_more, mult_of, sums_one, sums_more, add_of, single, compare, has_or_like, is_type, is_in, ands_one, ands_more, ors_one, ors_more, plain_expr, if_expr, variable_bare, variable_is, variable_op, variable_is_op, cond_of, no_cond, conds_more, annotation_bare, annotation_value, no_annotation, annotations_more, policy_of, part_yield, tree_map}
 use Rattle.cedar_documents.specs.Leaves.{part_map}
 use Rattle.cedar_documents.specs.Table.{space, leaf, C, lead, tok, trail, lead_of, table, part_table, break_after_field, break_after_other, between_conds, is_bare, type_part, lines_of_first, unled}
 use Rattle.cedar_documents.specs.Output.{with_value, tokens_of}

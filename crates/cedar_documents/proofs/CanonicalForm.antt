@@ -7,11 +7,11 @@ use Rattle.cedar_layout.proofs.Rule.{laid_is_the_layout}
 use Rattle.cedar_tokens.specs.Listing.{Decorated, Listing, IsListing, listing, EqualByValue, by_value}
 use Rattle.cedar_tokens.specs.PlainList.{plain_list}
 use Rattle.cedar_tokens.proofs.Scanning.{listing_unique}
-use Rattle.cedar_cst.specs.TypedTrees.{Clause, policy, part_yield}
+use Rattle.cedar_grammar.specs.TypedTrees.{Clause, policy, part_yield}
 use Rattle.cedar_documents.specs.Leaves.{part_map}
 use Rattle.cedar_documents.specs.Table.{part_table}
 use Rattle.cedar_documents.specs.Good.{IsGood}
-use Rattle.cedar_documents.specs.Cleaning.{IsCleaned}
+use Rattle.cedar_layout.specs.Cleaning.{IsCleaned}
 use Rattle.cedar_documents.specs.Output.{join, closing_text, PolicyTexts, IsOutput, IsSomeLayout, with_value, tokens_of}
 use Rattle.cedar_documents.specs.Canonical.{DocumentsGoByValue, OutputExists, OutputsGoByValue, OutputEndsInLineFeed, PolicyHasNoBlankLine, plain_listing, IsOutputOf, TextsReadBack, AcceptedHasOutput, OutputHasTheList, OutputsTellLists, OutputIsItsOwn, OutputHasTheTrees}
 use Rattle.cedar_documents.proofs.Values.{values_equal}

@@ -5,7 +5,7 @@ use Rattle.std.specs.Str.{trim, IsUtf8}
 use Rattle.cedar_tokens.specs.Split.{SplitsInto}
 use Rattle.cedar_tokens.specs.Listing.{listing}
 use Rattle.cedar_tokens.proofs.Scanning.{split_unique}
-use Rattle.cedar_documents.specs.Cleaning.{Cut, IsCleaned}
+use Rattle.cedar_layout.specs.Cleaning.{Cut, IsCleaned}
 use Rattle.cedar_documents.specs.CleaningLaws.{Thinned, no_units, unit_stays, blank_goes, with_last_trimmed, NoBlankLine, CleaningKeepsTheList, CleaningTakesBlanks, CleaningLeavesNoBlankLine}
 use Rattle.cedar_documents.proofs.Tidying.{AllBlank, lined, lined_append, is_feed, blank_not_solid, feed_not_solid, thinned_twice}
 use Rattle.cedar_documents.proofs.Cleaned.{cut_cleans}

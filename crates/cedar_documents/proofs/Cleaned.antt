@@ -14,7 +14,7 @@ use Rattle.cedar_tokens.proofs.Heads.{class, class-blank, word, number, string, 
 use Rattle.cedar_tokens.proofs.Longest.{clash, is_token-string}
 use Rattle.cedar_tokens.proofs.FirstUnit.{comment_parts, token_class, unit_nonempty, all_more}
 use Rattle.cedar_documents.specs.CleaningLaws.{is_solid, Thinned}
-use Rattle.cedar_documents.specs.Cleaning.{IsKept, NoneBegins, Cut, last_piece, more_pieces, clean_piece}
+use Rattle.cedar_layout.specs.Cleaning.{IsKept, NoneBegins, Cut, last_piece, more_pieces, clean_piece}
 use Rattle.cedar_documents.proofs.Units.{Past, past, next_passes, no_slashes, punctuators_no_slashes}
 use Rattle.cedar_documents.proofs.Scanned.{scans_concat, begins_within, token_no_feed, string_class}
 use Rattle.cedar_documents.proofs.Tidying.{Parted, concat_append, parted_parts, feedless, lacks, blank_is_byte, Plain, AllPlain, in_line, lined, lined_append, token_solid, comment_solid, thinned_same, thinned_append, thinned_twice}

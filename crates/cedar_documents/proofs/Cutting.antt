@@ -10,7 +10,7 @@ use Rattle.cedar_tokens.proofs.Prefixes.{or_cases, and_parts, same_head, longest
 use Rattle.cedar_tokens.proofs.Strings.{string_end, finds}
 use Rattle.cedar_tokens.proofs.Longest.{comment_finds, no_comment_finds}
 use Rattle.cedar_tokens.proofs.FirstUnit.{comment_parts}
-use Rattle.cedar_documents.specs.Cleaning.{IsKept, NoneBegins, Cut, last_piece, more_pieces, clean_piece, IsCleaned}
+use Rattle.cedar_layout.specs.Cleaning.{IsKept, NoneBegins, Cut, last_piece, more_pieces, clean_piece, IsCleaned}
 use Rattle.cedar_documents.specs.CleaningLaws.{CleaningIsUnique, EveryTextIsCleaned}
 
 -- ---- one way

@@ -10,23 +10,24 @@ use Rattle.cedar_tokens.specs.Listing.{Decorated, Listing, token_value, without_
 use Rattle.cedar_tokens.specs.PlainList.{plain_list, plain_from}
 use Rattle.cedar_tokens.proofs.Prefixes.{and_parts}
 use Rattle.cedar_tokens.proofs.Scanning.{split_unique}
-use Rattle.cedar_cst.specs.declared.cst.lexeme.Kind.{Kind}
-use Rattle.cedar_cst.specs.declared.cst.lexeme.Kind.TheVariants as K
-use Rattle.cedar_cst.specs.Kinds.{is, is_closing, begins}
-use Rattle.cedar_cst.specs.TokenKinds.{Fixed, fixed_tokens, other_kind, kind_among, kind_of}
-use Rattle.cedar_cst.specs.Trees.{Label, Forest, yield}
-use Rattle.cedar_cst.specs.Grammar.{G, PolicySet}
-use Rattle.cedar_cst.specs.Laws.{kind_of_decorated}
-use Rattle.cedar_cst.specs.Texts.{greatest_depth, tokens}
-use Rattle.cedar_cst.specs.TrailingCommas.{drop_if, plain, without_trailing}
-use Rattle.cedar_cst.specs.TypedTrees.{Clause, policy, set_tree}
-use Rattle.cedar_cst.specs.Reader.Reading.{Answer, done, stuck}
-use Rattle.cedar_cst.specs.Reader.Lines.{set_to}
-use Rattle.cedar_cst.proofs.RuleMaps.{each, relabel, answer_of, set_agrees}
-use Rattle.cedar_cst.proofs.WholeLaws.{set_sound, set_complete}
-use Rattle.cedar_cst.proofs.TreeLaws.{list_has_one_tree, leaves_are_plain, every_tree_is_typed, typed_tree_is_unique, typed_leaves_agree}
-use Rattle.cedar_cst.proofs.TextKinds.{trailing_agrees, plain_texts_agree}
-use Rattle.cedar_cst.proofs.NodeLaws.{relabelled, plain_each, listing_texts, each_map}
+use Rattle.cedar_grammar.specs.declared.kind.Kind.{Kind}
+use Rattle.cedar_grammar.specs.declared.kind.Kind.TheVariants as K
+use Rattle.cedar_grammar.specs.Kinds.{is, is_closing, begins}
+use Rattle.cedar_grammar.specs.TokenKinds.{Fixed, fixed_tokens, other_kind, kind_among, kind_of}
+use Rattle.cedar_grammar.specs.Trees.{Label, Forest, yield}
+use Rattle.cedar_grammar.specs.Grammar.{G, PolicySet}
+use Rattle.cedar_grammar.specs.Laws.{kind_of_decorated}
+use Rattle.cedar_grammar.specs.Texts.{greatest_depth, tokens}
+use Rattle.cedar_grammar.specs.TrailingCommas.{drop_if, plain, without_trailing}
+use Rattle.cedar_grammar.specs.TypedTrees.{Clause, policy, set_tree}
+use Rattle.cedar_grammar.specs.Reader.Reading.{Answer, done, stuck}
+use Rattle.cedar_grammar.specs.Reader.Lines.{set_to}
+use Rattle.cedar_grammar.proofs.RuleMaps.{each, relabel, answer_of, set_agrees}
+use Rattle.cedar_grammar.proofs.WholeLaws.{set_sound, set_complete}
+use Rattle.cedar_grammar.proofs.TreeLaws.{list_has_one_tree, leaves_are_plain, every_tree_is_typed, typed_tree_is_unique, typed_leaves_agree}
+use Rattle.cedar_grammar.proofs.TextKinds.{trailing_agrees, plain_texts_agree}
+use Rattle.cedar_grammar.proofs.Relabelling.{relabelled, plain_each, each_map}
+use Rattle.cedar_grammar.proofs.ListingTexts.{listing_texts}
 use Rattle.cedar_documents.specs.Leaves.{part_map}
 use Rattle.cedar_documents.specs.Output.{with_value, tokens_of}
 use Rattle.cedar_documents.specs.GrammarTrees.{IsTree, AcceptedHasTree, ListHasOneTree, TreeFits}
@@ -34,12 +35,12 @@ use Rattle.cedar_documents.proofs.Listed.{number_value, value_token}
 use Rattle.cedar_documents.proofs.ByValue.{tokens_map}
 use Rattle.cedar_documents.proofs.GoodLists.{every_list_good, plain_list_good}
 use Rattle.cedar_documents.proofs.FittingTrees.{AllTokens, policies_fit}
-use Rattle.cedar_cst.proofs.FittingLeaves.{PartFits}
-use Rattle.cedar_cst.proofs.TypedPolicies.{typed_set}
+use Rattle.cedar_grammar.proofs.FittingLeaves.{PartFits}
+use Rattle.cedar_grammar.proofs.TypedPolicies.{typed_set}
 use Rattle.cedar_documents.specs.Good.{IsGood}
 use Rattle.std.specs.List.{AllByRecursion}
-use Rattle.cedar_cst.proofs.PlainGrammar.{plain_is_in_the_grammar}
-use Rattle.cedar_cst.proofs.CommaPairs.{plain_is_plain}
+use Rattle.cedar_grammar.proofs.PlainGrammar.{plain_is_in_the_grammar}
+use Rattle.cedar_grammar.proofs.CommaPairs.{plain_is_plain}
 use Rattle.cedar_documents.proofs.Relabelled.{set_tree_map, without_map}
 
 -- ---- kinds of values

@@ -4,7 +4,7 @@ use Rattle.std.specs.Prelude.{⊤}
 use Rattle.cedar_tokens.specs.Listing.{Decorated}
 use Rattle.cedar_layout.specs.Layout.{Doc, nil, ◌·◌, group_then, atoms}
 use Rattle.cedar_layout.proofs.Values.{atoms-dot}
-use Rattle.cedar_cst.specs.TypedTrees.{Tree, NodeKind, accesses, yield, name_one, name_more, ref_of, args_one, args_more, init_of, inits_one, inits_more, literal, slot, reference, named, parens, list_empty, list_of, record_empty, record_of, no_access, field, call_empty, call, index, member_of, unsigned, signed, products_one, products_more, mult_of, sums_one, sums_more, add_of, single, compare, has_or_like, is_type, is_in, ands_one, ands_more, ors_one, ors_more, plain_expr, if_expr}
+use Rattle.cedar_grammar.specs.TypedTrees.{Tree, NodeKind, accesses, yield, name_one, name_more, ref_of, args_one, args_more, init_of, inits_one, inits_more, literal, slot, reference, named, parens, list_empty, list_of, record_empty, record_of, no_access, field, call_empty, call, index, member_of, unsigned, signed, products_one, products_more, mult_of, sums_one, sums_more, add_of, single, compare, has_or_like, is_type, is_in, ands_one, ands_more, ors_one, ors_more, plain_expr, if_expr}
 use Rattle.cedar_documents.specs.Table.{table, leaf, lead_of, bare_token, unled, lines_of_first}
 
 abbrev pub NonEmpty : List Decorated → Type 0

@@ -8,7 +8,7 @@ use Rattle.cedar_layout.proofs.Atoms.{pieces_are_made}
 use Rattle.cedar_documents.specs.Neighbours.{first_or}
 use Rattle.cedar_documents.specs.Fit.{Opens, Ends, IsMark, Fit, PartFit}
 use Rattle.cedar_documents.proofs.Weave.{Weave, done, w_space, w_line, w_hard}
-use Rattle.cedar_cst.specs.TypedTrees.{Tree, expr, Clause, variable, cond as a_cond, conds, annotation, annotations, policy, yield, part_yield, variable_bare, variable_is, variable_op, variable_is_op, cond_of, no_cond, conds_more, annotation_bare, annotation_value, no_annotation, annotations_more, policy_of}
+use Rattle.cedar_grammar.specs.TypedTrees.{Tree, expr, Clause, variable, cond as a_cond, conds, annotation, annotations, policy, yield, part_yield, variable_bare, variable_is, variable_op, variable_is_op, cond_of, no_cond, conds_more, annotation_bare, annotation_value, no_annotation, annotations_more, policy_of}
 use Rattle.cedar_documents.specs.Table.{table, part_table, C, lead_of, space, between_conds, unled, lines_of_first, is_bare}
 use Rattle.cedar_documents.specs.Gaps.{Spelled}
 use Rattle.cedar_documents.proofs.Weaving.{Run, run_then, run_last, nest_run, group_run, grouped, nested, run_as, line_then, just, mark, operator, weave, blank_opens, blank_apart, word_token, token_then_blank, opening_paren, closing_paren, closing_brace, opens_at_paren, and_false}

@@ -8,7 +8,8 @@ use Rattle.cedar_tokens.specs.Split.{Scans, SplitsInto}
 use Rattle.cedar_tokens.specs.Listing.{Decorated, IsListing, gaps, decorate, listing, comments, before_newline, after_newline, token_value}
 use Rattle.cedar_tokens.proofs.CommentLines.{comments_nil, comments_skip}
 use Rattle.cedar_tokens.proofs.Heads.{no_empty_token}
-use Rattle.cedar_documents.specs.Neighbours.{glues, first_or, last_or}
+use Rattle.cedar_documents.specs.Neighbours.{glues, first_or}
+use Rattle.cedar_layout.specs.Cleaning.{last_or}
 use Rattle.cedar_documents.specs.Fit.{after_of}
 use Rattle.cedar_documents.specs.Gaps.{Blanks, no_blank, a_space, a_feed, Lines, no_line, a_comment, Front, bare, led, back, Spelled, the_end, a_token}
 use Rattle.cedar_documents.specs.Good.{IsGood, IsLine, IsTrailing}

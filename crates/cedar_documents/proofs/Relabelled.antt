@@ -1,14 +1,14 @@
 -- Typed trees with other leaves of the same kinds.
 use Rattle.std.proofs.Common.{◌≡◌, Bool, true, false, List, [], ◌∷◌, map, refl, ap, sym, ◌∙◌}
 use Rattle.std.specs.Prelude.{◌&&◌}
-use Rattle.cedar_cst.specs.declared.cst.lexeme.Kind.{Kind}
-use Rattle.cedar_cst.specs.declared.cst.lexeme.Kind.TheVariants as K
-use Rattle.cedar_cst.specs.Kinds.{is, is_closing}
-use Rattle.cedar_cst.specs.Trees.{Label, Forest, none, leaf, branch, join}
-use Rattle.cedar_cst.specs.Trees as L
-use Rattle.cedar_cst.specs.TrailingCommas.{drop_if, closes_next, without_trailing}
-use Rattle.cedar_cst.specs.TypedTrees.{Tree, NodeKind, PartKind, Clause, policy, name_one, name_more, ref_of, args_one, args_more, init_of, inits_one, inits_more, literal, slot, reference, named, parens, list_empty, list_of, record_empty, record_of, no_access, field, call_empty, call, index, member_of, unsigned, signed, products_one, products_more, mult_of, sums_one, sums_more, add_of, single, compare, has_or_like, is_type, is_in, ands_one, ands_more, ors_one, ors_more, plain_expr, if_expr, variable_bare, variable_is, variable_op, variable_is_op, cond_of, no_cond, conds_more, annotation_bare, annotation_value, no_annotation, annotations_more, policy_of, tree_map, parts, part_parts, policy_trees, set_tree, literal_label}
-use Rattle.cedar_cst.proofs.RuleMaps.{relabel, relabel_join}
+use Rattle.cedar_grammar.specs.declared.kind.Kind.{Kind}
+use Rattle.cedar_grammar.specs.declared.kind.Kind.TheVariants as K
+use Rattle.cedar_grammar.specs.Kinds.{is, is_closing}
+use Rattle.cedar_grammar.specs.Trees.{Label, Forest, none, leaf, branch, join}
+use Rattle.cedar_grammar.specs.Trees as L
+use Rattle.cedar_grammar.specs.TrailingCommas.{drop_if, closes_next, without_trailing}
+use Rattle.cedar_grammar.specs.TypedTrees.{Tree, NodeKind, PartKind, Clause, policy, name_one, name_more, ref_of, args_one, args_more, init_of, inits_one, inits_more, literal, slot, reference, named, parens, list_empty, list_of, record_empty, record_of, no_access, field, call_empty, call, index, member_of, unsigned, signed, products_one, products_more, mult_of, sums_one, sums_more, add_of, single, compare, has_or_like, is_type, is_in, ands_one, ands_more, ors_one, ors_more, plain_expr, if_expr, variable_bare, variable_is, variable_op, variable_is_op, cond_of, no_cond, conds_more, annotation_bare, annotation_value, no_annotation, annotations_more, policy_of, tree_map, parts, part_parts, policy_trees, set_tree, literal_label}
+use Rattle.cedar_grammar.proofs.RuleMaps.{relabel, relabel_join}
 use Rattle.cedar_documents.specs.Leaves.{part_map}
 
 module _ {A B : Type 0} (h : A → B) (kind : A → Kind) (kind' : B → Kind) (same : (a : A) → kind' (h a) ≡ kind a) where

@@ -12,7 +12,7 @@ use Rattle.cedar_tokens.specs.Units.{slots, punctuators}
 use Rattle.cedar_tokens.specs.Listing.{Decorated, listing, gaps, decorate, comments, lines, comment_of_line, without_zeros}
 use Rattle.cedar_tokens.specs.PlainList.{plain_list}
 use Rattle.cedar_tokens.proofs.Strings.{string_end}
-use Rattle.cedar_cst.specs.TypedTrees.{Tree, Clause, member, add, relation, expr, conds, policy, name_one, args_one, literal, named, list_of, no_access, call, member_of, unsigned, products_one, mult_of, sums_one, add_of, single, compare, ands_one, ors_one, plain_expr, variable_bare, cond_of, no_cond, conds_more, no_annotation, policy_of}
+use Rattle.cedar_grammar.specs.TypedTrees.{Tree, Clause, member, add, relation, expr, conds, policy, name_one, args_one, literal, named, list_of, no_access, call, member_of, unsigned, products_one, mult_of, sums_one, add_of, single, compare, ands_one, ors_one, plain_expr, variable_bare, cond_of, no_cond, conds_more, no_annotation, policy_of}
 use Rattle.cedar_documents.specs.Table.{part_table}
 use Rattle.cedar_documents.specs.Output.{join, closing_text, PolicyTexts, IsOutput, tokens_of}
 use Rattle.cedar_documents.proofs.Cutting.{cleaned_text, text_is_cleaned}

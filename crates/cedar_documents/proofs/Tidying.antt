@@ -17,9 +17,9 @@ use Rattle.cedar_tokens.proofs.CommentLines.{comments_nil, comments_skip}
 use Rattle.cedar_tokens.proofs.Prefixes.{and_parts, or_right}
 use Rattle.cedar_tokens.proofs.Heads.{class, class-white, class-blank, class-high, token_of, no_empty_token}
 use Rattle.cedar_tokens.proofs.FirstUnit.{comment_parts, token_class, no_both_blank, all_more}
-use Rattle.cedar_documents.specs.Neighbours.{last_or}
+use Rattle.cedar_layout.specs.Cleaning.{last_or}
 use Rattle.cedar_documents.specs.CleaningLaws.{is_solid, Thinned, no_units, unit_stays, blank_goes}
-use Rattle.cedar_documents.specs.Cleaning.{piece_lines, is_blank_line, without_blank_lines, clean_lines, clean_piece}
+use Rattle.cedar_layout.specs.Cleaning.{piece_lines, is_blank_line, without_blank_lines, clean_lines, clean_piece}
 use Rattle.cedar_documents.proofs.Scanned.{scans_unit, first_within, splits_join}
 use Rattle.cedar_documents.proofs.Joined.{listing_join}
 use Rattle.cedar_documents.specs.Joining.{follow}

@@ -11,7 +11,8 @@ use Rattle.cedar_tokens.proofs.Heads.{class, class-blank, word, number, string, 
 use Rattle.cedar_tokens.proofs.Strings.{string_end, complete}
 use Rattle.cedar_tokens.proofs.Longest.{clash, slot_is}
 use Rattle.cedar_tokens.proofs.FirstUnit.{comment_parts, token_class, no_empty_blank}
-use Rattle.cedar_documents.specs.Neighbours.{glues, last_or}
+use Rattle.cedar_documents.specs.Neighbours.{glues}
+use Rattle.cedar_layout.specs.Cleaning.{last_or}
 
 -- what stands at the start of w ++ r stands within w, or goes on behind it
 pub record Past (w r v : List ℕ) : Type 0 where

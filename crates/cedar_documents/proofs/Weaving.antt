@@ -2,11 +2,12 @@ use Rattle.std.proofs.Common.{◌≡◌, ℕ, ℤ, List, [], ◌∷◌, ◌++◌
 use Rattle.cedar_tokens.specs.Listing.{Decorated, token_value}
 use Rattle.cedar_layout.specs.Layout.{Doc, nil, text_then, line_then as d_line_then, line_or_nil_then as d_line_or_nil_then, nest_then, group_then, line, ◌·◌, Atom, word, must_break, atoms}
 use Rattle.cedar_layout.proofs.Values.{atoms-dot}
-use Rattle.cedar_documents.specs.Neighbours.{glues, first_or, last_or}
+use Rattle.cedar_documents.specs.Neighbours.{glues, first_or}
+use Rattle.cedar_layout.specs.Cleaning.{last_or}
 use Rattle.cedar_documents.specs.Fit.{before_of, after_of, Opens, Ends, IsMark, IsWord, Fit}
 use Rattle.cedar_documents.proofs.Weave.{Weave, done, w_space, w_line, w_line_or_nil, w_hard, w_token, lead_atoms, line_atoms, trail_atoms}
 use Rattle.std.specs.Prelude.{codes, ◌==◌}
-use Rattle.cedar_cst.specs.TypedTrees.{Tree, NodeKind, accesses, yield, name_one, name_more, ref_of, args_one, args_more, init_of, inits_one, inits_more, literal, slot, reference, named, parens, list_empty, list_of, record_empty, record_of, no_access, field, call_empty, call, index, member_of, unsigned, signed, products_one, products_more, mult_of, sums_one, sums_more, add_of, single, compare, has_or_like, is_type, is_in, ands_one, ands_more, ors_one, ors_more, plain_expr, if_expr}
+use Rattle.cedar_grammar.specs.TypedTrees.{Tree, NodeKind, accesses, yield, name_one, name_more, ref_of, args_one, args_more, init_of, inits_one, inits_more, literal, slot, reference, named, parens, list_empty, list_of, record_empty, record_of, no_access, field, call_empty, call, index, member_of, unsigned, signed, products_one, products_more, mult_of, sums_one, sums_more, add_of, single, compare, has_or_like, is_type, is_in, ands_one, ands_more, ors_one, ors_more, plain_expr, if_expr}
 use Rattle.cedar_documents.specs.Table.{table, leaf, C, lead_of, trail_of, lines, break_after_field, break_after_other}
 
 pub weave_append : {c d e : ℕ} {ts us : List Decorated} {xs ys : List Atom} → Weave c ts xs d → Weave d us ys e → Weave c (ts ++ us) (xs ++ ys) e

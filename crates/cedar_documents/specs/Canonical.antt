@@ -6,14 +6,14 @@ use Rattle.cedar_layout.specs.Layout.{Choice, text_of_choice, IsTheLayoutAt}
 use Rattle.cedar_tokens.specs.Split.{SplitsInto}
 use Rattle.cedar_tokens.specs.Listing.{Decorated, Listing, IsListing, EqualByValue}
 use Rattle.cedar_tokens.specs.PlainList.{plain_list}
-use Rattle.cedar_cst.specs.TypedTrees.{Clause, policy, part_yield}
+use Rattle.cedar_grammar.specs.TypedTrees.{Clause, policy, part_yield}
 use Rattle.cedar_documents.specs.Leaves.{part_map}
 use Rattle.cedar_documents.specs.Table.{part_table}
 use Rattle.cedar_documents.specs.Fit.{PartFit}
 use Rattle.cedar_documents.specs.Good.{IsGood}
-use Rattle.cedar_documents.specs.Cleaning.{IsCleaned}
+use Rattle.cedar_layout.specs.Cleaning.{IsCleaned}
 use Rattle.cedar_documents.specs.CleaningLaws.{NoBlankLine}
-use Rattle.cedar_cst.specs.Texts.{Accepted}
+use Rattle.cedar_grammar.specs.Texts.{Accepted}
 use Rattle.cedar_documents.specs.GrammarTrees.{IsTree}
 use Rattle.cedar_documents.specs.Output.{IsOutput, IsSomeLayout, with_value, tokens_of}
 

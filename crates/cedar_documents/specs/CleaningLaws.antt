@@ -5,7 +5,7 @@ use Rattle.std.specs.Str.{trim, IsUtf8}
 use Rattle.cedar_tokens.specs.Units.{IsBlank, is_token, is_comment}
 use Rattle.cedar_tokens.specs.Split.{SplitsInto, Splits}
 use Rattle.cedar_tokens.specs.Listing.{Listing, IsListing}
-use Rattle.cedar_documents.specs.Cleaning.{IsCleaned}
+use Rattle.cedar_layout.specs.Cleaning.{IsCleaned}
 
 -- every text has one text without the blank lines of its pieces, and so one cleaned text
 abbrev pub CleaningIsUnique : Type 0

@@ -1,5 +1,5 @@
 use Rattle.std.specs.Prelude.{◌≡◌, ℕ, ℤ, false, List, [], ◌∷◌, ◌++◌}
-use Rattle.cedar_cst.specs.TypedTrees.{Clause, policy, part_yield}
+use Rattle.cedar_grammar.specs.TypedTrees.{Clause, policy, part_yield}
 use Rattle.cedar_layout.specs.Layout.{Choice, text_of_choice}
 use Rattle.cedar_documents.specs.Table.{part_table}
 use Rattle.cedar_documents.specs.Neighbours.{glues, first_or}

@@ -4,7 +4,7 @@ use Rattle.std.specs.List.{AllByRecursion, filter}
 use Rattle.cedar_tokens.specs.Split.{SplitsInto}
 use Rattle.cedar_layout.specs.Layout.{Choice, text_of_choice}
 use Rattle.cedar_tokens.specs.Listing.{Decorated, Listing, IsListing}
-use Rattle.cedar_cst.specs.TypedTrees.{Clause, policy, part_yield}
+use Rattle.cedar_grammar.specs.TypedTrees.{Clause, policy, part_yield}
 use Rattle.cedar_documents.specs.Table.{part_table}
 use Rattle.cedar_documents.specs.Fit.{PartFit}
 use Rattle.cedar_documents.specs.Good.{IsGood}

@@ -1,5 +1,5 @@
 -- The parts of a policy with each leaf changed by f.
-use Rattle.cedar_cst.specs.TypedTrees.{PartKind, Clause, tree_map, annotation_bare, annotation_value, annotations_more, cond_of, conds_more, no_annotation, no_cond, policy_of, variable_bare, variable_is, variable_is_op, variable_op}
+use Rattle.cedar_grammar.specs.TypedTrees.{PartKind, Clause, tree_map, annotation_bare, annotation_value, annotations_more, cond_of, conds_more, no_annotation, no_cond, policy_of, variable_bare, variable_is, variable_is_op, variable_op}
 
 abbrev pub part_map : {A B : Type 0} {k : PartKind} → (A → B) → Clause A k → Clause B k
 part_map f (variable_bare x0) = variable_bare (f x0)

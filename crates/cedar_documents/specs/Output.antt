@@ -3,11 +3,11 @@ use Rattle.std.specs.Prelude.{◌≡◌, ℕ, ℤ, List, [], ◌∷◌, ◌++◌
 use Rattle.std.specs.List.{AllByRecursion, flat_map}
 use Rattle.cedar_layout.specs.Layout.{Doc, Choice, text_of_choice}
 use Rattle.cedar_tokens.specs.Listing.{Decorated, IsListing, token_value}
-use Rattle.cedar_cst.specs.TypedTrees.{Clause, policy, part_yield}
+use Rattle.cedar_grammar.specs.TypedTrees.{Clause, policy, part_yield}
 use Rattle.cedar_documents.specs.Table.{part_table}
 use Rattle.cedar_documents.specs.Fit.{PartFit}
 use Rattle.cedar_documents.specs.Good.{IsGood, IsLine}
-use Rattle.cedar_documents.specs.Cleaning.{IsCleaned}
+use Rattle.cedar_layout.specs.Cleaning.{IsCleaned}
 
 -- the texts with two line feeds between neighbours
 abbrev pub join : List (List ℕ) → List ℕ

@@ -11,3 +11,9 @@ pub mod Counts
 pub mod Measuring
 pub mod Printing
 pub mod Releasing
+pub mod Halving
+pub mod Handing
+pub mod Ranges
+pub mod Commented
+pub mod Seeking
+pub mod Cleaning

@@ -6,3 +6,8 @@ pub mod Computed
 pub mod Measuring
 pub mod Printing
 pub mod Releasing
+pub mod Lookups
+pub mod Halving
+pub mod Comments
+pub mod Cleaning
+pub mod Seeking

@@ -1,4 +1,6 @@
-//! Documents and their layout.
+//! Documents and their layout, and what the documents of a policy are made with: comments of tokens, and the cleaning
+//! of a layout.
 #![tactic(auto)]
 
 pub mod layout;
+pub mod utils;

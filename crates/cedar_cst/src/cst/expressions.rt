@@ -1,7 +1,7 @@
 //! Expressions. Recursion goes down the nesting alone; `depth` says how many brackets and `if`s may still be nested.
 ghost use Rattle.std.specs.Prelude.{◌<◌, ◌≤◌, length, IfOk};
 
-use crate::cst::lexeme::{Kind, Lexeme};
+use crate::cst::lexeme::Lexeme;
 use crate::cst::nodes::{
     add_node, and_node, call_node, called_primary, compared_node, has_node, if_node, init_node,
     is_node, like_node, list_node, lone_primary, lone_relation, member_node, mult_node, or_expr,
@@ -20,6 +20,7 @@ use crate::cst::words::{
     parse_entity_or_name, parse_field, parse_has_field, parse_index, parse_key, parse_literal,
     parse_path, parse_pattern, past_sum_sign, read_signs,
 };
+use cedar_grammar::kind::Kind;
 use std::alloc::Global;
 
 /// An expression.

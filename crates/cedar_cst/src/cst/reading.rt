@@ -3,7 +3,8 @@ ghost use Rattle.std.specs.Prelude.{◌≡◌, ◌<◌, ◌≤◌, length, IfOk,
 ghost use Rattle.cedar_cst.specs.Reading.{Keeps, Closes, Boxes};
 ghost use Rattle.cedar_cst.specs.declared.cst.reading.Refusal.TheVariants.{OutOfMemory};
 
-use crate::cst::lexeme::{Kind, Lexeme};
+use crate::cst::lexeme::Lexeme;
+use cedar_grammar::kind::Kind;
 use std::alloc::{AllocFailed, Global};
 
 /// Why tokens are refused, where `left` counts the tokens from the refused one on.

@@ -2,7 +2,7 @@
 ghost use Rattle.std.specs.Prelude.{◌<◌, ◌≤◌, length, IfOk};
 
 use crate::cst::expressions::parse_expr;
-use crate::cst::lexeme::{Kind, Lexeme};
+use crate::cst::lexeme::Lexeme;
 use crate::cst::nodes::{and_node, lone_relation, or_expr, or_node};
 use crate::cst::reading::{
     Parsed, Refusal, begins, closed_by, expect, keep, past, refuse, skip, start_of,
@@ -15,6 +15,7 @@ use crate::cst::words::{
     begins_identifier, lone_operand, parse_any_word, parse_entity, parse_one_of, parse_path,
     parse_slot_or_entity, parse_str,
 };
+use cedar_grammar::kind::Kind;
 use cedar_tokens::token::Span;
 use std::alloc::Global;
 

@@ -2,12 +2,13 @@
 ghost use Rattle.std.specs.Prelude.{◌≡◌, ◌<◌, ◌≤◌, length, IfOk, IfSome};
 ghost use Rattle.cedar_tokens.specs.Listing.{without_zeros};
 
-use crate::cst::lexeme::{Kind, Lexeme};
+use crate::cst::lexeme::Lexeme;
 use crate::cst::reading::{Parsed, begins, expect, keep, past, refuse};
 use crate::cst::tree::{
     Add, AddOp, Ident, Literal, MemAccess, Member, Mult, Name, NegOp, Node, Primary, Ref, RelOp,
     Slot, Str, Unary,
 };
+use cedar_grammar::kind::Kind;
 use cedar_tokens::token::Span;
 use std::alloc::Global;
 

@@ -1,0 +1,14 @@
+use Rattle.cedar_grammar.specs.TokenKinds.{kind_of}
+use Rattle.cedar_grammar.specs.Placed.{kind_of_placed}
+use Rattle.cedar_grammar.specs.Laws.{kind_of_decorated}
+use Rattle.cedar_grammar.proofs.TreeLaws.{every_tree_is_typed}
+use Rattle.cedar_grammar.proofs.laws.every_tree_is_typed.Goals as goal
+
+pub returns-clause-texts : goal.returns-clause-texts
+returns-clause-texts c = every_tree_is_typed kind_of
+
+pub returns-clause-decorated : goal.returns-clause-decorated
+returns-clause-decorated c = every_tree_is_typed kind_of_decorated
+
+pub returns-clause-placed : goal.returns-clause-placed
+returns-clause-placed c = every_tree_is_typed kind_of_placed

@@ -1,0 +1,5 @@
+use Rattle.cedar_grammar.proofs.TextKinds.{plain_texts_agree}
+use Rattle.cedar_grammar.proofs.laws.plain_texts_agree.Goals as goal
+
+pub returns : goal.returns
+returns c = plain_texts_agree

@@ -1,0 +1,87 @@
+-- Kinds of tokens, and sets of them.
+use Rattle.std.specs.Prelude.{ℕ, Bool, false, ◌||◌, ◌&&◌, not, nat_eq, nat_lt, List, [], ◌∷◌}
+use Rattle.cedar_grammar.specs.declared.kind.Kind.{Kind}
+use Rattle.cedar_grammar.specs.declared.kind.Kind.TheVariants.{True, False, If, Then, Else, In, Is, Like, Has, Permit, Forbid, When, Unless, Principal, Action, Resource, Context, Identifier, PrincipalSlot, ResourceSlot, Number, Str, At, Dot, Comma, SemiColon, Colon, DoubleColon, LParen, RParen, LBrace, RBrace, LBracket, RBracket, Equal, NotEqual, Lt, Le, Gt, Ge, Or, And, Add, Dash, Mul, Div, Modulo, Neg}
+
+-- a number for each kind
+abbrev pub code : Kind → ℕ
+code True = 0
+code False = 1
+code If = 2
+code Then = 3
+code Else = 4
+code In = 5
+code Is = 6
+code Like = 7
+code Has = 8
+code Permit = 9
+code Forbid = 10
+code When = 11
+code Unless = 12
+code Principal = 13
+code Action = 14
+code Resource = 15
+code Context = 16
+code Identifier = 17
+code PrincipalSlot = 18
+code ResourceSlot = 19
+code Number = 20
+code Str = 21
+code At = 22
+code Dot = 23
+code Comma = 24
+code SemiColon = 25
+code Colon = 26
+code DoubleColon = 27
+code LParen = 28
+code RParen = 29
+code LBrace = 30
+code RBrace = 31
+code LBracket = 32
+code RBracket = 33
+code Equal = 34
+code NotEqual = 35
+code Lt = 36
+code Le = 37
+code Gt = 38
+code Ge = 39
+code Or = 40
+code And = 41
+code Add = 42
+code Dash = 43
+code Mul = 44
+code Div = 45
+code Modulo = 46
+code Neg = 47
+
+-- the kind is that one
+abbrev pub is : Kind → Kind → Bool
+is k x = nat_eq (code x) (code k)
+
+-- a keyword or an identifier
+abbrev pub is_word : Kind → Bool
+is_word x = nat_lt (code x) 18
+
+-- every word but true false if then else in is like has
+abbrev pub is_ident : Kind → Bool
+is_ident x = is_word x && not (nat_lt (code x) 9)
+
+-- < <= > >= != == in
+abbrev pub is_comparison : Kind → Bool
+is_comparison x = is Lt x || is Le x || is Gt x || is Ge x || is NotEqual x || is Equal x || is In x
+
+abbrev pub is_boolean : Kind → Bool
+is_boolean x = is True x || is False x
+
+-- principal action resource context
+abbrev pub is_variable : Kind → Bool
+is_variable x = is Principal x || is Action x || is Resource x || is Context x
+
+-- ) ] }
+abbrev pub is_closing : Kind → Bool
+is_closing x = is RParen x || is RBracket x || is RBrace x
+
+-- the first token's kind is in the set
+abbrev pub begins : {A : Type 0} → (A → Kind) → (Kind → Bool) → List A → Bool
+begins kind p [] = false
+begins kind p (a ∷ ts) = p (kind a)

@@ -1,0 +1,67 @@
+-- Laws of the grammar.
+use Rattle.std.specs.Prelude.{◌≡◌, ℕ, suc, List, ◌⊎◌, map, [], ◌∷◌, false, ◌&&◌, ⊤}
+use Rattle.std.specs.List.{flat_map}
+use Rattle.cedar_tokens.specs.Listing.{Decorated}
+use Rattle.cedar_tokens.specs.PlainList.{plain_list}
+use Rattle.cedar_grammar.specs.declared.kind.Kind.{Kind}
+use Rattle.cedar_grammar.specs.Kinds.{is, begins}
+use Rattle.cedar_grammar.specs.Trees.{Label, Forest, yield}
+use Rattle.cedar_grammar.specs.Grammar.{G}
+use Rattle.cedar_grammar.specs.TokenKinds.{kind_of}
+use Rattle.cedar_grammar.specs.TrailingCommas.{plain, without_trailing}
+use Rattle.cedar_grammar.specs.TypedTrees.{Clause, policy, set_tree, part_yield}
+
+-- a decorated token's kind is that of its text
+abbrev pub kind_of_decorated : Decorated → Kind
+kind_of_decorated t = kind_of t.text
+
+-- Of tokens of any type that have a kind.
+module _ {A : Type 0} (kind : A → Kind) where
+  -- a list of tokens has at most one tree, whatever the depth
+  abbrev pub ListHasOneTree : Type 0
+  ListHasOneTree = (d e : ℕ) (ts : List A) (f g : Forest Label A) → G kind d f ts → G kind e g ts → f ≡ g
+
+  -- it can be told whether a list has a tree
+  abbrev pub GrammarIsDecidable : Type 0
+  GrammarIsDecidable = (d : ℕ) (ts : List A) → ((f : Forest Label A) × G kind d f ts) ⊎ ((f : Forest Label A) → ¬ (G kind d f ts))
+
+  -- a tree of some depth is one of every greater depth
+  abbrev pub DeeperHasMore : Type 0
+  DeeperHasMore = (d : ℕ) (ts : List A) (f : Forest Label A) → G kind d f ts → G kind (suc d) f ts
+
+  -- the leaves of a tree without trailing commas are its list without them
+  abbrev pub LeavesArePlain : Type 0
+  LeavesArePlain = (d : ℕ) (ts : List A) (f : Forest Label A) → G kind d f ts → yield (without_trailing kind f) ≡ plain kind ts
+
+  -- no two commas stand next to each other
+  abbrev pub NoTwoCommas : List A → Type 0
+  NoTwoCommas [] = ⊤
+  NoTwoCommas (a ∷ ts) = ((is Kind.Comma (kind a) && begins kind (is Kind.Comma) ts) ≡ false) × NoTwoCommas ts
+
+  -- in a list of the grammar they don't
+  abbrev pub CommasStandAlone : Type 0
+  CommasStandAlone = (d : ℕ) (ts : List A) (f : Forest Label A) → G kind d f ts → NoTwoCommas ts
+
+  -- so a list of the grammar without its trailing commas has none left
+  abbrev pub PlainIsPlain : Type 0
+  PlainIsPlain = (d : ℕ) (ts : List A) (f : Forest Label A) → G kind d f ts → plain kind (plain kind ts) ≡ plain kind ts
+
+  -- a tree without trailing commas is one of the list without them
+  abbrev pub PlainIsInTheGrammar : Type 0
+  PlainIsInTheGrammar = (d : ℕ) (ts : List A) (f : Forest Label A) → G kind d f ts → G kind d (without_trailing kind f) (plain kind ts)
+
+  -- each tree without trailing commas is that of typed policies
+  abbrev pub EveryTreeIsTyped : Type 0
+  EveryTreeIsTyped = (d : ℕ) (ts : List A) (f : Forest Label A) → G kind d f ts → (ps : List (Clause A policy)) × (without_trailing kind f ≡ set_tree kind ps)
+
+  -- and of no other ones
+  abbrev pub TypedTreeIsUnique : Type 0
+  TypedTreeIsUnique = (ps qs : List (Clause A policy)) → set_tree kind ps ≡ set_tree kind qs → ps ≡ qs
+
+  -- typed policies have the leaves of their tree
+  abbrev pub TypedLeavesAgree : Type 0
+  TypedLeavesAgree = (ps : List (Clause A policy)) → yield (set_tree kind ps) ≡ flat_map part_yield ps
+
+-- the texts of the plain list are the texts without trailing commas
+abbrev pub PlainTextsAgree : Type 0
+PlainTextsAgree = (l : List Decorated) → map (λ t. t.text) (plain_list l) ≡ plain kind_of (map (λ t. t.text) l)

@@ -1,0 +1,13 @@
+pub mod Kinds
+pub mod TokenKinds
+pub mod Trees
+pub mod Languages
+pub mod Grammar
+pub mod HopelessPlaces
+pub mod Numbers
+pub mod Texts
+pub mod TrailingCommas
+pub mod TypedTrees
+pub mod Placed
+pub mod Laws
+pub mod Reader

@@ -1,0 +1,11 @@
+-- Sets of kinds.
+use Rattle.std.specs.Prelude.{Bool, true, false, ◌||◌}
+use Rattle.cedar_grammar.specs.declared.kind.Kind.{Kind}
+
+abbrev pub no_kind : Kind → Bool
+no_kind k = false
+
+-- the first set, and the second where the truth value says so
+abbrev pub joined : Bool → (Kind → Bool) → (Kind → Bool) → Kind → Bool
+joined false p q = p
+joined true p q = λ k. p k || q k

@@ -1,0 +1,412 @@
+//! Which token stands where, and its comment moved out. Tokens are found by halving.
+ghost use Rattle.std.specs.Prelude.{◌≡◌, ◌+◌, ◌<◌, ◌≤◌, ◌^◌, ◌==◌, ◌↔◌, nat_le, ℕ, map, length, IsTrue, MatchOption, IfOk, OnErr, IfSome};
+ghost use Rattle.std.specs.List.{position, position_or_len, prefix_len};
+ghost use Rattle.cedar_tokens.specs.Places.{InOrderFrom};
+ghost use Rattle.cedar_layout.specs.Lookups.{AreInOrder, CountsSteps, HandedOut, LeadingHandedOut, Unmatched, comment_parts, comments_in, emptied, emptied_in, ends_at, shown, starts_at, starts_from};
+ghost use Rattle.cedar_layout.specs.Halving.{edge_of, is_sought};
+
+use crate::layout::Steps;
+use cedar_tokens::token::{Comment, Span, WrappedToken};
+use std::alloc::{AllocError, Global};
+use std::marker::Brand;
+use std::sync::ledger::{Blank, Ledger};
+
+/// Whether the tokens' spans are nonempty, in order and disjoint, as the lookups ask. It takes no memory.
+pub fn in_order(tokens: &[WrappedToken<'_>]) -> bool
+    ensures { IsTrue result ↔ AreInOrder tokens.now }
+{
+    let mut from = 0;
+    for token in tokens {
+        let span = token.span;
+        if span.start < from || span.end <= span.start {
+            return false;
+        }
+        from = span.end;
+    }
+    true
+}
+
+/// The comment of the token that starts at `span.start`; `None` where none does. The token's comment is empty afterwards.
+/// It takes no memory.
+pub fn get_comment_at_start<'src>(
+    span: Span,
+    tokens: &mut [WrappedToken<'src>],
+) -> Option<Comment<'src>>
+    requires { AreInOrder tokens.old }
+    ensures answer { MatchOption result
+        (Unmatched (starts_at span.start) (map shown tokens.old) (map shown tokens.new))
+        (λ c. HandedOut (starts_at span.start) (map shown tokens.old) (map shown tokens.new) (comment_parts c)) }
+    ensures order { AreInOrder tokens.new }
+{
+    take_comment(Sought::StartsAt(span.start), tokens)
+}
+
+/// Like `get_comment_at_start`, and counts the steps.
+pub fn get_comment_at_start_counted<'src, L: Ledger>(
+    span: Span,
+    tokens: &mut [WrappedToken<'src>],
+    steps: &mut Steps<L>,
+) -> Option<Comment<'src>>
+    requires { AreInOrder tokens.old }
+    ensures answer { MatchOption result
+        (Unmatched (starts_at span.start) (map shown tokens.old) (map shown tokens.new))
+        (λ c. HandedOut (starts_at span.start) (map shown tokens.old) (map shown tokens.new) (comment_parts c)) }
+    ensures steps { CountsSteps (length tokens.old) steps.old steps.new }
+    ensures order { AreInOrder tokens.new }
+{
+    take_comment_counted(Sought::StartsAt(span.start), tokens, steps)
+}
+
+/// The leading lines of the token that starts at `span.start`; `None` where none does. The token has no leading lines
+/// afterwards. It takes no memory.
+pub fn get_leading_comment_at_start<'src>(
+    span: Span,
+    tokens: &mut [WrappedToken<'src>],
+) -> Option<Vec<&'src str>>
+    requires { AreInOrder tokens.old }
+    ensures answer { MatchOption result
+        (Unmatched (starts_at span.start) (map shown tokens.old) (map shown tokens.new))
+        (λ lines. LeadingHandedOut (starts_at span.start) (map shown tokens.old) (map shown tokens.new) (map (λ l. l.now) lines.items)) }
+    ensures order { AreInOrder tokens.new }
+{
+    let place = find(Sought::StartsAt(span.start), tokens)?;
+    Some(tokens[place].consume_leading_comment())
+}
+
+/// Like `get_leading_comment_at_start`, and counts the steps.
+pub fn get_leading_comment_at_start_counted<'src, L: Ledger>(
+    span: Span,
+    tokens: &mut [WrappedToken<'src>],
+    steps: &mut Steps<L>,
+) -> Option<Vec<&'src str>>
+    requires { AreInOrder tokens.old }
+    ensures answer { MatchOption result
+        (Unmatched (starts_at span.start) (map shown tokens.old) (map shown tokens.new))
+        (λ lines. LeadingHandedOut (starts_at span.start) (map shown tokens.old) (map shown tokens.new) (map (λ l. l.now) lines.items)) }
+    ensures steps { CountsSteps (length tokens.old) steps.old steps.new }
+    ensures order { AreInOrder tokens.new }
+{
+    let place = find_counted(Sought::StartsAt(span.start), tokens, steps)?;
+    Some(tokens[place].consume_leading_comment())
+}
+
+/// The comment of the token that ends at `span.end`; `None` where none does. The token's comment is empty afterwards. It
+/// takes no memory.
+pub fn get_comment_at_end<'src>(
+    span: Span,
+    tokens: &mut [WrappedToken<'src>],
+) -> Option<Comment<'src>>
+    requires { AreInOrder tokens.old }
+    ensures answer { MatchOption result
+        (Unmatched (ends_at span.end) (map shown tokens.old) (map shown tokens.new))
+        (λ c. HandedOut (ends_at span.end) (map shown tokens.old) (map shown tokens.new) (comment_parts c)) }
+    ensures order { AreInOrder tokens.new }
+{
+    take_comment(Sought::EndsAt(span.end), tokens)
+}
+
+/// Like `get_comment_at_end`, and counts the steps.
+pub fn get_comment_at_end_counted<'src, L: Ledger>(
+    span: Span,
+    tokens: &mut [WrappedToken<'src>],
+    steps: &mut Steps<L>,
+) -> Option<Comment<'src>>
+    requires { AreInOrder tokens.old }
+    ensures answer { MatchOption result
+        (Unmatched (ends_at span.end) (map shown tokens.old) (map shown tokens.new))
+        (λ c. HandedOut (ends_at span.end) (map shown tokens.old) (map shown tokens.new) (comment_parts c)) }
+    ensures steps { CountsSteps (length tokens.old) steps.old steps.new }
+    ensures order { AreInOrder tokens.new }
+{
+    take_comment_counted(Sought::EndsAt(span.end), tokens, steps)
+}
+
+/// The comment of the first token that starts at or after `span.end`; `None` where none does. The token's comment is empty
+/// afterwards. It takes no memory.
+pub fn get_comment_after_end<'src>(
+    span: Span,
+    tokens: &mut [WrappedToken<'src>],
+) -> Option<Comment<'src>>
+    requires { AreInOrder tokens.old }
+    ensures answer { MatchOption result
+        (Unmatched (starts_from span.end) (map shown tokens.old) (map shown tokens.new))
+        (λ c. HandedOut (starts_from span.end) (map shown tokens.old) (map shown tokens.new) (comment_parts c)) }
+    ensures order { AreInOrder tokens.new }
+{
+    take_comment(Sought::StartsFrom(span.end), tokens)
+}
+
+/// Like `get_comment_after_end`, and counts the steps.
+pub fn get_comment_after_end_counted<'src, L: Ledger>(
+    span: Span,
+    tokens: &mut [WrappedToken<'src>],
+    steps: &mut Steps<L>,
+) -> Option<Comment<'src>>
+    requires { AreInOrder tokens.old }
+    ensures answer { MatchOption result
+        (Unmatched (starts_from span.end) (map shown tokens.old) (map shown tokens.new))
+        (λ c. HandedOut (starts_from span.end) (map shown tokens.old) (map shown tokens.new) (comment_parts c)) }
+    ensures steps { CountsSteps (length tokens.old) steps.old steps.new }
+    ensures order { AreInOrder tokens.new }
+{
+    take_comment_counted(Sought::StartsFrom(span.end), tokens, steps)
+}
+
+/// The comments of the tokens that start at or after `span.start` and end at or before `span.end`, in order. Their
+/// comments are empty afterwards. Where memory is refused, nothing has changed.
+pub fn get_comment_in_range<'src>(
+    alloc: Global,
+    span: Span,
+    tokens: &mut [WrappedToken<'src>],
+) -> Result<Vec<Comment<'src>>, AllocError>
+    requires { AreInOrder tokens.old }
+    ensures answer { IfOk result (λ v. map comment_parts v.items ≡ comments_in span (map shown tokens.old)) }
+    ensures left { IfOk result (λ _. map shown tokens.new ≡ emptied_in span (map shown tokens.old)) }
+    ensures refused { OnErr result (map shown tokens.new ≡ map shown tokens.old) }
+    ensures order { AreInOrder tokens.new }
+{
+    let first = find(Sought::StartsFrom(span.start), tokens);
+    take_from(alloc, first, span, tokens)
+}
+
+/// Like `get_comment_in_range`, and counts the steps of the search for the first token.
+pub fn get_comment_in_range_counted<'src, L: Ledger>(
+    alloc: Global,
+    span: Span,
+    tokens: &mut [WrappedToken<'src>],
+    steps: &mut Steps<L>,
+) -> Result<Vec<Comment<'src>>, AllocError>
+    requires { AreInOrder tokens.old }
+    ensures answer { IfOk result (λ v. map comment_parts v.items ≡ comments_in span (map shown tokens.old)) }
+    ensures left { IfOk result (λ _. map shown tokens.new ≡ emptied_in span (map shown tokens.old)) }
+    ensures refused { OnErr result (map shown tokens.new ≡ map shown tokens.old) }
+    ensures steps { CountsSteps (length tokens.old) steps.old steps.new }
+    ensures order { AreInOrder tokens.new }
+{
+    let first = find_counted(Sought::StartsFrom(span.start), tokens, steps);
+    take_from(alloc, first, span, tokens)
+}
+
+/// The token that a lookup names, by its place.
+#[derive(Clone, Copy)]
+enum Sought {
+    StartsAt(usize),
+    EndsAt(usize),
+    /// The first that starts there or behind.
+    StartsFrom(usize),
+}
+
+/// An edge of a token.
+#[derive(Clone, Copy)]
+enum Edge {
+    Start,
+    End,
+}
+
+impl Edge {
+    fn of(self, span: Span) -> usize
+        ensures { result ≡ edge_of self span }
+    {
+        match self {
+            Edge::Start => span.start,
+            Edge::End => span.end,
+        }
+    }
+}
+
+/// How many tokens have this edge before `at`. A step is a comparison of `at` with an edge.
+fn count_before<L: Ledger>(
+    edge: Edge,
+    at: usize,
+    tokens: &[WrappedToken<'_>],
+    steps: &mut Steps<L>,
+) -> usize
+    requires { AreInOrder tokens.now }
+    ensures place { result ≡ position_or_len (λ t. nat_le at (edge_of edge t.span)) tokens.now }
+    ensures least { 0 < length tokens.now → steps.old < steps.new }
+    ensures grows { steps.old ≤ steps.new }
+    ensures most { (d : ℕ) → length tokens.now < 2 ^ d → steps.new ≤ steps.old + d }
+{
+    let mut low = 0;
+    let mut high = tokens.len();
+    while low < high {
+        let middle = low + (high - low) / 2;
+        steps.tick();
+        if edge.of(tokens[middle].span) < at {
+            low = middle + 1;
+        } else {
+            high = middle;
+        }
+    }
+    low
+}
+
+/// The place of the first token with this edge at `at` or behind it.
+fn find_from<L: Ledger>(
+    edge: Edge,
+    at: usize,
+    tokens: &[WrappedToken<'_>],
+    steps: &mut Steps<L>,
+) -> Option<usize>
+    requires { AreInOrder tokens.now }
+    ensures place { result ≡ position (λ t. nat_le at (edge_of edge t.span)) tokens.now }
+    ensures least { 0 < length tokens.now → steps.old < steps.new }
+    ensures grows { steps.old ≤ steps.new }
+    ensures most { (d : ℕ) → length tokens.now < 2 ^ d → steps.new ≤ steps.old + d }
+{
+    let place = count_before(edge, at, tokens, steps);
+    if place < tokens.len() {
+        Some(place)
+    } else {
+        None
+    }
+}
+
+/// The place of the token with this edge at `at`.
+fn find_at<L: Ledger>(
+    edge: Edge,
+    at: usize,
+    tokens: &[WrappedToken<'_>],
+    steps: &mut Steps<L>,
+) -> Option<usize>
+    requires { AreInOrder tokens.now }
+    ensures place { result ≡ position (λ t. edge_of edge t.span == at) tokens.now }
+    ensures steps { CountsSteps (length tokens.now) steps.old steps.new }
+{
+    let place = find_from(edge, at, tokens, steps)?;
+    steps.tick();
+    if edge.of(tokens[place].span) == at {
+        Some(place)
+    } else {
+        None
+    }
+}
+
+/// The place of the sought token.
+fn find_counted<L: Ledger>(
+    sought: Sought,
+    tokens: &[WrappedToken<'_>],
+    steps: &mut Steps<L>,
+) -> Option<usize>
+    requires { AreInOrder tokens.now }
+    ensures place { result ≡ position (λ t. is_sought sought (shown t)) tokens.now }
+    ensures steps { CountsSteps (length tokens.now) steps.old steps.new }
+{
+    match sought {
+        Sought::StartsAt(at) => find_at(Edge::Start, at, tokens, steps),
+        Sought::EndsAt(at) => find_at(Edge::End, at, tokens, steps),
+        Sought::StartsFrom(at) => find_from(Edge::Start, at, tokens, steps),
+    }
+}
+
+/// The same, with steps that nobody reads.
+fn find_uncounted<L: Ledger>(
+    sought: Sought,
+    tokens: &[WrappedToken<'_>],
+    blank: Blank,
+) -> Option<usize>
+    requires order { AreInOrder tokens.now }
+    requires name { blank.name ≡ L.name }
+    requires parts { blank.parts ≡ L.parts }
+    requires some { 0 < L.parts }
+    ensures { result ≡ position (λ t. is_sought sought (shown t)) tokens.now }
+{
+    let mut steps: Steps<L> = Steps::new(blank);
+    find_counted(sought, tokens, &mut steps)
+}
+
+fn find(sought: Sought, tokens: &[WrappedToken<'_>]) -> Option<usize>
+    requires { AreInOrder tokens.now }
+    ensures { result ≡ position (λ t. is_sought sought (shown t)) tokens.now }
+{
+    find_uncounted::<Brand>(sought, tokens, Blank::new(1))
+}
+
+fn take_comment<'src>(sought: Sought, tokens: &mut [WrappedToken<'src>]) -> Option<Comment<'src>>
+    requires { AreInOrder tokens.old }
+    ensures answer { MatchOption result
+        (Unmatched (is_sought sought) (map shown tokens.old) (map shown tokens.new))
+        (λ c. HandedOut (is_sought sought) (map shown tokens.old) (map shown tokens.new) (comment_parts c)) }
+    ensures order { AreInOrder tokens.new }
+{
+    let place = find(sought, tokens)?;
+    Some(tokens[place].consume_comment())
+}
+
+fn take_comment_counted<'src, L: Ledger>(
+    sought: Sought,
+    tokens: &mut [WrappedToken<'src>],
+    steps: &mut Steps<L>,
+) -> Option<Comment<'src>>
+    requires { AreInOrder tokens.old }
+    ensures answer { MatchOption result
+        (Unmatched (is_sought sought) (map shown tokens.old) (map shown tokens.new))
+        (λ c. HandedOut (is_sought sought) (map shown tokens.old) (map shown tokens.new) (comment_parts c)) }
+    ensures steps { CountsSteps (length tokens.old) steps.old steps.new }
+    ensures order { AreInOrder tokens.new }
+{
+    let place = find_counted(sought, tokens, steps)?;
+    Some(tokens[place].consume_comment())
+}
+
+/// The comments of the tokens in the span, where `first` is the place of the first that starts in it or behind it.
+fn take_from<'src>(
+    alloc: Global,
+    first: Option<usize>,
+    span: Span,
+    tokens: &mut [WrappedToken<'src>],
+) -> Result<Vec<Comment<'src>>, AllocError>
+    requires order { AreInOrder tokens.old }
+    requires first { first ≡ position (λ t. starts_from span.start (shown t)) tokens.old }
+    ensures answer { IfOk result (λ v. map comment_parts v.items ≡ comments_in span (map shown tokens.old)) }
+    ensures left { IfOk result (λ _. map shown tokens.new ≡ emptied_in span (map shown tokens.old)) }
+    ensures refused { OnErr result (map shown tokens.new ≡ map shown tokens.old) }
+    ensures order { AreInOrder tokens.new }
+{
+    match first {
+        Some(first) => take_until(alloc, span, &mut tokens[first..]),
+        None => Ok(Vec::new(alloc)),
+    }
+}
+
+/// The comments of the tokens in the span, where none starts before it.
+fn take_until<'src>(
+    alloc: Global,
+    span: Span,
+    tokens: &mut [WrappedToken<'src>],
+) -> Result<Vec<Comment<'src>>, AllocError>
+    requires { InOrderFrom span.start (map (λ t. t.span) tokens.old) }
+    ensures answer { IfOk result (λ v. map comment_parts v.items ≡ comments_in span (map shown tokens.old)) }
+    ensures left { IfOk result (λ _. map shown tokens.new ≡ emptied_in span (map shown tokens.old)) }
+    ensures refused { OnErr result (map shown tokens.new ≡ map shown tokens.old) }
+{
+    let count = count_until(tokens, span.end);
+    take_all(alloc, &mut tokens[..count])
+}
+
+/// How many tokens from the first on end at or before `end`.
+fn count_until(tokens: &[WrappedToken<'_>], end: usize) -> usize
+    ensures count { result ≡ prefix_len (λ t. nat_le t.span.end end) tokens.now }
+    ensures fits { result ≤ length tokens.now }
+{
+    tokens
+        .iter()
+        .take_while(|token| token.span.end <= end)
+        .count()
+}
+
+/// The comments of all these tokens.
+fn take_all<'src>(
+    alloc: Global,
+    tokens: &mut [WrappedToken<'src>],
+) -> Result<Vec<Comment<'src>>, AllocError>
+    ensures answer { IfOk result (λ v. map comment_parts v.items ≡ map (λ t. t.comment) (map shown tokens.old)) }
+    ensures left { IfOk result (λ _. map shown tokens.new ≡ map emptied (map shown tokens.old)) }
+    ensures refused { OnErr result (map shown tokens.new ≡ map shown tokens.old) }
+{
+    let mut comments = Vec::with_capacity(alloc, tokens.len())?;
+    for token in tokens.iter_mut() {
+        comments.push_reserved(token.consume_comment());
+    }
+    Ok(comments)
+}
