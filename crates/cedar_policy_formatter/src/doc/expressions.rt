@@ -20,7 +20,32 @@ use cedar_cst::cst::{
 use cedar_layout::layout::Document;
 use cedar_layout::utils::{add_brackets, add_comment};
 use cedar_tokens::token::{Comment, Span};
-use std::alloc::Global;
+use std::alloc::{AllocError, Global};
+
+// The brackets round a part.
+#[derive(Drop)]
+struct Brackets<'src> {
+    open: Document<'src>,
+    close: Document<'src>,
+}
+
+// The brackets that a part starts and ends with.
+fn brackets_doc<'src>(
+    alloc: Global,
+    open: &'src str,
+    close: &'src str,
+    span: Span,
+    context: &mut Context<'_, 'src>,
+) -> Result<Brackets<'src>, AllocError>
+    requires { AreInOrder context.old.tokens.items }
+    ensures order { AreInOrder context.new.tokens.items }
+    ensures kept { KeepsTokens context.old.tokens.items context.new.tokens.items }
+    ensures config { context.new.config ≡ context.old.config }
+{
+    let open = mark_at_start(alloc, open, span, Document::Nil, context)?;
+    let close = mark_at_end(alloc, close, span, Document::Nil, context)?;
+    Ok(Brackets { open, close })
+}
 
 /// The document of an expression.
 #[cycle(documents)]
@@ -36,48 +61,34 @@ pub(super) fn expr_doc<'src>(
     ensures config { context.new.config ≡ context.old.config }
 {
     match expr {
-        Expr::If(test, yes, no) => if_doc(alloc, test, yes, no, span, context),
+        Expr::If(test, yes, no) => {
+            let if_word = mark_at_start(alloc, "if", span, Document::Nil, context)?;
+            let condition = expr_doc(alloc, &test.inner, test.span, context)?;
+            let then_word = mark_after(alloc, "then", test.span, Document::Nil, context)?;
+            let first = expr_doc(alloc, &yes.inner, yes.span, context)?;
+            let else_word = mark_after(alloc, "else", yes.span, Document::Nil, context)?;
+            let second = expr_doc(alloc, &no.inner, no.span, context)?;
+            let indent = context.config.indent_width;
+            let rest = on_next_line(alloc, else_word, second, indent, Document::Nil)?;
+            let rest = Document::Line.append(alloc, rest)?;
+            let rest = on_next_line(alloc, then_word, first, indent, rest)?;
+            let rest = Document::Line.append(alloc, rest)?;
+            Ok(on_next_line(alloc, if_word, condition, indent, rest)?.group(alloc)?)
+        }
         Expr::Or(or) => or_doc(alloc, &or.inner, context),
     }
 }
 
-// `if`, `then` and `else`, each on its own line where they don't fit on one.
-#[cycle(documents)]
-fn if_doc<'src>(
-    alloc: Global,
-    test: &Node<Expr<'src>>,
-    yes: &Node<Expr<'src>>,
-    no: &Node<Expr<'src>>,
-    span: Span,
-    context: &mut Context<'_, 'src>,
-) -> Made<'src>
-    requires { AreInOrder context.old.tokens.items }
-    ensures order { AreInOrder context.new.tokens.items }
-    ensures kept { KeepsTokens context.old.tokens.items context.new.tokens.items }
-    ensures config { context.new.config ≡ context.old.config }
-{
-    let if_word = mark_at_start(alloc, "if", span, Document::Nil, context)?;
-    let condition = expr_doc(alloc, &test.inner, test.span, context)?;
-    let then_word = mark_after(alloc, "then", test.span, Document::Nil, context)?;
-    let first = expr_doc(alloc, &yes.inner, yes.span, context)?;
-    let else_word = mark_after(alloc, "else", yes.span, Document::Nil, context)?;
-    let second = expr_doc(alloc, &no.inner, no.span, context)?;
-    let otherwise = else_word.append(alloc, on_next_line(alloc, second, context)?)?;
-    let otherwise = Document::Line.append(alloc, otherwise)?;
-    let branches = then_word.append(alloc, on_next_line(alloc, first, context)?.append(alloc, otherwise)?)?;
-    let branches = Document::Line.append(alloc, branches)?;
-    let whole = if_word.append(alloc, on_next_line(alloc, condition, context)?.append(alloc, branches)?)?;
-    Ok(whole.group(alloc)?)
-}
-
-// A line and the part, indented.
+// A keyword, a line and the part behind it, which are indented, and the rest.
 fn on_next_line<'src>(
     alloc: Global,
+    keyword: Document<'src>,
     part: Document<'src>,
-    context: &Context<'_, 'src>,
-) -> Made<'src> {
-    let behind_line = Document::Line.append(alloc, part)?;
-    Ok(behind_line.nest(alloc, context.config.indent_width)?)
+    indent: isize,
+    rest: Document<'src>,
+) -> Result<Document<'src>, AllocError> {
+    let behind = Document::Line.append(alloc, part)?.nest(alloc, indent)?;
+    keyword.append(alloc, behind.append(alloc, rest)?)
 }
 
 /// Operands of `||`.
@@ -145,31 +156,41 @@ pub(super) fn relation_doc<'src>(
     ensures config { context.new.config ≡ context.old.config }
 {
     match relation {
-        Relation::Common {
-            initial,
-            extended: None,
-        } => add_doc(alloc, &initial.inner, context),
-        Relation::Common {
-            initial,
-            extended: Some((op, other)),
-        } => comparison_doc(alloc, initial, *op, other, context),
-        Relation::Has { target, field } => keyword_doc(alloc, target, "has", field, context),
-        Relation::Like { target, pattern } => keyword_doc(alloc, target, "like", pattern, context),
+        Relation::Common { initial, extended } => {
+            let first = add_doc(alloc, &initial.inner, context)?;
+            match extended {
+                Some((op, other)) => comparison_doc(alloc, other, *op, initial.span, first, context),
+                None => Ok(first),
+            }
+        }
+        Relation::Has { target, field } => {
+            let first = add_doc(alloc, &target.inner, context)?;
+            keyword_doc(alloc, field, "has", target.span, first, context)
+        }
+        Relation::Like { target, pattern } => {
+            let first = add_doc(alloc, &target.inner, context)?;
+            keyword_doc(alloc, pattern, "like", target.span, first, context)
+        }
         Relation::IsIn {
             target,
             entity_type,
             in_entity,
-        } => is_doc(alloc, target, entity_type, in_entity, context),
+        } => {
+            let first = add_doc(alloc, &target.inner, context)?;
+            is_doc(alloc, in_entity, entity_type, target.span, first, context)
+        }
     }
 }
 
-// A comparison, which doesn't break round its operator.
+// What is compared, with the span `before`, its operator, and what it is compared with; it doesn't break round the
+// operator.
 #[cycle(documents)]
 fn comparison_doc<'src>(
     alloc: Global,
-    left: &Node<Add<'src>>,
-    op: RelOp,
     right: &Node<Add<'src>>,
+    op: RelOp,
+    before: Span,
+    left: Document<'src>,
     context: &mut Context<'_, 'src>,
 ) -> Made<'src>
     requires { AreInOrder context.old.tokens.items }
@@ -177,19 +198,20 @@ fn comparison_doc<'src>(
     ensures kept { KeepsTokens context.old.tokens.items context.new.tokens.items }
     ensures config { context.new.config ≡ context.old.config }
 {
-    let first = add_doc(alloc, &left.inner, context)?;
-    let operator = between_spaces(alloc, rel_op_text(op), left.span, context)?;
-    let second = add_doc(alloc, &right.inner, context)?;
-    Ok(first.append(alloc, operator.append(alloc, second)?)?)
+    let operator = between_spaces(alloc, rel_op_text(op), before, context)?;
+    let right = add_doc(alloc, &right.inner, context)?;
+    Ok(left.append(alloc, operator.append(alloc, right)?)?)
 }
 
-// `has` or `like`, on a line of its own where it doesn't fit on one.
+// What stands before `has` or `like`, with the span `before`, the keyword, on a line of its own where it doesn't fit on
+// one, and what stands behind it.
 #[cycle(documents)]
 fn keyword_doc<'src>(
     alloc: Global,
-    left: &Node<Add<'src>>,
-    keyword: &'static str,
     right: &Node<Add<'src>>,
+    keyword: &'src str,
+    before: Span,
+    left: Document<'src>,
     context: &mut Context<'_, 'src>,
 ) -> Made<'src>
     requires { AreInOrder context.old.tokens.items }
@@ -197,21 +219,22 @@ fn keyword_doc<'src>(
     ensures kept { KeepsTokens context.old.tokens.items context.new.tokens.items }
     ensures config { context.new.config ≡ context.old.config }
 {
-    let first = add_doc(alloc, &left.inner, context)?;
-    let middle = between_lines(alloc, keyword, left.span, context)?;
-    let second = add_doc(alloc, &right.inner, context)?;
-    let indented = second.nest(alloc, context.config.indent_width)?;
-    let whole = first.append(alloc, middle.append(alloc, indented)?)?;
+    let middle = between_lines(alloc, keyword, before, context)?;
+    let right = add_doc(alloc, &right.inner, context)?;
+    let indented = right.nest(alloc, context.config.indent_width)?;
+    let whole = left.append(alloc, middle.append(alloc, indented)?)?;
     Ok(whole.group(alloc)?)
 }
 
-// `is` with a type, and `in` on a line of its own where it doesn't fit on one.
+// What stands before `is`, with the span `before`, `is` with a type, and `in` on a line of its own where it doesn't fit
+// on one.
 #[cycle(documents)]
 fn is_doc<'src>(
     alloc: Global,
-    left: &Node<Add<'src>>,
-    entity_type: &Node<Name<'src>>,
     in_entity: &Option<Node<Add<'src>>>,
+    entity_type: &Node<Name<'src>>,
+    before: Span,
+    left: Document<'src>,
     context: &mut Context<'_, 'src>,
 ) -> Made<'src>
     requires { AreInOrder context.old.tokens.items }
@@ -219,36 +242,32 @@ fn is_doc<'src>(
     ensures kept { KeepsTokens context.old.tokens.items context.new.tokens.items }
     ensures config { context.new.config ≡ context.old.config }
 {
-    let first = add_doc(alloc, &left.inner, context)?;
-    let is_word = between_spaces(alloc, "is", left.span, context)?;
+    let is_word = between_spaces(alloc, "is", before, context)?;
     let type_name = name_doc(alloc, &entity_type.inner, context)?;
-    let type_name = type_name.nest(alloc, context.config.indent_width)?;
+    let indent = context.config.indent_width;
+    let type_name = type_name.nest(alloc, indent)?;
     let container = match in_entity {
-        Some(entity) => in_doc(alloc, entity, entity_type.span, context)?,
+        Some(entity) => {
+            let in_word = mark_after(alloc, "in", entity_type.span, Document::Nil, context)?;
+            let entity = add_doc(alloc, &entity.inner, context)?;
+            in_doc(alloc, in_word, entity, indent)?
+        }
         None => Document::Nil,
     };
-    let whole = first.append(alloc, is_word.append(alloc, type_name.append(alloc, container)?)?)?;
+    let whole = left.append(alloc, is_word.append(alloc, type_name.append(alloc, container)?)?)?;
     Ok(whole.group(alloc)?)
 }
 
 // A line, `in`, and the entity behind it.
-#[cycle(documents)]
 fn in_doc<'src>(
     alloc: Global,
-    entity: &Node<Add<'src>>,
-    before: Span,
-    context: &mut Context<'_, 'src>,
-) -> Made<'src>
-    requires { AreInOrder context.old.tokens.items }
-    ensures order { AreInOrder context.new.tokens.items }
-    ensures kept { KeepsTokens context.old.tokens.items context.new.tokens.items }
-    ensures config { context.new.config ≡ context.old.config }
-{
-    let in_word = mark_after(alloc, "in", before, Document::Nil, context)?;
-    let entity = add_doc(alloc, &entity.inner, context)?;
-    let entity = entity.nest(alloc, context.config.indent_width)?;
+    in_word: Document<'src>,
+    entity: Document<'src>,
+    indent: isize,
+) -> Result<Document<'src>, AllocError> {
+    let entity = entity.nest(alloc, indent)?;
     let behind_in = Document::Text(" ").append(alloc, entity)?;
-    Ok(Document::Line.append(alloc, in_word.append(alloc, behind_in)?)?)
+    Document::Line.append(alloc, in_word.append(alloc, behind_in)?)
 }
 
 /// Operands of `+` and `-`.
@@ -438,7 +457,12 @@ pub(super) fn access_doc<'src>(
             let word = leaf_doc(alloc, field.inner.0, field.span, context)?;
             Ok(dot.append(alloc, word)?)
         }
-        MemAccess::Call(arguments) => call_doc(alloc, arguments, span, context),
+        MemAccess::Call(arguments) => {
+            let brackets = brackets_doc(alloc, "(", ")", span, context)?;
+            let items = items_doc(alloc, arguments, context)?;
+            let indent = context.config.indent_width;
+            Ok(call_doc(alloc, brackets, arguments.is_empty(), items, indent)?)
+        }
         MemAccess::Index(index) => {
             let open = mark_at_start(alloc, "[", span, Document::Nil, context)?;
             let text = leaf_doc(alloc, index.inner.0, index.span, context)?;
@@ -448,29 +472,22 @@ pub(super) fn access_doc<'src>(
     }
 }
 
-// The arguments between their brackets.
-#[cycle(documents)]
+// The arguments of a call between their brackets.
 fn call_doc<'src>(
     alloc: Global,
-    arguments: &[Node<Expr<'src>>],
-    span: Span,
-    context: &mut Context<'_, 'src>,
-) -> Made<'src>
-    requires { AreInOrder context.old.tokens.items }
-    ensures order { AreInOrder context.new.tokens.items }
-    ensures kept { KeepsTokens context.old.tokens.items context.new.tokens.items }
-    ensures config { context.new.config ≡ context.old.config }
-{
-    let open = mark_at_start(alloc, "(", span, Document::Nil, context)?;
-    let close = mark_at_end(alloc, ")", span, Document::Nil, context)?;
-    if arguments.is_empty() {
-        return Ok(open.append(alloc, close)?);
+    brackets: Brackets<'src>,
+    is_empty: bool,
+    items: Document<'src>,
+    indent: isize,
+) -> Result<Document<'src>, AllocError> {
+    let Brackets { open, close } = brackets;
+    if is_empty {
+        return open.append(alloc, close);
     }
-    let items = items_doc(alloc, arguments, context)?;
     let inside = Document::LineOrNil.append(alloc, items)?;
-    let inside = inside.nest(alloc, context.config.indent_width)?;
+    let inside = inside.nest(alloc, indent)?;
     let end = Document::LineOrNil.append(alloc, close)?;
-    Ok(open.append(alloc, inside.append(alloc, end)?)?)
+    open.append(alloc, inside.append(alloc, end)?)
 }
 
 // Expressions with commas and lines between them.
@@ -517,72 +534,40 @@ pub(super) fn primary_doc<'src>(
         Primary::Ref(entity) => ref_doc(alloc, &entity.inner, context),
         Primary::Name(name) => name_doc(alloc, &name.inner, context),
         Primary::Slot(slot) => leaf_doc(alloc, slot_text(slot.inner), slot.span, context),
-        Primary::Expr(inside) => parenthesis_doc(alloc, inside, span, context),
-        Primary::EList(items) => list_doc(alloc, items, span, context),
-        Primary::RInits(inits) => record_doc(alloc, inits, span, context),
+        Primary::Expr(inside) => {
+            let Brackets { open, close } = brackets_doc(alloc, "(", ")", span, context)?;
+            let doc = expr_doc(alloc, &inside.inner, inside.span, context)?;
+            Ok(add_brackets(alloc, doc, open, close, 1)?.group(alloc)?)
+        }
+        Primary::EList(items) => {
+            let Brackets { open, close } = brackets_doc(alloc, "[", "]", span, context)?;
+            let doc = items_doc(alloc, items, context)?;
+            Ok(add_brackets(alloc, doc, open, close, 1)?)
+        }
+        Primary::RInits(inits) => {
+            let brackets = brackets_doc(alloc, "{", "}", span, context)?;
+            let items = inits_doc(alloc, inits, context)?;
+            let indent = context.config.indent_width;
+            Ok(record_doc(alloc, brackets, inits.is_empty(), items, indent)?)
+        }
     }
 }
 
-// An expression between parentheses.
-#[cycle(documents)]
-fn parenthesis_doc<'src>(
-    alloc: Global,
-    inside: &Node<Expr<'src>>,
-    span: Span,
-    context: &mut Context<'_, 'src>,
-) -> Made<'src>
-    requires { AreInOrder context.old.tokens.items }
-    ensures order { AreInOrder context.new.tokens.items }
-    ensures kept { KeepsTokens context.old.tokens.items context.new.tokens.items }
-    ensures config { context.new.config ≡ context.old.config }
-{
-    let open = mark_at_start(alloc, "(", span, Document::Nil, context)?;
-    let close = mark_at_end(alloc, ")", span, Document::Nil, context)?;
-    let doc = expr_doc(alloc, &inside.inner, inside.span, context)?;
-    Ok(add_brackets(alloc, doc, open, close, 1)?.group(alloc)?)
-}
-
-// A list.
-#[cycle(documents)]
-fn list_doc<'src>(
-    alloc: Global,
-    items: &[Node<Expr<'src>>],
-    span: Span,
-    context: &mut Context<'_, 'src>,
-) -> Made<'src>
-    requires { AreInOrder context.old.tokens.items }
-    ensures order { AreInOrder context.new.tokens.items }
-    ensures kept { KeepsTokens context.old.tokens.items context.new.tokens.items }
-    ensures config { context.new.config ≡ context.old.config }
-{
-    let open = mark_at_start(alloc, "[", span, Document::Nil, context)?;
-    let close = mark_at_end(alloc, "]", span, Document::Nil, context)?;
-    let doc = items_doc(alloc, items, context)?;
-    Ok(add_brackets(alloc, doc, open, close, 1)?)
-}
-
-// A record.
-#[cycle(documents)]
+// The keys and values of a record between their braces.
 fn record_doc<'src>(
     alloc: Global,
-    inits: &[Node<RecInit<'src>>],
-    span: Span,
-    context: &mut Context<'_, 'src>,
-) -> Made<'src>
-    requires { AreInOrder context.old.tokens.items }
-    ensures order { AreInOrder context.new.tokens.items }
-    ensures kept { KeepsTokens context.old.tokens.items context.new.tokens.items }
-    ensures config { context.new.config ≡ context.old.config }
-{
-    let open = mark_at_start(alloc, "{", span, Document::Nil, context)?;
-    let close = mark_at_end(alloc, "}", span, Document::Nil, context)?;
-    if inits.is_empty() {
-        return Ok(open.append(alloc, close)?);
+    brackets: Brackets<'src>,
+    is_empty: bool,
+    items: Document<'src>,
+    indent: isize,
+) -> Result<Document<'src>, AllocError> {
+    let Brackets { open, close } = brackets;
+    if is_empty {
+        return open.append(alloc, close);
     }
-    let items = inits_doc(alloc, inits, context)?;
     let inside = Document::Line.append(alloc, items.append(alloc, Document::Line)?)?;
     let inside = inside.group(alloc)?;
-    Ok(add_brackets(alloc, inside, open, close, context.config.indent_width)?)
+    add_brackets(alloc, inside, open, close, indent)
 }
 
 // Keys and values, with commas and lines between them.
