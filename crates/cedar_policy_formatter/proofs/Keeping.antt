@@ -5,7 +5,8 @@ use Rattle.std.proofs.lemmas.List.{length-map}
 use Rattle.std.proofs.Math.Seq.{take-append_seam}
 use Rattle.cedar_tokens.specs.declared.token.Comment.{Comment}
 use Rattle.cedar_tokens.specs.Places.{InOrderFrom}
-use Rattle.cedar_tokens.specs.Tokens.{bare}
+use Rattle.cedar_tokens.specs.PlainList.{is_trailing_comma, kept_tokens}
+use Rattle.cedar_tokens.specs.Tokens.{bare, decorated}
 use Rattle.cedar_tokens.specs.declared.token.Span.{Span}
 use Rattle.cedar_tokens.specs.declared.token.Token.{Token}
 use Rattle.cedar_tokens.specs.declared.token.WrappedToken.{WrappedToken}
@@ -68,3 +69,22 @@ some_emptied s (t ∷ ts) = ap (λ h. h ∷ map bared (emptied_in s ts)) (one_em
 pub kept_if_range_taken : {X E : Type 0} (s : Span) (old new : List WrappedToken) (r : Result X E) → IfOk r (λ _. map shown new ≡ emptied_in s (map shown old)) → OnErr r (map shown new ≡ map shown old) → map bare new ≡ map bare old
 kept_if_range_taken s old new (Ok v) h k = from_shown old new (ap (map bared) h ∙ some_emptied s (map shown old))
 kept_if_range_taken s old new (Err e) h k = from_shown old new (ap (map bared) k)
+
+-- ---- the tokens without trailing commas are in order
+
+-- what begins at a place begins at each place before it
+from_earlier : (p q : ℕ) (ss : List Span) → p ≤ q → InOrderFrom q ss → InOrderFrom p ss
+from_earlier p q [] e h = h
+from_earlier p q (s ∷ ss) e h = let first = h.0 in (omega (arith, e, first), h.1, h.2)
+
+one_left_out : (b : Bool) (p : ℕ) (t : WrappedToken) (ts : List WrappedToken) → InOrderFrom p (map (λ w. w.span) (t ∷ ts)) → InOrderFrom p (map (λ w. w.span) (if b then ts else t ∷ ts))
+one_left_out true p t ts h = let first = h.0 in let second = h.1 in from_earlier p t.span.end (map (λ w. w.span) ts) (omega (arith, first, second)) h.2
+one_left_out false p t ts h = h
+
+kept_from : (p : ℕ) (ts : List WrappedToken) → InOrderFrom p (map (λ w. w.span) ts) → InOrderFrom p (map (λ w. w.span) (kept_tokens ts))
+kept_from p [] h = h
+kept_from p (c ∷ []) h = h
+kept_from p (c ∷ (b ∷ ts)) h = one_left_out (is_trailing_comma (decorated c) (decorated b)) p c (kept_tokens (b ∷ ts)) (h.0, h.1, kept_from c.span.end (b ∷ ts) h.2)
+
+pub order_without_commas : (old new : List WrappedToken) → map bare new ≡ map bare (kept_tokens old) → InOrderFrom 0 (map (λ w. w.span) old) → AreInOrder new
+order_without_commas old new e h = order_kept (kept_tokens old) new e (kept_from 0 old h)

@@ -16,6 +16,6 @@ pub use cedar_tokens::lexer;
 pub use cedar_tokens::token;
 pub use config::{Config, Context};
 pub use fmt::{
-    RunFault, Watched, format_stream, is_formatted, policies_str_to_pretty, read_text, same_layout,
+    RunFault, Watched, format_stream, is_formatted, policies_str_to_pretty, same_layout,
     soundness_check,
 };

@@ -84,9 +84,9 @@ pub fn format_stream<R: Read, W: Write>(
     }
 }
 
-/// The text that `input` gives up to its end: `Read` where a read fails, `NotUtf8` where the bytes aren't UTF-8, and
-/// `Format` for want of memory.
-pub fn read_text<R: Read>(alloc: Global, input: &mut Watched<R>) -> Result<String, RunFault> {
+// The text that `input` gives up to its end: `Read` where a read fails, `NotUtf8` where the bytes aren't UTF-8, and
+// `Format` for want of memory.
+fn read_text<R: Read>(alloc: Global, input: &mut Watched<R>) -> Result<String, RunFault> {
     let bytes = read_all(alloc, input)?;
     match String::from_utf8(bytes) {
         Ok(text) => Ok(text),
