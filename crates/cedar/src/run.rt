@@ -1,6 +1,6 @@
 //! A run of the program.
 use crate::command::{Options, read_options};
-use cedar_policy_formatter::{FormatError, RunFault, Watched, format_stream, is_formatted, read_text};
+use cedar_policy_formatter::{FormatError, RunFault, Watched, format_stream, is_formatted};
 use clap::Error;
 use clap::error::ErrorKind;
 use std::alloc::Global;
@@ -89,6 +89,21 @@ fn run_on<I: Read + Drop, O: Write>(
     match output.flush() {
         Ok(()) => Ok(DONE),
         Err(_) => Err(RunFault::Write),
+    }
+}
+
+// The text that a reader gives up to its end.
+fn read_text<I: Read>(alloc: Global, input: &mut Watched<I>) -> Result<String, RunFault> {
+    let mut bytes = Vec::new(alloc);
+    if input.read_to_end(&mut bytes).is_err() {
+        if input.failed() {
+            return Err(RunFault::Read);
+        }
+        return Err(RunFault::Format(FormatError::OutOfMemory));
+    }
+    match String::from_utf8(bytes) {
+        Ok(text) => Ok(text),
+        Err(_) => Err(RunFault::NotUtf8),
     }
 }
 
