@@ -1,0 +1,5 @@
+use Rattle.std.proofs.Common.{◌-◌, ◌^◌, vec_len}
+use Rattle.cedar_policy_formatter.proofs.fmt.stream.read_all.Given as goal
+
+abbrev pub decreases-loop-count : goal.decreases-loop-count
+decreases-loop-count g l = 2 ^ 64 - vec_len l.bytes
