@@ -35,18 +35,22 @@ fn command<'a>(alloc: Global) -> Result<Command<'a>, Error> {
     let check = Arg::new(alloc, "check")
         .long("check")
         .action(ArgAction::SetTrue)
-        .help("Only say whether the policies are formatted: status 0 if they are, 3 if they aren't");
+        .help(
+            "Only say whether the policies are formatted: status 0 if they are, 3 if they aren't",
+        );
     let format = Command::new(alloc, "format")
         .about("Formats policies and writes them to standard output")
         .arg(file)?
         .arg(indent)?
         .arg(width)?
         .arg(check)?;
-    Ok(Command::new(alloc, "cedar")
-        .about("Formats Cedar policies")
-        .subcommand_required(true)
-        .disable_help_subcommand(true)
-        .subcommand(format)?)
+    Ok(
+        Command::new(alloc, "cedar")
+            .about("Formats Cedar policies")
+            .subcommand_required(true)
+            .disable_help_subcommand(true)
+            .subcommand(format)?,
+    )
 }
 
 /// What the words ask for. They begin with the program's name.

@@ -5,10 +5,8 @@ mod command;
 mod run;
 
 pub use run::run_words;
-
-use std::env;
-use std::io;
 use std::process::ExitCode;
+use std::{env, io};
 
 // The program's words; none where they can't be had for want of memory.
 fn words(rt: &HostRuntime) -> io::Result<Vec<String>> {

@@ -72,12 +72,7 @@ pub fn is_formatted(alloc: Global, ps: &str, config: &Config) -> Result<bool, Fo
 }
 
 /// Whether `a` and `b` are laid out alike. A refusal of `a` is answered before one of `b`.
-pub fn same_layout(
-    alloc: Global,
-    a: &str,
-    b: &str,
-    config: &Config,
-) -> Result<bool, FormatError>
+pub fn same_layout(alloc: Global, a: &str, b: &str, config: &Config) -> Result<bool, FormatError>
     ensures { MatchResult result (λ _. HasFittingNumbers a.now × HasFittingNumbers b.now) (RefusesOne a.now b.now) }
 {
     let first = policies_str_to_pretty(alloc, a, config)?;

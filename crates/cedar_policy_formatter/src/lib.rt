@@ -10,10 +10,8 @@ pub mod fmt;
 
 pub use cedar_cst::cst;
 pub use cedar_cst::cst::FormatError;
-pub use cedar_layout::layout;
-pub use cedar_layout::utils;
-pub use cedar_tokens::lexer;
-pub use cedar_tokens::token;
+pub use cedar_layout::{layout, utils};
+pub use cedar_tokens::{lexer, token};
 pub use config::{Config, Context};
 pub use fmt::{
     RunFault, Watched, format_stream, is_formatted, policies_str_to_pretty, same_layout,

@@ -106,10 +106,15 @@ fn expect_outcome(rt: &impl Abort, got: &Outcome, words: &[&str], want: (&str, &
 }
 
 static PACKED: &str = "permit(principal,action,resource);";
+
 static SPACED: &str = "permit (principal, action, resource);";
+
 static LAYOUT: &str = "permit (principal, action, resource);\n";
+
 static NARROW: &str = "permit\n(principal, action, resource);\n";
+
 static TYPED: &str = "permit(principal == User::\"a\",action,resource);";
+
 static TYPED_AT_4: &str =
     "permit (\n    principal == User::\"a\",\n    action,\n    resource\n);\n";
 
@@ -119,22 +124,58 @@ fn formats(rt: HostRuntime) -> Result<(), AllocError> {
     let grammar = "cedar: not in the grammar at byte 36\n";
     for (words, input, want) in [
         (["cedar", "format"].as_slice(), PACKED, (LAYOUT, "", 0)),
-        (["cedar", "format", "-l", "36"].as_slice(), PACKED, (NARROW, "", 0)),
-        (["cedar", "format", "-l", "0"].as_slice(), PACKED, (NARROW, "", 0)),
-        (["cedar", "format", "-l", "65535"].as_slice(), PACKED, (LAYOUT, "", 0)),
-        (["cedar", "format", "-i", "4"].as_slice(), TYPED, (TYPED_AT_4, "", 0)),
+        (
+            ["cedar", "format", "-l", "36"].as_slice(),
+            PACKED,
+            (NARROW, "", 0),
+        ),
+        (
+            ["cedar", "format", "-l", "0"].as_slice(),
+            PACKED,
+            (NARROW, "", 0),
+        ),
+        (
+            ["cedar", "format", "-l", "65535"].as_slice(),
+            PACKED,
+            (LAYOUT, "", 0),
+        ),
+        (
+            ["cedar", "format", "-i", "4"].as_slice(),
+            TYPED,
+            (TYPED_AT_4, "", 0),
+        ),
         (["cedar", "format"].as_slice(), "", ("\n", "", 0)),
         (["cedar", "format"].as_slice(), not_whole, ("", grammar, 1)),
-        (["cedar", "format", "--check"].as_slice(), LAYOUT, ("", "", 0)),
-        (["cedar", "format", "--check"].as_slice(), SPACED, ("", "", 3)),
+        (
+            ["cedar", "format", "--check"].as_slice(),
+            LAYOUT,
+            ("", "", 0),
+        ),
+        (
+            ["cedar", "format", "--check"].as_slice(),
+            SPACED,
+            ("", "", 3),
+        ),
         (
             ["cedar", "format", "--check"].as_slice(),
             "permit(principal,action,resource,);",
             ("", "", 3),
         ),
-        (["cedar", "format", "--check"].as_slice(), not_whole, ("", grammar, 1)),
-        (["cedar", "format", "--check"].as_slice(), NARROW, ("", "", 3)),
-        (["cedar", "format", "--check", "-l", "36"].as_slice(), NARROW, ("", "", 0)),
+        (
+            ["cedar", "format", "--check"].as_slice(),
+            not_whole,
+            ("", grammar, 1),
+        ),
+        (
+            ["cedar", "format", "--check"].as_slice(),
+            NARROW,
+            ("", "", 3),
+        ),
+        (
+            ["cedar", "format", "--check", "-l", "36"].as_slice(),
+            NARROW,
+            ("", "", 0),
+        ),
     ] {
         let got = run_with(&rt, words, input.as_bytes(), (0, 0, 0))?;
         expect_outcome(&rt, &got, words, want);

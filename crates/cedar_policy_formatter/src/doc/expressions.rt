@@ -159,7 +159,14 @@ pub(super) fn relation_doc<'src>(
         Relation::Common { initial, extended } => {
             let first = add_doc(alloc, &initial.inner, context)?;
             match extended {
-                Some((op, other)) => comparison_doc(alloc, other, *op, initial.span, first, context),
+                Some((op, other)) => comparison_doc(
+                    alloc,
+                    other,
+                    *op,
+                    initial.span,
+                    first,
+                    context,
+                ),
                 None => Ok(first),
             }
         }
@@ -254,7 +261,10 @@ fn is_doc<'src>(
         }
         None => Document::Nil,
     };
-    let whole = left.append(alloc, is_word.append(alloc, type_name.append(alloc, container)?)?)?;
+    let whole = left.append(
+        alloc,
+        is_word.append(alloc, type_name.append(alloc, container)?)?,
+    )?;
     Ok(whole.group(alloc)?)
 }
 

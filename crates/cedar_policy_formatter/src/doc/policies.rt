@@ -9,11 +9,11 @@ use crate::doc::names::{leaf_doc, name_doc, rel_op_text};
 use crate::doc::taking::{take_after, take_at_start, take_lines_at_start};
 use crate::doc::tokens::{mark_after, mark_at_end, mark_at_start};
 use crate::doc::{Made, NoDocument};
-use cedar_cst::cst::{Add, Annotation, Cond, Expr, Ident, Name, Node, Policy, RelOp, Str, VariableDef};
-use cedar_layout::layout::Document;
-use cedar_layout::utils::{
-    get_leading_comment_doc_from_str, get_trailing_comment_doc_from_str,
+use cedar_cst::cst::{
+    Add, Annotation, Cond, Expr, Ident, Name, Node, Policy, RelOp, Str, VariableDef,
 };
+use cedar_layout::layout::Document;
+use cedar_layout::utils::{get_leading_comment_doc_from_str, get_trailing_comment_doc_from_str};
 use cedar_tokens::token::{Comment, Span};
 use std::alloc::{AllocError, Global};
 
@@ -242,7 +242,14 @@ pub(super) fn variable_doc<'src>(
     let whole = match &variable.ineq {
         Some((op, right)) => {
             let before = left_span(variable);
-            compared_doc(alloc, left.append(alloc, behind)?, before, *op, right, context)?
+            compared_doc(
+                alloc,
+                left.append(alloc, behind)?,
+                before,
+                *op,
+                right,
+                context,
+            )?
         }
         None => left.append(alloc, behind)?,
     };
@@ -371,7 +378,10 @@ fn braced_doc<'src>(
     ensures config { context.new.config ≡ context.old.config }
 {
     let (before, behind) = match &open {
-        Some(comment) => (lead(alloc, comment)?, trail(alloc, comment, Document::Line)?),
+        Some(comment) => (
+            lead(alloc, comment)?,
+            trail(alloc, comment, Document::Line)?,
+        ),
         None => (Document::Nil, Document::Line),
     };
     let body = body_doc(alloc, expr, context)?;

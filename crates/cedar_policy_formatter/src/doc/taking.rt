@@ -12,7 +12,10 @@ use cedar_tokens::token::{Comment, Span};
 use std::alloc::{AllocError, Global};
 
 /// The comment of the token that starts where `span` does.
-pub(super) fn take_at_start<'src>(span: Span, context: &mut Context<'_, 'src>) -> Option<Comment<'src>>
+pub(super) fn take_at_start<'src>(
+    span: Span,
+    context: &mut Context<'_, 'src>,
+) -> Option<Comment<'src>>
     requires { AreInOrder context.old.tokens.items }
     ensures order { AreInOrder context.new.tokens.items }
     ensures kept { KeepsTokens context.old.tokens.items context.new.tokens.items }
@@ -35,7 +38,10 @@ pub(super) fn take_lines_at_start<'src>(
 }
 
 /// The comment of the token that ends where `span` does.
-pub(super) fn take_at_end<'src>(span: Span, context: &mut Context<'_, 'src>) -> Option<Comment<'src>>
+pub(super) fn take_at_end<'src>(
+    span: Span,
+    context: &mut Context<'_, 'src>,
+) -> Option<Comment<'src>>
     requires { AreInOrder context.old.tokens.items }
     ensures order { AreInOrder context.new.tokens.items }
     ensures kept { KeepsTokens context.old.tokens.items context.new.tokens.items }

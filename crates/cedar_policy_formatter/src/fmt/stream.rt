@@ -1,10 +1,16 @@
 //! Formatting from a reader to a writer.
+ghost use Rattle.std.specs.Prelude.{◌≡◌, ◌≢◌, ◌<◌, length, IsTrue, IsFalse, IfErr, OnOk, OnErr, MatchResult};
+ghost use Rattle.std.specs.Io.{ReadsAtMost, WritesAtMost};
+ghost use Rattle.std.specs.Io.KnownBytes.{ReadConsumes, WriteAppends};
+ghost use Rattle.cedar_policy_formatter.specs.declared.fmt.stream.RunFault.TheVariants.{Write};
+ghost use Rattle.cedar_policy_formatter.specs.Devices.{IsFailedWrite, TellsRead, TellsWrite, LeavesOutput};
+
 use crate::config::Config;
 use crate::fmt::policies_str_to_pretty;
 use cedar_cst::cst::FormatError;
 use std::alloc::Global;
 use std::io;
-use std::io::{Read, Write};
+use std::io::{ErrorKind, Read, Write};
 
 /// A reader or a writer that remembers whether it failed.
 #[derive(Debug, Drop)]
@@ -15,7 +21,10 @@ pub struct Watched<D> {
 
 impl<D> Watched<D> {
     /// The device, which has not failed yet.
-    pub fn new(device: D) -> Watched<D> {
+    pub fn new(device: D) -> Watched<D>
+        ensures device { result.device ≡ device }
+        ensures fresh { IsFalse result.has_failed }
+    {
         Watched {
             device,
             has_failed: false,
@@ -23,13 +32,22 @@ impl<D> Watched<D> {
     }
 
     /// Whether a read or a write through this failed. A write of one byte or more that takes nothing is a failed one.
-    pub fn failed(&self) -> bool {
+    pub fn failed(&self) -> bool
+        ensures { result ≡ self.now.has_failed }
+    {
         self.has_failed
     }
 }
 
 impl<R: Read> Read for Watched<R> {
-    fn read(&mut self, buf: &mut [u8]) -> io::Result<usize> {
+    ghost remaining = { λ w. R.remaining w.device };
+
+    fn read(&mut self, buf: &mut [u8]) -> io::Result<usize>
+        ensures bound { ReadsAtMost result buf.new }
+        ensures bytes { ReadConsumes (R.remaining self.old.device) (R.remaining self.new.device) result buf.new }
+        ensures ok { OnOk result (self.new.has_failed ≡ self.old.has_failed) }
+        ensures err { OnErr result (IsTrue self.new.has_failed) }
+    {
         let result = self.device.read(buf);
         if result.is_err() {
             self.has_failed = true;
@@ -39,7 +57,14 @@ impl<R: Read> Read for Watched<R> {
 }
 
 impl<W: Write> Write for Watched<W> {
-    fn write(&mut self, buf: &[u8]) -> io::Result<usize> {
+    ghost contents = { λ w. W.contents w.device };
+
+    fn write(&mut self, buf: &[u8]) -> io::Result<usize>
+        ensures bound { WritesAtMost result buf.now }
+        ensures bytes { WriteAppends (W.contents self.old.device) (W.contents self.new.device) result buf.now }
+        ensures fails { IsFailedWrite result buf.now → IsTrue self.new.has_failed }
+        ensures succeeds { ¬ (IsFailedWrite result buf.now) → self.new.has_failed ≡ self.old.has_failed }
+    {
         let result = self.device.write(buf);
         match &result {
             Ok(0) if !buf.is_empty() => self.has_failed = true,
@@ -76,17 +101,28 @@ pub fn format_stream<R: Read, W: Write>(
     input: &mut Watched<R>,
     output: &mut Watched<W>,
     config: &Config,
-) -> Result<(), RunFault> {
+) -> Result<(), RunFault>
+    ensures read { MatchResult result (λ _. input.new.has_failed ≡ input.old.has_failed) (TellsRead input.old.has_failed input.new.has_failed) }
+    ensures write { MatchResult result (λ _. output.new.has_failed ≡ output.old.has_failed) (TellsWrite output.old.has_failed output.new.has_failed) }
+    ensures nothing { IfErr result (LeavesOutput (W.contents output.old.device) (W.contents output.new.device)) }
+{
     let text = read_text(alloc, input)?;
-    match policies_str_to_pretty(alloc, text.as_str(), config) {
-        Ok(formatted) => write_all(formatted.as_bytes(), output),
-        Err(error) => Err(RunFault::Format(error)),
+    let formatted = match policies_str_to_pretty(alloc, text.as_str(), config) {
+        Ok(formatted) => formatted,
+        Err(error) => return Err(RunFault::Format(error)),
+    };
+    match write_all(formatted.as_bytes(), output) {
+        Ok(()) => Ok(()),
+        Err(_) => Err(RunFault::Write),
     }
 }
 
 // The text that `input` gives up to its end: `Read` where a read fails, `NotUtf8` where the bytes aren't UTF-8, and
 // `Format` for want of memory.
-fn read_text<R: Read>(alloc: Global, input: &mut Watched<R>) -> Result<String, RunFault> {
+fn read_text<R: Read>(alloc: Global, input: &mut Watched<R>) -> Result<String, RunFault>
+    ensures read { MatchResult result (λ _. input.new.has_failed ≡ input.old.has_failed) (TellsRead input.old.has_failed input.new.has_failed) }
+    ensures no_write { IfErr result (λ e. e ≢ Write) }
+{
     let bytes = read_all(alloc, input)?;
     match String::from_utf8(bytes) {
         Ok(text) => Ok(text),
@@ -97,7 +133,10 @@ fn read_text<R: Read>(alloc: Global, input: &mut Watched<R>) -> Result<String, R
 const BLOCK: usize = 65536;
 
 // All bytes that `input` gives.
-fn read_all<R: Read>(alloc: Global, input: &mut Watched<R>) -> Result<Vec<u8>, RunFault> {
+fn read_all<R: Read>(alloc: Global, input: &mut Watched<R>) -> Result<Vec<u8>, RunFault>
+    ensures read { MatchResult result (λ _. input.new.has_failed ≡ input.old.has_failed) (TellsRead input.old.has_failed input.new.has_failed) }
+    ensures no_write { IfErr result (λ e. e ≢ Write) }
+{
     let mut bytes = Vec::new(alloc);
     let Ok(mut block) = vec![in alloc; 0; BLOCK] else {
         return Err(RunFault::Format(FormatError::OutOfMemory));
@@ -115,14 +154,17 @@ fn read_all<R: Read>(alloc: Global, input: &mut Watched<R>) -> Result<Vec<u8>, R
     }
 }
 
-// Writes all of these bytes.
-fn write_all<W: Write>(bytes: &[u8], output: &mut Watched<W>) -> Result<(), RunFault> {
+// Writes all of these bytes. The first failed write ends it.
+fn write_all<W: Write>(bytes: &[u8], output: &mut Watched<W>) -> io::Result<()>
+    ensures ok { OnOk result (output.new.has_failed ≡ output.old.has_failed) }
+    ensures err { OnErr result (IsTrue output.new.has_failed) }
+{
     let mut rest = bytes;
     while !rest.is_empty() {
         match output.write(rest) {
-            Ok(0) => return Err(RunFault::Write),
+            Ok(0) => return Err(io::Error::from(ErrorKind::WriteZero)),
             Ok(count) => rest = &rest[count..],
-            Err(_) => return Err(RunFault::Write),
+            Err(error) => return Err(error),
         }
     }
     Ok(())

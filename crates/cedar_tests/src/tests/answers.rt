@@ -1,6 +1,6 @@
 //! Whether texts are formatted, laid out alike, or of the same policies.
-use super::*;
 use super::rows::{ROWS, ROWS_AT};
+use super::*;
 use cedar_policy_formatter::cst::parse_policies;
 use cedar_policy_formatter::{is_formatted, same_layout, soundness_check};
 

@@ -53,6 +53,7 @@ impl Write for Sink<'_> {
 }
 
 static TEXT: &str = "permit(principal,action,resource);";
+
 static LAYOUT: &str = "permit (principal, action, resource);\n";
 
 // What a run answers, whether the reader and the writer failed, and what was written.
@@ -92,20 +93,97 @@ fn runs(rt: HostRuntime) {
     let text = TEXT.as_bytes();
     let whole = usize::MAX;
     let grammar = Err(RunFault::Format(FormatError::Grammar { at: 33 }));
-    expect_run(&rt, alloc, text, (whole, 0), (whole, 0), (Ok(()), false, false, LAYOUT));
-    expect_run(&rt, alloc, text, (1, 0), (3, 0), (Ok(()), false, false, LAYOUT));
-    expect_run(&rt, alloc, b"", (whole, 0), (whole, 0), (Ok(()), false, false, "\n"));
+    expect_run(
+        &rt,
+        alloc,
+        text,
+        (whole, 0),
+        (whole, 0),
+        (Ok(()), false, false, LAYOUT),
+    );
+    expect_run(
+        &rt,
+        alloc,
+        text,
+        (1, 0),
+        (3, 0),
+        (Ok(()), false, false, LAYOUT),
+    );
+    expect_run(
+        &rt,
+        alloc,
+        b"",
+        (whole, 0),
+        (whole, 0),
+        (Ok(()), false, false, "\n"),
+    );
     let read = Err(RunFault::Read);
-    expect_run(&rt, alloc, text, (whole, 1), (whole, 0), (read, true, false, ""));
-    expect_run(&rt, alloc, text, (whole, 2), (whole, 0), (read, true, false, ""));
-    expect_run(&rt, alloc, text, (5, 2), (whole, 0), (read, true, false, ""));
+    expect_run(
+        &rt,
+        alloc,
+        text,
+        (whole, 1),
+        (whole, 0),
+        (read, true, false, ""),
+    );
+    expect_run(
+        &rt,
+        alloc,
+        text,
+        (whole, 2),
+        (whole, 0),
+        (read, true, false, ""),
+    );
+    expect_run(
+        &rt,
+        alloc,
+        text,
+        (5, 2),
+        (whole, 0),
+        (read, true, false, ""),
+    );
     let write = Err(RunFault::Write);
-    expect_run(&rt, alloc, text, (whole, 0), (whole, 1), (write, false, true, ""));
-    expect_run(&rt, alloc, text, (whole, 0), (5, 2), (write, false, true, "permi"));
-    expect_run(&rt, alloc, text, (whole, 0), (0, 0), (write, false, true, ""));
+    expect_run(
+        &rt,
+        alloc,
+        text,
+        (whole, 0),
+        (whole, 1),
+        (write, false, true, ""),
+    );
+    expect_run(
+        &rt,
+        alloc,
+        text,
+        (whole, 0),
+        (5, 2),
+        (write, false, true, "permi"),
+    );
+    expect_run(
+        &rt,
+        alloc,
+        text,
+        (whole, 0),
+        (0, 0),
+        (write, false, true, ""),
+    );
     let not_utf8 = Err(RunFault::NotUtf8);
-    expect_run(&rt, alloc, &[255], (whole, 0), (whole, 0), (not_utf8, false, false, ""));
-    expect_run(&rt, alloc, &text[..33], (whole, 0), (whole, 0), (grammar, false, false, ""));
+    expect_run(
+        &rt,
+        alloc,
+        &[255],
+        (whole, 0),
+        (whole, 0),
+        (not_utf8, false, false, ""),
+    );
+    expect_run(
+        &rt,
+        alloc,
+        &text[..33],
+        (whole, 0),
+        (whole, 0),
+        (grammar, false, false, ""),
+    );
 }
 
 #[test]

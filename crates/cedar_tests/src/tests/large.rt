@@ -18,6 +18,7 @@ fn around(
 }
 
 static PACKED: &str = "permit(principal,action,resource)when{";
+
 static SPACED: &str = "permit (principal, action, resource)\nwhen\n{\n";
 
 #[test]
@@ -68,7 +69,13 @@ fn many_policies(rt: HostRuntime) -> Result<(), AllocError> {
     let alloc = rt.alloc();
     let text = around(alloc, "", "permit(principal,action,resource);", 10000, "")?;
     let one = "permit (principal, action, resource);";
-    let want = around(alloc, "", "permit (principal, action, resource);\n\n", 9999, one)?;
+    let want = around(
+        alloc,
+        "",
+        "permit (principal, action, resource);\n\n",
+        9999,
+        one,
+    )?;
     let want = format!(in alloc; "{want}\n")?;
     expect_layout(&rt, alloc, text.as_str(), &config(80, 2), want.as_str());
     Ok(())

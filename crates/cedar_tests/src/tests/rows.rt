@@ -38,10 +38,7 @@ pub(super) static ROWS: [(&str, &str); 52] = [
         "§when{f(1 // x\n// y\n)};",
         "¶\nwhen\n{\n  f(\n      1 // x\n    // y\n    )\n};\n",
     ),
-    (
-        "§; // t\n// l\n§;\n// e",
-        "¶; // t\n\n// l\n¶;\n// e\n",
-    ),
+    ("§; // t\n// l\n§;\n// e", "¶; // t\n\n// l\n¶;\n// e\n"),
     ("¶;", "¶;\n"),
     ("¶;\n", "¶;\n"),
     ("¶;\r\n", "¶;\n"),
@@ -96,10 +93,16 @@ pub(super) static ROWS: [(&str, &str); 52] = [
         "¶\n        when { \"\n        \n        a\n        \" };",
         "¶\nwhen { \"\n        \n        a\n        \" };\n",
     ),
-    ("¶\nwhen { \"a\"   };\n¶\nwhen { \"b\" };", "¶\nwhen { \"a\" };\n\n¶\nwhen { \"b\" };\n"),
+    (
+        "¶\nwhen { \"a\"   };\n¶\nwhen { \"b\" };",
+        "¶\nwhen { \"a\" };\n\n¶\nwhen { \"b\" };\n",
+    ),
     ("§when{{}};", "¶\nwhen { {} };\n"),
     ("§when{1+2*3};", "¶\nwhen { 1 + 2 * 3 };\n"),
-    ("§when{!!context.b(1).c};", "¶\nwhen { !!context.b(1).c };\n"),
+    (
+        "§when{!!context.b(1).c};",
+        "¶\nwhen { !!context.b(1).c };\n",
+    ),
     (
         "§when{if true then 1 else 2};",
         "¶\nwhen { if true then 1 else 2 };\n",
@@ -185,17 +188,37 @@ pub(super) static ROWS_AT: [(usize, isize, &str, &str); 21] = [
         "§when{if a::\"x\"==principal then true else false};",
         "¶\nwhen { if a::\"x\" == principal then true else false };\n",
     ),
-    (80, 9223372036854775807, "§when{true};", "¶\nwhen { true };\n"),
+    (
+        80,
+        9223372036854775807,
+        "§when{true};",
+        "¶\nwhen { true };\n",
+    ),
     (
         40,
         2,
         "permit(principal, action, resource) when {\n            decimal(\"1.000000000000000000000000000000000000000000\") &&\n            ip(\"192.168.0.1\").isInRange(ip(\"192.168.0.0/24\"))\n        };\n",
         "¶\nwhen\n{\n  decimal(\n      \"1.000000000000000000000000000000000000000000\"\n    ) &&\n  ip(\n      \"192.168.0.1\"\n    )\n    .isInRange(\n      ip(\"192.168.0.0/24\")\n    )\n};\n",
     ),
-    (36, 2, "§;// t", "permit\n(principal, action, resource); // t\n"),
-    (40, 2, "§;// t", "permit\n(principal, action, resource); // t\n"),
+    (
+        36,
+        2,
+        "§;// t",
+        "permit\n(principal, action, resource); // t\n",
+    ),
+    (
+        40,
+        2,
+        "§;// t",
+        "permit\n(principal, action, resource); // t\n",
+    ),
     (42, 2, "§;// t", "¶; // t\n"),
-    (41, 2, "§;// t", "permit\n(principal, action, resource); // t\n"),
+    (
+        41,
+        2,
+        "§;// t",
+        "permit\n(principal, action, resource); // t\n",
+    ),
     (37, 0, "§;", "¶;\n"),
 ];
 
@@ -216,7 +239,13 @@ fn layouts_at_widths(rt: HostRuntime) -> Result<(), AllocError> {
     for (width, indent, text, want) in &ROWS_AT {
         let text = expand(alloc, text)?;
         let want = expand(alloc, want)?;
-        expect_layout(&rt, alloc, text.as_str(), &config(*width, *indent), want.as_str());
+        expect_layout(
+            &rt,
+            alloc,
+            text.as_str(),
+            &config(*width, *indent),
+            want.as_str(),
+        );
     }
     Ok(())
 }

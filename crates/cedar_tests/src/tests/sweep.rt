@@ -1,6 +1,6 @@
 //! Every row at every width up to 90 and indentation from -1 to 4: the layout is of the same list, and is laid out as it is.
-use super::*;
 use super::rows::{ROWS, ROWS_AT};
+use super::*;
 use cedar_policy_formatter::lexer::{drop_trailing_commas, get_token_stream};
 use cedar_policy_formatter::token::{Token, WrappedToken};
 
@@ -16,9 +16,7 @@ fn same_value(a: &Token, b: &Token) -> bool {
 
 fn same_tokens(a: &[WrappedToken<'_>], b: &[WrappedToken<'_>]) -> bool {
     a.len() == b.len()
-        && a.iter()
-            .zip(b)
-            .all(|(x, y)| same_value(&x.token, &y.token) && x.comment == y.comment)
+        && a.iter().zip(b).all(|(x, y)| same_value(&x.token, &y.token) && x.comment == y.comment)
 }
 
 // Whether the tokens of `a` without trailing commas are those of `b`, with their comments, and the closing comments too.
@@ -45,7 +43,11 @@ fn sweep(rt: &impl Abort, alloc: Global, text: &str) -> Result<(), AllocError> {
                     assert!(rt; kept, "{text:?} at {config:?} gives {first:?}");
                     let again = policies_str_to_pretty(alloc, first.as_str(), &config);
                     match again {
-                        Ok(again) => assert_eq!(rt; again.as_str(), first.as_str(), "{text:?} at {config:?}"),
+                        Ok(again) => assert_eq!(rt;
+                            again.as_str(),
+                            first.as_str(),
+                            "{text:?} at {config:?}"
+                        ),
                         Err(error) => assert_eq!(rt; Some(error), None, "{first:?} at {config:?}"),
                     }
                 }
