@@ -14,6 +14,7 @@ use cedar_cst::cst::{
     Add, AddOp, And, Annotation, Cond, Expr, Ident, Literal, MemAccess, Member, Mult, MultOp, Name,
     Node, Or, Policy, Primary, RecInit, Ref, Relation, Slot, Str, Unary, VariableDef,
 };
+pub use cedar_documents::{every_gap_holds, raw_layouts_read_back};
 use cedar_layout::layout::Document;
 use std::alloc::{AllocError, AllocFailed, Global};
 

@@ -8,6 +8,11 @@ ghost use Rattle.cedar_policy_formatter.specs.Refused.{IsOwn, IsOfCheck, Refuses
 use crate::config::{Config, Context};
 use crate::doc::{Doc, NoDocument};
 use cedar_cst::cst::{FormatError, Node, Policies, Policy, parse_policies, same_tree};
+pub use cedar_documents::{
+    accepted_texts_have_trees, cleaning_is_unique, cleaning_keeps_the_list, cleaning_takes_blanks,
+    every_layout_reads_back, every_list_is_good, lists_join, outputs_are_canonical,
+    outputs_are_determined,
+};
 use cedar_layout::layout::render;
 use cedar_layout::utils::remove_empty_lines;
 use cedar_tokens::lexer::{drop_trailing_commas, get_token_stream};
