@@ -1,7 +1,6 @@
-use Rattle.std.proofs.Common.{rules, ◌≡◌, map, ℕ, List, sym, ap, ◌∙◌}
+use Rattle.std.proofs.Common.{rules, map, ap, ◌∙◌}
 use Rattle.cedar_tokens.specs.Tokens.{bare}
-use Rattle.cedar_layout.specs.Lookups.{AreInOrder, starts_at}
-use Rattle.cedar_policy_formatter.specs.Kept.{KeepsTokens}
+use Rattle.cedar_layout.specs.Lookups.{starts_at}
 use Rattle.cedar_policy_formatter.proofs.Keeping.{kept_if_taken, refilled, order_kept}
 use Rattle.cedar_policy_formatter.proofs.doc.taking.take_at_start.Goals as goal
 
