@@ -6,6 +6,7 @@ use cedar_policy_formatter::doc::Doc;
 use cedar_policy_formatter::layout::{Document, render};
 use cedar_policy_formatter::lexer::{drop_trailing_commas, get_token_stream};
 use cedar_policy_formatter::token::{Span, WrappedToken};
+use cedar_policy_formatter::utils::in_order;
 
 fn tokens_of(alloc: Global, text: &str) -> Result<Vec<WrappedToken<'_>>, AllocError> {
     match get_token_stream(alloc, text)? {
@@ -78,6 +79,7 @@ fn bodies(rt: HostRuntime) -> Result<(), AllocError> {
         assert_eq!(rt; tree.policies.len(), 1);
         let conds = &tree.policies[0].inner.conds;
         assert_eq!(rt; conds.len(), 1);
+        assert!(rt; in_order(&context.tokens));
         let doc = conds[0].inner.expr.to_doc(alloc, &mut context)?;
         expect_text(&rt, alloc, doc, line_width, want)?;
     }
@@ -94,6 +96,34 @@ fn raw_policies(rt: HostRuntime) -> Result<(), AllocError> {
     expect_policies(&rt, alloc, text.as_str(), &["¶; // t\n", "\n// l\n¶;"])
 }
 
+// The document's text at 80 columns.
+fn rendered(
+    rt: &impl Abort,
+    alloc: Global,
+    doc: Option<Document<'_>>,
+) -> Result<String, AllocError> {
+    let mut out = String::new(alloc);
+    match doc {
+        Some(doc) => render(alloc, &doc, 80, &mut out)?,
+        None => panic!(rt; "no document"),
+    }
+    Ok(out)
+}
+
+fn expect_outputs(
+    rt: &impl Abort,
+    alloc: Global,
+    outputs: &[String],
+    wants: &[&str],
+) -> Result<(), AllocError> {
+    assert_eq!(rt; outputs.len(), wants.len());
+    for (output, want) in outputs.iter().zip(wants) {
+        let want = expand(alloc, want)?;
+        assert_eq!(rt; output.as_str(), want.as_str());
+    }
+    Ok(())
+}
+
 // The policies of the text, taken in order, are rendered like this, and no comment is left.
 fn expect_policies(
     rt: &impl Abort,
@@ -107,12 +137,13 @@ fn expect_policies(
         config: &config,
         tokens: tokens_of(alloc, text)?,
     };
-    assert_eq!(rt; tree.policies.len(), wants.len());
-    for (policy, want) in tree.policies.iter().zip(wants) {
+    let mut outputs = Vec::new(alloc);
+    for policy in &tree.policies {
+        assert!(rt; in_order(&context.tokens));
         let doc = policy.to_doc(alloc, &mut context)?;
-        let want = expand(alloc, want)?;
-        expect_text(rt, alloc, doc, 80, want.as_str())?;
+        outputs.push(rendered(rt, alloc, doc)?)?;
     }
+    expect_outputs(rt, alloc, &outputs, wants)?;
     for token in &context.tokens {
         assert!(rt; token.comment.leading_comment().is_empty(), "{token}");
         assert_eq!(rt; token.comment.trailing_comment(), "", "{token}");
@@ -133,6 +164,7 @@ fn a_type_with_a_comment(rt: HostRuntime) -> Result<(), AllocError> {
     assert_eq!(rt; tree.policies.len(), 1);
     match &tree.policies[0].inner.variables.0.inner.entity_type {
         Some(name) => {
+            assert!(rt; in_order(&context.tokens));
             let doc = name.to_doc(alloc, &mut context)?;
             expect_text(&rt, alloc, doc, 80, "A // x\n::B")
         }
