@@ -3,7 +3,7 @@ ghost use Rattle.std.specs.Prelude.{◌≡◌, ◌≢◌, ◌<◌, length, IsTru
 ghost use Rattle.std.specs.Io.{ReadsAtMost, WritesAtMost};
 ghost use Rattle.std.specs.Io.KnownBytes.{ReadConsumes, WriteAppends};
 ghost use Rattle.cedar_policy_formatter.specs.declared.fmt.stream.RunFault.TheVariants.{Write};
-ghost use Rattle.cedar_policy_formatter.specs.Devices.{IsFailedWrite, TellsRead, TellsWrite, LeavesOutput};
+ghost use Rattle.cedar_policy_formatter.specs.Devices.{device_of, has_failed, IsFailedWrite, TellsRead, TellsWrite, LeavesOutput};
 
 use crate::config::Config;
 use crate::fmt::policies_str_to_pretty;
@@ -22,8 +22,8 @@ pub struct Watched<D> {
 impl<D> Watched<D> {
     /// The device, which has not failed yet.
     pub fn new(device: D) -> Watched<D>
-        ensures device { result.device ≡ device }
-        ensures fresh { IsFalse result.has_failed }
+        ensures device { device_of result ≡ device }
+        ensures fresh { IsFalse (has_failed result) }
     {
         Watched {
             device,
@@ -33,7 +33,7 @@ impl<D> Watched<D> {
 
     /// Whether a read or a write through this failed. A write of one byte or more that takes nothing is a failed one.
     pub fn failed(&self) -> bool
-        ensures { result ≡ self.now.has_failed }
+        ensures { result ≡ has_failed self.now }
     {
         self.has_failed
     }
@@ -44,9 +44,9 @@ impl<R: Read> Read for Watched<R> {
 
     fn read(&mut self, buf: &mut [u8]) -> io::Result<usize>
         ensures bound { ReadsAtMost result buf.new }
-        ensures bytes { ReadConsumes (R.remaining self.old.device) (R.remaining self.new.device) result buf.new }
-        ensures ok { OnOk result (self.new.has_failed ≡ self.old.has_failed) }
-        ensures err { OnErr result (IsTrue self.new.has_failed) }
+        ensures bytes { ReadConsumes (R.remaining (device_of self.old)) (R.remaining (device_of self.new)) result buf.new }
+        ensures ok { OnOk result (has_failed self.new ≡ has_failed self.old) }
+        ensures err { OnErr result (IsTrue (has_failed self.new)) }
     {
         let result = self.device.read(buf);
         if result.is_err() {
@@ -61,9 +61,9 @@ impl<W: Write> Write for Watched<W> {
 
     fn write(&mut self, buf: &[u8]) -> io::Result<usize>
         ensures bound { WritesAtMost result buf.now }
-        ensures bytes { WriteAppends (W.contents self.old.device) (W.contents self.new.device) result buf.now }
-        ensures fails { IsFailedWrite result buf.now → IsTrue self.new.has_failed }
-        ensures succeeds { ¬ (IsFailedWrite result buf.now) → self.new.has_failed ≡ self.old.has_failed }
+        ensures bytes { WriteAppends (W.contents (device_of self.old)) (W.contents (device_of self.new)) result buf.now }
+        ensures fails { IsFailedWrite result buf.now → IsTrue (has_failed self.new) }
+        ensures succeeds { ¬ (IsFailedWrite result buf.now) → has_failed self.new ≡ has_failed self.old }
     {
         let result = self.device.write(buf);
         match &result {
@@ -102,9 +102,9 @@ pub fn format_stream<R: Read, W: Write>(
     output: &mut Watched<W>,
     config: &Config,
 ) -> Result<(), RunFault>
-    ensures read { MatchResult result (λ _. input.new.has_failed ≡ input.old.has_failed) (TellsRead input.old.has_failed input.new.has_failed) }
-    ensures write { MatchResult result (λ _. output.new.has_failed ≡ output.old.has_failed) (TellsWrite output.old.has_failed output.new.has_failed) }
-    ensures nothing { IfErr result (LeavesOutput (W.contents output.old.device) (W.contents output.new.device)) }
+    ensures read { MatchResult result (λ _. has_failed input.new ≡ has_failed input.old) (TellsRead (has_failed input.old) (has_failed input.new)) }
+    ensures write { MatchResult result (λ _. has_failed output.new ≡ has_failed output.old) (TellsWrite (has_failed output.old) (has_failed output.new)) }
+    ensures nothing { IfErr result (LeavesOutput (W.contents (device_of output.old)) (W.contents (device_of output.new))) }
 {
     let text = read_text(alloc, input)?;
     let formatted = match policies_str_to_pretty(alloc, text.as_str(), config) {
@@ -120,7 +120,7 @@ pub fn format_stream<R: Read, W: Write>(
 // The text that `input` gives up to its end: `Read` where a read fails, `NotUtf8` where the bytes aren't UTF-8, and
 // `Format` for want of memory.
 fn read_text<R: Read>(alloc: Global, input: &mut Watched<R>) -> Result<String, RunFault>
-    ensures read { MatchResult result (λ _. input.new.has_failed ≡ input.old.has_failed) (TellsRead input.old.has_failed input.new.has_failed) }
+    ensures read { MatchResult result (λ _. has_failed input.new ≡ has_failed input.old) (TellsRead (has_failed input.old) (has_failed input.new)) }
     ensures no_write { IfErr result (λ e. e ≢ Write) }
 {
     let bytes = read_all(alloc, input)?;
@@ -134,7 +134,7 @@ const BLOCK: usize = 65536;
 
 // All bytes that `input` gives.
 fn read_all<R: Read>(alloc: Global, input: &mut Watched<R>) -> Result<Vec<u8>, RunFault>
-    ensures read { MatchResult result (λ _. input.new.has_failed ≡ input.old.has_failed) (TellsRead input.old.has_failed input.new.has_failed) }
+    ensures read { MatchResult result (λ _. has_failed input.new ≡ has_failed input.old) (TellsRead (has_failed input.old) (has_failed input.new)) }
     ensures no_write { IfErr result (λ e. e ≢ Write) }
 {
     let mut bytes = Vec::new(alloc);
@@ -156,8 +156,8 @@ fn read_all<R: Read>(alloc: Global, input: &mut Watched<R>) -> Result<Vec<u8>, R
 
 // Writes all of these bytes. The first failed write ends it.
 fn write_all<W: Write>(bytes: &[u8], output: &mut Watched<W>) -> io::Result<()>
-    ensures ok { OnOk result (output.new.has_failed ≡ output.old.has_failed) }
-    ensures err { OnErr result (IsTrue output.new.has_failed) }
+    ensures ok { OnOk result (has_failed output.new ≡ has_failed output.old) }
+    ensures err { OnErr result (IsTrue (has_failed output.new)) }
 {
     let mut rest = bytes;
     while !rest.is_empty() {
