@@ -92,13 +92,14 @@ fn run_on<I: Read + Drop, O: Write>(
     }
 }
 
-// The text that a reader gives up to its end.
+// The text that a reader gives up to its end. An interrupted read is a failed one, although `read_to_end` tries it again.
 fn read_text<I: Read>(alloc: Global, input: &mut Watched<I>) -> Result<String, RunFault> {
     let mut bytes = Vec::new(alloc);
-    if input.read_to_end(&mut bytes).is_err() {
-        if input.failed() {
-            return Err(RunFault::Read);
-        }
+    let is_whole = input.read_to_end(&mut bytes).is_ok();
+    if input.failed() {
+        return Err(RunFault::Read);
+    }
+    if !is_whole {
         return Err(RunFault::Format(FormatError::OutOfMemory));
     }
     match String::from_utf8(bytes) {
