@@ -14,6 +14,6 @@ pub use cedar_layout::{layout, utils};
 pub use cedar_tokens::{lexer, token};
 pub use config::{Config, Context};
 pub use fmt::{
-    RunFault, Watched, format_stream, is_formatted, policies_str_to_pretty, same_layout,
-    soundness_check,
+    RunFault, Watched, every_layout_reads_back, format_stream, is_formatted,
+    policies_str_to_pretty, same_layout, soundness_check,
 };
