@@ -5,7 +5,7 @@ use std::io;
 use std::io::ErrorKind;
 use std::process::Abort;
 
-// A reader over memory that fails at the call `fails_at`, counted from 1.
+// A reader over memory that is interrupted at the call `fails_at`, counted from 1.
 #[derive(Drop)]
 struct Source<'a> {
     rest: &'a [u8],
@@ -17,7 +17,7 @@ impl Read for Source<'_> {
     fn read(&mut self, buf: &mut [u8]) -> io::Result<usize> {
         self.calls = self.calls.saturating_add(1);
         if self.calls == self.fails_at {
-            return Err(io::Error::from(ErrorKind::Other));
+            return Err(io::Error::from(ErrorKind::Interrupted));
         }
         let count = self.rest.len().min(buf.len());
         let (now, later) = self.rest.split_at(count);
@@ -193,6 +193,7 @@ fn refuses_what_cannot_be_read_or_written(rt: HostRuntime) -> Result<(), AllocEr
         (words.as_slice(), PACKED.as_bytes(), (1, 0, 0), read),
         (words.as_slice(), PACKED.as_bytes(), (2, 0, 0), read),
         (check.as_slice(), PACKED.as_bytes(), (1, 0, 0), read),
+        (check.as_slice(), PACKED.as_bytes(), (2, 0, 0), read),
         (words.as_slice(), [255].as_slice(), (0, 0, 0), utf8),
         (check.as_slice(), [255].as_slice(), (0, 0, 0), utf8),
         (words.as_slice(), [255].as_slice(), (0, 0, 1), ("", "", 1)),
