@@ -1,4 +1,4 @@
-use Rattle.cedar_grammar.proofs.TextLaws.{accepted_is_not_refused}
+use Rattle.cedar_cst.proofs.RefusalLaws.{accepted_is_not_refused}
 use Rattle.cedar_cst.proofs.cst.laws.accepted_is_not_refused.Goals as goal
 
 pub returns : goal.returns

@@ -1,4 +1,4 @@
-use Rattle.cedar_grammar.proofs.TextLaws.{refusal_is_unique}
+use Rattle.cedar_cst.proofs.RefusalLaws.{refusal_is_unique}
 use Rattle.cedar_cst.proofs.cst.laws.refusal_is_unique.Goals as goal
 
 pub returns : goal.returns
