@@ -4,8 +4,9 @@ ghost use Rattle.std.specs.List.{list_all};
 ghost use Rattle.std.specs.Char.{is_ascii_digit};
 ghost use Rattle.cedar_tokens.specs.Units.{is_number};
 ghost use Rattle.cedar_tokens.specs.Split.{IsFirstFault};
-ghost use Rattle.cedar_grammar.specs.Numbers.{is_too_large, HasFittingNumbers};
+ghost use Rattle.cedar_grammar.specs.Numbers.{is_too_large};
 ghost use Rattle.cedar_cst.specs.Refusals.{RefusesTokens};
+ghost use Rattle.cedar_cst.specs.Lexemes.{AreLexemes};
 
 use crate::cst::error::FormatError;
 use cedar_grammar::kind::{Kind, kind_of};
@@ -71,7 +72,7 @@ fn fault_at(text: &str, at: usize) -> FormatError
 /// The tokens of `text`. Refuses the first place where no unit begins; and where there is none, the first number above
 /// 18446744073709551615.
 pub fn read_lexemes<'src>(alloc: Global, text: &'src str) -> Result<Vec<Lexeme<'src>>, FormatError>
-    ensures { MatchResult result (λ _. HasFittingNumbers text.now) (RefusesTokens text.now) }
+    ensures { MatchResult result (λ lexemes. AreLexemes text.now lexemes.items) (RefusesTokens text.now) }
 {
     let mut lexemes = Vec::new(alloc);
     let mut too_large = None;
