@@ -1,4 +1,6 @@
 pub mod NodeLaws
+pub mod Steps
+pub mod LeafTexts
 pub mod RefusalLaws
 pub mod ErasedSame
 pub mod Parsing

@@ -1,10 +1,25 @@
 -- What the steps over tokens keep.
-use Rattle.std.specs.Prelude.{◌≡◌, ◌<◌, ℕ, List, [], ◌∷◌, ◌++◌, length, Result, Ok, Err, Box, box_value}
+use Rattle.std.specs.Prelude.{◌≡◌, ◌<◌, ℕ, true, false, List, [], ◌∷◌, ◌++◌, length, Result, Ok, Err, Option, Some, MatchOption, Box, box_value}
 use Rattle.std.specs.declared.alloc.Global.{Global}
 use Rattle.std.specs.Borrow.{Bor}
 use Rattle.cedar_cst.specs.declared.cst.lexeme.Lexeme.{Lexeme}
 use Rattle.cedar_cst.specs.declared.cst.reading.Refusal.{Refusal}
-use Rattle.cedar_cst.specs.declared.cst.reading.Refusal.TheVariants.{OutOfMemory}
+use Rattle.cedar_cst.specs.declared.cst.reading.Refusal.TheVariants.{Grammar, TooDeep, OutOfMemory}
+use Rattle.cedar_cst.specs.declared.cst.tree.Node.{Node}
+use Rattle.cedar_cst.specs.declared.cst.tree.Ident.{Ident}
+use Rattle.cedar_cst.specs.declared.cst.tree.Str.{Str}
+use Rattle.cedar_cst.specs.Erased.{Erased}
+use Rattle.cedar_cst.specs.Lexemes.{nodes_of}
+use Rattle.cedar_cst.specs.NodeTrees.{span_of}
+use Rattle.cedar_tokens.specs.Units.{is_token}
+use Rattle.cedar_tokens.specs.declared.token.Span.{Span}
+use Rattle.cedar_grammar.specs.declared.kind.Kind.{Kind}
+use Rattle.cedar_grammar.specs.Kinds.{is, begins}
+use Rattle.cedar_grammar.specs.TokenKinds.{kind_of}
+use Rattle.cedar_grammar.specs.Trees.{Label, Forest, none, leaf, branch, yield}
+use Rattle.cedar_grammar.specs.TrailingCommas.{without_trailing}
+use Rattle.cedar_grammar.specs.Reader.Reading.{Reader, Answer, done, stuck}
+use Rattle.cedar_grammar.specs.Reader.Rules.{Rule, read, core, refuse}
 
 -- what was read stands behind the items, and the tokens after it are left; or the refusal is passed on
 abbrev pub Keeps : {X : Type 0} → Result (X × Bor (List Lexeme)) Refusal → List X → List X → Bor (List Lexeme) → Result (Unit {0}) Refusal → Type 0
@@ -30,3 +45,58 @@ abbrev pub PassesOn : {X Y : Type 0} → Result (X × Bor (List Lexeme)) Refusal
 PassesOn (Ok x) (Ok y) = y.1 ≡ x.1
 PassesOn (Err f) (Ok y) = ⊥
 PassesOn _ (Err e) = Unit {0}
+
+abbrev pub kind : Lexeme → Kind
+kind l = l.kind
+
+-- the kind is that of the text, which is a token
+abbrev pub IsRight : Lexeme → Type 0
+IsRight l = (l.kind ≡ kind_of l.text.now) × (is_token l.text.now ≡ true)
+
+-- all leaves are right
+abbrev pub AreRight : Forest Label Lexeme → Type 0
+AreRight none = Unit {0}
+AreRight (leaf t f) = IsRight t × AreRight f
+AreRight (branch l f g) = AreRight f × AreRight g
+
+-- what reads the rule of a line without nesting
+abbrev pub flat : Rule → Reader Lexeme
+flat R = read kind false refuse (core R)
+
+-- the refusal is that of the reader, at the same token
+abbrev pub Fails : Refusal → Answer Lexeme → Type 0
+Fails (Grammar left) a = (r : List Lexeme) × (a ≡ stuck false r) × (left ≡ length r)
+Fails (TooDeep left) a = (r : List Lexeme) × (a ≡ stuck true r) × (left ≡ length r)
+Fails OutOfMemory a = Unit {0}
+
+-- a node with this span and these parts stands for the trees inside
+pub record Stands (span : Span) (parts : Erased) (inside : Forest Label Lexeme) : Type 0 where
+  pub same : AreRight inside → parts ≡ nodes_of inside
+  pub place : span_of (λ (l : Lexeme). l.text.now) (λ (l : Lexeme). l.span) (yield (without_trailing kind inside)) ≡ Some span
+
+-- the reader gives a tree of this label, and the node that was read stands for it; or the refusal is the reader's
+abbrev pub GivesNode : {X : Type 0} → Label → (X → Erased) → Result (Node X × Bor (List Lexeme)) Refusal → Answer Lexeme → Type 0
+GivesNode l parts (Ok x) a = (f : Forest Label Lexeme) × (a ≡ done (branch l f none) x.1.now) × Stands x.0.span (parts x.0.inner) f
+GivesNode l parts (Err e) a = Fails e a
+
+-- the token of this kind, which the reader gives as a leaf
+abbrev pub GivesToken : Kind → Result (Lexeme × Bor (List Lexeme)) Refusal → Answer Lexeme → Type 0
+GivesToken k (Ok x) a = (a ≡ done (leaf x.0 none) x.1.now) × (x.0.kind ≡ k)
+GivesToken k (Err e) a = Fails e a
+
+-- the tokens behind the first, where that is of this kind
+abbrev pub GoesPast : Kind → List Lexeme → Option (Bor (List Lexeme)) → Type 0
+GoesPast k tokens result = MatchOption result (begins kind (is k) tokens ≡ false) (λ rest. (t : Lexeme) × (tokens ≡ t ∷ rest.now) × (t.kind ≡ k))
+
+-- The parts of nodes.
+abbrev pub ident_parts : Ident → Erased
+ident_parts n = leaf n.0.now none
+
+abbrev pub str_parts : Str → Erased
+str_parts n = leaf n.0.now none
+
+abbrev pub IsIdentOf : Lexeme → Node Ident → Type 0
+IsIdentOf t n = (n.inner.0 ≡ t.text) × (n.span ≡ t.span)
+
+abbrev pub IsStrOf : Lexeme → Node Str → Type 0
+IsStrOf t n = (n.inner.0 ≡ t.text) × (n.span ≡ t.span)

@@ -1,6 +1,10 @@
 //! Kinds of tokens, and the nodes that are read without nesting: words, strings, names, entities, literals.
-ghost use Rattle.std.specs.Prelude.{◌≡◌, ◌<◌, ◌≤◌, length, IfOk, IfSome};
+ghost use Rattle.std.specs.Prelude.{◌≡◌, ◌<◌, ◌≤◌, ◌||◌, length, IfOk, IfSome};
 ghost use Rattle.cedar_tokens.specs.Listing.{without_zeros};
+ghost use Rattle.cedar_grammar.specs.Kinds.{is, is_word, is_ident, is_variable, begins};
+ghost use Rattle.cedar_grammar.specs.Trees.{Label};
+ghost use Rattle.cedar_grammar.specs.Reader.Rules.{word_of, text_rule};
+ghost use Rattle.cedar_cst.specs.Reading.{kind, flat, GivesNode, ident_parts, str_parts, IsIdentOf, IsStrOf};
 
 use crate::cst::lexeme::Lexeme;
 use crate::cst::reading::{Parsed, begins, expect, keep, past, refuse};
@@ -13,7 +17,9 @@ use cedar_tokens::token::Span;
 use std::alloc::Global;
 
 /// Whether the kind is that of a word.
-pub fn is_word(kind: Kind) -> bool {
+pub fn is_word(kind: Kind) -> bool
+    ensures { result ≡ is_word kind }
+{
     is_identifier(kind)
         || matches!(
             kind,
@@ -30,7 +36,9 @@ pub fn is_word(kind: Kind) -> bool {
 }
 
 /// Whether the kind is that of a word that can name something: all words but `true false if then else in is like has`.
-pub fn is_identifier(kind: Kind) -> bool {
+pub fn is_identifier(kind: Kind) -> bool
+    ensures { result ≡ is_ident kind }
+{
     is_variable(kind)
         || matches!(
             kind,
@@ -39,7 +47,9 @@ pub fn is_identifier(kind: Kind) -> bool {
 }
 
 /// Whether the kind is that of one of the four variables.
-pub fn is_variable(kind: Kind) -> bool {
+pub fn is_variable(kind: Kind) -> bool
+    ensures { result ≡ is_variable kind }
+{
     matches!(
         kind,
         Kind::Principal | Kind::Action | Kind::Resource | Kind::Context
@@ -47,7 +57,9 @@ pub fn is_variable(kind: Kind) -> bool {
 }
 
 /// Whether the first token can name something.
-pub fn begins_identifier(tokens: &[Lexeme]) -> bool {
+pub fn begins_identifier(tokens: &[Lexeme]) -> bool
+    ensures { result ≡ begins kind is_ident tokens.now }
+{
     match tokens.split_first() {
         Some((first, _)) => is_identifier(first.kind),
         None => false,
@@ -179,7 +191,9 @@ pub fn read_signs(tokens: &[Lexeme]) -> (Option<NegOp>, usize)
 }
 
 /// The token as a word.
-pub fn ident_node<'src>(word: Lexeme<'src>) -> Node<Ident<'src>> {
+pub fn ident_node<'src>(word: Lexeme<'src>) -> Node<Ident<'src>>
+    ensures { IsIdentOf word.entry result }
+{
     Node {
         inner: Ident(word.text),
         span: word.span,
@@ -187,7 +201,9 @@ pub fn ident_node<'src>(word: Lexeme<'src>) -> Node<Ident<'src>> {
 }
 
 /// The token as a string.
-pub fn str_node<'src>(string: Lexeme<'src>) -> Node<Str<'src>> {
+pub fn str_node<'src>(string: Lexeme<'src>) -> Node<Str<'src>>
+    ensures { IsStrOf string.entry result }
+{
     Node {
         inner: Str(string.text),
         span: string.span,
@@ -196,7 +212,8 @@ pub fn str_node<'src>(string: Lexeme<'src>) -> Node<Str<'src>> {
 
 /// A word that can name something.
 pub fn parse_ident<'t, 'src>(tokens: &'t [Lexeme<'src>]) -> Parsed<'t, 'src, Node<Ident<'src>>>
-    ensures { IfOk result (λ x. length x.1.now < length tokens.now) }
+    ensures shorter { IfOk result (λ x. length x.1.now < length tokens.now) }
+    ensures reads { GivesNode Label.ident ident_parts result (flat (word_of is_ident) tokens.now) }
 {
     match tokens.split_first() {
         Some((first, rest)) => {
@@ -212,7 +229,8 @@ pub fn parse_ident<'t, 'src>(tokens: &'t [Lexeme<'src>]) -> Parsed<'t, 'src, Nod
 
 /// Any word.
 pub fn parse_any_word<'t, 'src>(tokens: &'t [Lexeme<'src>]) -> Parsed<'t, 'src, Node<Ident<'src>>>
-    ensures { IfOk result (λ x. length x.1.now < length tokens.now) }
+    ensures shorter { IfOk result (λ x. length x.1.now < length tokens.now) }
+    ensures reads { GivesNode Label.ident ident_parts result (flat (word_of is_word) tokens.now) }
 {
     match tokens.split_first() {
         Some((first, rest)) => {
@@ -232,11 +250,12 @@ pub fn parse_one_of<'t, 'src>(
     wanted: Kind,
     other: Kind,
 ) -> Parsed<'t, 'src, Node<Ident<'src>>>
-    ensures { IfOk result (λ x. length x.1.now < length tokens.now) }
+    ensures shorter { IfOk result (λ x. length x.1.now < length tokens.now) }
+    ensures reads { GivesNode Label.ident ident_parts result (flat (word_of (λ x. is wanted x || is other x)) tokens.now) }
 {
     match tokens.split_first() {
         Some((first, rest)) => {
-            if first.kind == wanted || first.kind == other {
+            if wanted == first.kind || other == first.kind {
                 Ok((ident_node(*first), rest))
             } else {
                 Err(refuse(tokens))
@@ -248,7 +267,8 @@ pub fn parse_one_of<'t, 'src>(
 
 /// A string.
 pub fn parse_str<'t, 'src>(tokens: &'t [Lexeme<'src>]) -> Parsed<'t, 'src, Node<Str<'src>>>
-    ensures { IfOk result (λ x. length x.1.now < length tokens.now) }
+    ensures shorter { IfOk result (λ x. length x.1.now < length tokens.now) }
+    ensures reads { GivesNode Label.str str_parts result (flat text_rule tokens.now) }
 {
     let (string, rest) = expect(tokens, Kind::Str)?;
     Ok((str_node(string), rest))
