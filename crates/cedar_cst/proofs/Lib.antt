@@ -1,6 +1,7 @@
 pub mod NodeLaws
 pub mod Steps
 pub mod LeafTexts
+pub mod Rows
 pub mod RefusalLaws
 pub mod ErasedSame
 pub mod Parsing

@@ -8,7 +8,8 @@ use Rattle.cedar_cst.specs.declared.cst.reading.Refusal.TheVariants.{Grammar, To
 use Rattle.cedar_cst.specs.declared.cst.tree.Node.{Node}
 use Rattle.cedar_cst.specs.declared.cst.tree.Ident.{Ident}
 use Rattle.cedar_cst.specs.declared.cst.tree.Str.{Str}
-use Rattle.cedar_cst.specs.Erased.{Erased}
+use Rattle.cedar_cst.specs.declared.cst.tree.Name.{Name}
+use Rattle.cedar_cst.specs.Erased.{Erased, path_parts}
 use Rattle.cedar_cst.specs.Lexemes.{nodes_of}
 use Rattle.cedar_cst.specs.NodeTrees.{span_of}
 use Rattle.cedar_tokens.specs.Units.{is_token}
@@ -100,3 +101,14 @@ IsIdentOf t n = (n.inner.0 ≡ t.text) × (n.span ≡ t.span)
 
 abbrev pub IsStrOf : Lexeme → Node Str → Type 0
 IsStrOf t n = (n.inner.0 ≡ t.text) × (n.span ≡ t.span)
+
+-- where a name's first word starts
+abbrev pub first_start : List (Node Ident) → Node Ident → ℕ
+first_start [] n = n.span.start
+first_start (x ∷ xs) n = x.span.start
+
+abbrev pub name_parts : Name → Erased
+name_parts n = path_parts n.path.items n.name
+
+abbrev pub IsNameOf : List (Node Ident) → Node Ident → Node Name → Type 0
+IsNameOf path name n = (n.inner.path.items ≡ path) × (n.inner.name ≡ name) × (n.span ≡ record { start = first_start path name; end = name.span.end })

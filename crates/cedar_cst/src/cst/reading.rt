@@ -53,7 +53,8 @@ pub fn begins(tokens: &[Lexeme], wanted: Kind) -> bool
 
 /// The tokens after the first, where that is of this kind.
 pub fn past<'t, 'src>(tokens: &'t [Lexeme<'src>], wanted: Kind) -> Option<&'t [Lexeme<'src>]>
-    ensures { GoesPast wanted tokens.now result }
+    ensures shorter { IfSome result (λ rest. length rest.now < length tokens.now) }
+    ensures token { GoesPast wanted tokens.now result }
 {
     match tokens.split_first() {
         Some((first, rest)) => {

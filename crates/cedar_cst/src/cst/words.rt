@@ -4,7 +4,9 @@ ghost use Rattle.cedar_tokens.specs.Listing.{without_zeros};
 ghost use Rattle.cedar_grammar.specs.Kinds.{is, is_word, is_ident, is_variable, begins};
 ghost use Rattle.cedar_grammar.specs.Trees.{Label};
 ghost use Rattle.cedar_grammar.specs.Reader.Rules.{word_of, text_rule};
-ghost use Rattle.cedar_cst.specs.Reading.{kind, flat, GivesNode, ident_parts, str_parts, IsIdentOf, IsStrOf};
+ghost use Rattle.cedar_grammar.specs.Reader.Lines.{path, field, index};
+ghost use Rattle.cedar_cst.specs.Erased.{access_parts};
+ghost use Rattle.cedar_cst.specs.Reading.{kind, flat, GivesNode, ident_parts, str_parts, IsIdentOf, IsStrOf, first_start, name_parts, IsNameOf};
 
 use crate::cst::lexeme::Lexeme;
 use crate::cst::reading::{Parsed, begins, expect, keep, past, refuse};
@@ -275,7 +277,9 @@ pub fn parse_str<'t, 'src>(tokens: &'t [Lexeme<'src>]) -> Parsed<'t, 'src, Node<
 }
 
 /// Where a name's first word starts.
-pub fn name_start(path: &[Node<Ident<'_>>], name: &Node<Ident<'_>>) -> usize {
+pub fn name_start(path: &[Node<Ident<'_>>], name: &Node<Ident<'_>>) -> usize
+    ensures { result ≡ first_start path.now name.now }
+{
     match path.first() {
         Some(first) => first.span.start,
         None => name.span.start,
@@ -283,7 +287,9 @@ pub fn name_start(path: &[Node<Ident<'_>>], name: &Node<Ident<'_>>) -> usize {
 }
 
 /// The words of a path and its last word as a name.
-pub fn name_node<'src>(path: Vec<Node<Ident<'src>>>, name: Node<Ident<'src>>) -> Node<Name<'src>> {
+pub fn name_node<'src>(path: Vec<Node<Ident<'src>>>, name: Node<Ident<'src>>) -> Node<Name<'src>>
+    ensures { IsNameOf path.entry.items name.entry result }
+{
     let span = Span {
         start: name_start(&path, &name),
         end: name.span.end,
@@ -299,7 +305,8 @@ pub fn parse_path<'t, 'src>(
     alloc: Global,
     tokens: &'t [Lexeme<'src>],
 ) -> Parsed<'t, 'src, Node<Name<'src>>>
-    ensures { IfOk result (λ x. length x.1.now < length tokens.now) }
+    ensures shorter { IfOk result (λ x. length x.1.now < length tokens.now) }
+    ensures reads { GivesNode Label.name name_parts result (flat path tokens.now) }
 {
     let (mut name, mut rest) = parse_ident(tokens)?;
     let mut path = Vec::new(alloc);
@@ -530,7 +537,8 @@ pub fn parse_text_operand<'t, 'src>(
 
 /// `.` and a word.
 pub fn parse_field<'t, 'src>(tokens: &'t [Lexeme<'src>]) -> Parsed<'t, 'src, Node<MemAccess<'src>>>
-    ensures { IfOk result (λ x. length x.1.now < length tokens.now) }
+    ensures shorter { IfOk result (λ x. length x.1.now < length tokens.now) }
+    ensures reads { GivesNode Label.access access_parts result (flat field tokens.now) }
 {
     let (dot, rest) = expect(tokens, Kind::Dot)?;
     let (field, rest) = parse_ident(rest)?;
@@ -547,7 +555,8 @@ pub fn parse_field<'t, 'src>(tokens: &'t [Lexeme<'src>]) -> Parsed<'t, 'src, Nod
 
 /// A string in square brackets.
 pub fn parse_index<'t, 'src>(tokens: &'t [Lexeme<'src>]) -> Parsed<'t, 'src, Node<MemAccess<'src>>>
-    ensures { IfOk result (λ x. length x.1.now < length tokens.now) }
+    ensures shorter { IfOk result (λ x. length x.1.now < length tokens.now) }
+    ensures reads { GivesNode Label.access access_parts result (flat index tokens.now) }
 {
     let (open, rest) = expect(tokens, Kind::LBracket)?;
     let (string, rest) = parse_str(rest)?;
