@@ -2,6 +2,10 @@ pub mod NodeLaws
 pub mod Steps
 pub mod LeafTexts
 pub mod Rows
+pub mod Views
+pub mod Paths
+pub mod Operands
+pub mod Closed
 pub mod RefusalLaws
 pub mod ErasedSame
 pub mod Parsing

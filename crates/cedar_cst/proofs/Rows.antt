@@ -1,7 +1,8 @@
 -- Rows of trees and what stands for them, put together token by token and node by node; and loops over items.
-use Rattle.std.specs.Prelude.{◌≡◌, ℕ, ◌&&◌, ◌<◌, Bool, true, false, List, [], ◌∷◌, ◌++◌, length, Some}
+use Rattle.std.specs.Prelude.{◌≡◌, ℕ, ◌&&◌, ◌<◌, Bool, true, false, List, [], ◌∷◌, ◌++◌, length, Some, None, if◌then◌else◌}
 use Rattle.std.proofs.Common.{refl, sym, ap, ◌∙◌, append_assoc}
 use Rattle.std.specs.Borrow.{Bor}
+use Rattle.cedar_tokens.specs.Listing.{token_value}
 use Rattle.cedar_tokens.specs.declared.token.Span.{Span}
 use Rattle.cedar_grammar.specs.declared.kind.Kind.{Kind}
 use Rattle.cedar_grammar.specs.declared.kind.Kind.TheVariants as K
@@ -66,8 +67,8 @@ plain f = spanned (λ (l : Lexeme). l.text.now) (λ (l : Lexeme). l.span) f
 
 plain_join : (f g : Forest Label Lexeme) → plain (join f g) ≡ join (plain f) (plain g)
 plain_join none g = refl
-plain_join (leaf t f) g = ap (leaf _) (plain_join f g)
-plain_join (branch l f i) g = ap (branch _ (plain f)) (plain_join i g)
+plain_join (leaf t f) g = ap (leaf (token_value t.text.now)) (plain_join f g)
+plain_join (branch l f i) g = ap (branch (l, if is_node l then span_of (λ (l : Lexeme). l.text.now) (λ (l : Lexeme). l.span) (yield f) else None) (plain f)) (plain_join i g)
 
 yield_join : (f g : Forest Label Lexeme) → yield (join f g) ≡ yield f ++ yield g
 yield_join none g = refl

@@ -1,5 +1,5 @@
 -- What the steps over tokens keep.
-use Rattle.std.specs.Prelude.{◌≡◌, ◌<◌, ℕ, true, false, List, [], ◌∷◌, ◌++◌, length, Result, Ok, Err, Option, Some, MatchOption, Box, box_value}
+use Rattle.std.specs.Prelude.{◌≡◌, ◌<◌, ℕ, true, false, List, [], ◌∷◌, ◌++◌, length, Result, Ok, Err, Option, Some, MatchOption, codes, Box, box_value}
 use Rattle.std.specs.declared.alloc.Global.{Global}
 use Rattle.std.specs.Borrow.{Bor}
 use Rattle.cedar_cst.specs.declared.cst.lexeme.Lexeme.{Lexeme}
@@ -9,7 +9,12 @@ use Rattle.cedar_cst.specs.declared.cst.tree.Node.{Node}
 use Rattle.cedar_cst.specs.declared.cst.tree.Ident.{Ident}
 use Rattle.cedar_cst.specs.declared.cst.tree.Str.{Str}
 use Rattle.cedar_cst.specs.declared.cst.tree.Name.{Name}
-use Rattle.cedar_cst.specs.Erased.{Erased, path_parts}
+use Rattle.cedar_cst.specs.declared.cst.tree.Literal.{Literal}
+use Rattle.cedar_cst.specs.declared.cst.tree.Annotation.{Annotation}
+use Rattle.cedar_cst.specs.declared.cst.tree.MemAccess as MemAccess
+use Rattle.cedar_cst.specs.declared.cst.tree.Primary as Primary
+use Rattle.cedar_cst.specs.declared.cst.tree.Add as Add
+use Rattle.cedar_cst.specs.Erased.{Erased, path_parts, node, access_parts, primary_parts, add_parts, ident_tree, value_parts, variant_label, literal_text}
 use Rattle.cedar_cst.specs.Lexemes.{nodes_of}
 use Rattle.cedar_cst.specs.NodeTrees.{span_of}
 use Rattle.cedar_tokens.specs.Units.{is_token}
@@ -19,7 +24,7 @@ use Rattle.cedar_grammar.specs.Kinds.{is, begins}
 use Rattle.cedar_grammar.specs.TokenKinds.{kind_of}
 use Rattle.cedar_grammar.specs.Trees.{Label, Forest, none, leaf, branch, yield}
 use Rattle.cedar_grammar.specs.TrailingCommas.{without_trailing}
-use Rattle.cedar_grammar.specs.Reader.Reading.{Reader, Answer, done, stuck}
+use Rattle.cedar_grammar.specs.Reader.Reading.{Reader, Answer, done, stuck, one}
 use Rattle.cedar_grammar.specs.Reader.Rules.{Rule, read, core, refuse}
 
 -- what was read stands behind the items, and the tokens after it are left; or the refusal is passed on
@@ -112,3 +117,40 @@ name_parts n = path_parts n.path.items n.name
 
 abbrev pub IsNameOf : List (Node Ident) → Node Ident → Node Name → Type 0
 IsNameOf path name n = (n.inner.path.items ≡ path) × (n.inner.name ≡ name) × (n.span ≡ record { start = first_start path name; end = name.span.end })
+
+-- the token of this kind behind what was read, of which the end is answered; or the refusal is the first of the two
+abbrev pub ClosesWith : {X : Type 0} → Kind → Result (X × Bor (List Lexeme)) Refusal → Result ((X × ℕ) × Bor (List Lexeme)) Refusal → Type 0
+ClosesWith k (Ok x) (Ok y) = (y.0.0 ≡ x.0) × (t : Lexeme) × (one kind k x.1.now ≡ done (leaf t none) y.1.now) × (t.kind ≡ k) × (y.0.1 ≡ t.span.end)
+ClosesWith k (Ok x) (Err e) = Fails e (one kind k x.1.now)
+ClosesWith k (Err f) (Ok y) = ⊥
+ClosesWith k (Err f) (Err e) = e ≡ f
+
+-- What an operand is that a primary and what is accessed in it make.
+abbrev pub access_items : List (Node MemAccess.MemAccess) → Erased
+access_items [] = none
+access_items (n ∷ ns) = node Label.access n.span (access_parts n.inner) (access_items ns)
+
+abbrev pub operand_parts : Span → Node Primary.Primary → List (Node MemAccess.MemAccess) → Erased
+operand_parts s item access = node Label.mult s (node Label.unary s (node Label.member s (node Label.primary item.span (primary_parts item.inner) (access_items access)) none) none) none
+
+abbrev pub IsOperandOf : Node Primary.Primary → List (Node MemAccess.MemAccess) → Span → Node Add.Add → Type 0
+IsOperandOf item access s n = (add_parts n.inner ≡ operand_parts s item access) × (n.span ≡ s)
+
+abbrev pub IsLiteralOf : Literal → Span → Node Primary.Primary → Type 0
+IsLiteralOf t s n = (primary_parts n.inner ≡ node (variant_label t) s (leaf (literal_text t) none) none) × (n.span ≡ s)
+
+abbrev pub IsNamePrimaryOf : Node Name → Node Primary.Primary → Type 0
+IsNamePrimaryOf name n = (primary_parts n.inner ≡ node Label.name name.span (name_parts name.inner) none) × (n.span ≡ name.span)
+
+-- the token of this kind and a tree of this label behind it, and the node that was read stands for that
+abbrev pub GivesBehind : {X : Type 0} → Kind → Label → (X → Erased) → Result (Node X × Bor (List Lexeme)) Refusal → Answer Lexeme → Type 0
+GivesBehind k l parts (Ok x) a = (t : Lexeme) × (f : Forest Label Lexeme) × (a ≡ done (leaf t (branch l f none)) x.1.now) × (t.kind ≡ k) × Stands x.0.span (parts x.0.inner) f
+GivesBehind k l parts (Err e) a = Fails e a
+
+abbrev pub annotation_parts : Annotation → Erased
+annotation_parts a = leaf (codes "@") (ident_tree a.key (value_parts a.value))
+
+-- where the last access ends
+abbrev pub last_end : ℕ → List (Node MemAccess.MemAccess) → ℕ
+last_end e [] = e
+last_end e (n ∷ ns) = last_end n.span.end ns

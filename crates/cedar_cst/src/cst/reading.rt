@@ -2,7 +2,7 @@
 ghost use Rattle.std.specs.Prelude.{◌≡◌, ◌<◌, ◌≤◌, false, length, IfOk, IfSome};
 ghost use Rattle.cedar_grammar.specs.Kinds.{is, begins};
 ghost use Rattle.cedar_grammar.specs.Reader.Reading.{one};
-ghost use Rattle.cedar_cst.specs.Reading.{Keeps, Closes, Boxes, kind, GivesToken, GoesPast, Fails};
+ghost use Rattle.cedar_cst.specs.Reading.{Keeps, Closes, Boxes, kind, GivesToken, GoesPast, Fails, ClosesWith};
 ghost use Rattle.cedar_grammar.specs.Reader.Reading.{stuck};
 ghost use Rattle.cedar_cst.specs.declared.cst.reading.Refusal.TheVariants.{OutOfMemory};
 
@@ -125,7 +125,8 @@ pub fn closed_by<'t, 'src, T: Drop>(
     read: Parsed<'t, 'src, T>,
     wanted: Kind,
 ) -> Parsed<'t, 'src, (T, usize)>
-    ensures { Closes read.entry result }
+    ensures shorter { Closes read.entry result }
+    ensures reads { ClosesWith wanted read.entry result }
 {
     match read {
         Ok((value, rest)) => match expect(rest, wanted) {

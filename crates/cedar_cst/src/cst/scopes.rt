@@ -1,5 +1,8 @@
 //! Policies: annotations, scopes and conditions.
 ghost use Rattle.std.specs.Prelude.{◌<◌, ◌≤◌, length, IfOk};
+ghost use Rattle.cedar_grammar.specs.Trees.{Label};
+ghost use Rattle.cedar_grammar.specs.Reader.Lines.{annotation_rule};
+ghost use Rattle.cedar_cst.specs.Reading.{flat, GivesNode, annotation_parts};
 
 use crate::cst::expressions::parse_expr;
 use crate::cst::lexeme::Lexeme;
@@ -84,7 +87,8 @@ fn parse_annotations<'t, 'src>(
 fn parse_annotation<'t, 'src>(
     tokens: &'t [Lexeme<'src>],
 ) -> Parsed<'t, 'src, Node<Annotation<'src>>>
-    ensures { IfOk result (λ x. length x.1.now < length tokens.now) }
+    ensures shorter { IfOk result (λ x. length x.1.now < length tokens.now) }
+    ensures reads { GivesNode Label.annotation annotation_parts result (flat annotation_rule tokens.now) }
 {
     let (at, rest) = expect(tokens, Kind::At)?;
     let (key, rest) = parse_any_word(rest)?;

@@ -1,12 +1,13 @@
 //! Kinds of tokens, and the nodes that are read without nesting: words, strings, names, entities, literals.
-ghost use Rattle.std.specs.Prelude.{◌≡◌, ◌<◌, ◌≤◌, ◌||◌, length, IfOk, IfSome};
+ghost use Rattle.std.specs.Prelude.{◌≡◌, [], ◌<◌, ◌≤◌, ◌||◌, length, IfOk, IfSome};
 ghost use Rattle.cedar_tokens.specs.Listing.{without_zeros};
 ghost use Rattle.cedar_grammar.specs.Kinds.{is, is_word, is_ident, is_variable, begins};
 ghost use Rattle.cedar_grammar.specs.Trees.{Label};
+ghost use Rattle.cedar_grammar.specs.declared.kind.Kind.TheVariants as K;
 ghost use Rattle.cedar_grammar.specs.Reader.Rules.{word_of, text_rule};
-ghost use Rattle.cedar_grammar.specs.Reader.Lines.{path, field, index};
-ghost use Rattle.cedar_cst.specs.Erased.{access_parts};
-ghost use Rattle.cedar_cst.specs.Reading.{kind, flat, GivesNode, ident_parts, str_parts, IsIdentOf, IsStrOf, first_start, name_parts, IsNameOf};
+ghost use Rattle.cedar_grammar.specs.Reader.Lines.{◌▸◌, ◌∥◌, one_of, path, field, index, text_operand, has_field};
+ghost use Rattle.cedar_cst.specs.Erased.{access_parts, add_parts};
+ghost use Rattle.cedar_cst.specs.Reading.{kind, flat, GivesNode, ident_parts, str_parts, IsIdentOf, IsStrOf, first_start, name_parts, IsNameOf, IsOperandOf, IsLiteralOf, IsNamePrimaryOf, GivesBehind, last_end};
 
 use crate::cst::lexeme::Lexeme;
 use crate::cst::reading::{Parsed, begins, expect, keep, past, refuse};
@@ -336,7 +337,9 @@ pub fn entity_node<'src>(path: Node<Name<'src>>, eid: Node<Str<'src>>) -> Node<P
 }
 
 /// A name as a primary.
-pub fn name_primary<'src>(name: Node<Name<'src>>) -> Node<Primary<'src>> {
+pub fn name_primary<'src>(name: Node<Name<'src>>) -> Node<Primary<'src>>
+    ensures { IsNamePrimaryOf name.entry result }
+{
     let span = name.span;
     Node {
         inner: Primary::Name(name),
@@ -345,7 +348,9 @@ pub fn name_primary<'src>(name: Node<Name<'src>>) -> Node<Primary<'src>> {
 }
 
 /// A literal as a primary.
-pub fn literal_primary<'src>(literal: Literal<'src>, span: Span) -> Node<Primary<'src>> {
+pub fn literal_primary<'src>(literal: Literal<'src>, span: Span) -> Node<Primary<'src>>
+    ensures { IsLiteralOf literal.entry span result }
+{
     let literal = Node {
         inner: literal,
         span,
@@ -489,7 +494,9 @@ pub fn operand<'src>(
     item: Node<Primary<'src>>,
     access: Vec<Node<MemAccess<'src>>>,
     span: Span,
-) -> Node<Add<'src>> {
+) -> Node<Add<'src>>
+    ensures { IsOperandOf item.entry access.entry.items span result }
+{
     let member = Node {
         inner: Member { item, access },
         span,
@@ -518,7 +525,9 @@ pub fn operand<'src>(
 }
 
 /// A primary that stands alone as an operand.
-pub fn lone_operand<'src>(alloc: Global, item: Node<Primary<'src>>) -> Node<Add<'src>> {
+pub fn lone_operand<'src>(alloc: Global, item: Node<Primary<'src>>) -> Node<Add<'src>>
+    ensures { IsOperandOf item.entry [] item.entry.span result }
+{
     let span = item.span;
     operand(alloc, item, Vec::new(alloc), span)
 }
@@ -528,7 +537,8 @@ pub fn parse_text_operand<'t, 'src>(
     alloc: Global,
     tokens: &'t [Lexeme<'src>],
 ) -> Parsed<'t, 'src, Node<Add<'src>>>
-    ensures { IfOk result (λ x. length x.1.now < length tokens.now) }
+    ensures shorter { IfOk result (λ x. length x.1.now < length tokens.now) }
+    ensures reads { GivesNode Label.add add_parts result (flat text_operand tokens.now) }
 {
     let (string, rest) = expect(tokens, Kind::Str)?;
     let primary = literal_primary(Literal::Str(string.text), string.span);
@@ -577,7 +587,8 @@ pub fn parse_pattern<'t, 'src>(
     alloc: Global,
     tokens: &'t [Lexeme<'src>],
 ) -> Parsed<'t, 'src, Node<Add<'src>>>
-    ensures { IfOk result (λ x. length x.1.now < length tokens.now) }
+    ensures shorter { IfOk result (λ x. length x.1.now < length tokens.now) }
+    ensures reads { GivesBehind K.Like Label.add add_parts result (flat (one_of K.Like ▸ text_operand) tokens.now) }
 {
     let (_, rest) = expect(tokens, Kind::Like)?;
     parse_text_operand(alloc, rest)
@@ -588,7 +599,8 @@ pub fn parse_has_field<'t, 'src>(
     alloc: Global,
     tokens: &'t [Lexeme<'src>],
 ) -> Parsed<'t, 'src, Node<Add<'src>>>
-    ensures { IfOk result (λ x. length x.1.now < length tokens.now) }
+    ensures shorter { IfOk result (λ x. length x.1.now < length tokens.now) }
+    ensures reads { GivesBehind K.Has Label.add add_parts result (flat (one_of K.Has ▸ (text_operand ∥ has_field)) tokens.now) }
 {
     let (_, rest) = expect(tokens, Kind::Has)?;
     if begins(rest, Kind::Str) {
@@ -597,12 +609,23 @@ pub fn parse_has_field<'t, 'src>(
     parse_fields(alloc, rest)
 }
 
+/// Where the last of these accesses ends; `end` where there is none.
+pub fn accesses_end(end: usize, access: &[Node<MemAccess<'_>>]) -> usize
+    ensures { result ≡ last_end end access.now }
+{
+    match access.last() {
+        Some(last) => last.span.end,
+        None => end,
+    }
+}
+
 // Words joined by `.`, as an operand.
 fn parse_fields<'t, 'src>(
     alloc: Global,
     tokens: &'t [Lexeme<'src>],
 ) -> Parsed<'t, 'src, Node<Add<'src>>>
-    ensures { IfOk result (λ x. length x.1.now < length tokens.now) }
+    ensures shorter { IfOk result (λ x. length x.1.now < length tokens.now) }
+    ensures reads { GivesNode Label.add add_parts result (flat has_field tokens.now) }
 {
     let (word, mut rest) = parse_ident(tokens)?;
     let item = name_primary(name_node(Vec::new(alloc), word));
@@ -610,10 +633,7 @@ fn parse_fields<'t, 'src>(
     'fields: while begins(rest, Kind::Dot) {
         keep(parse_field(rest), &mut access, &mut rest)?;
     }
-    let end = match access.last() {
-        Some(field) => field.span.end,
-        None => item.span.end,
-    };
+    let end = accesses_end(item.span.end, &access);
     let span = Span {
         start: item.span.start,
         end,
