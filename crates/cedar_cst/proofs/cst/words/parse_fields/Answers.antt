@@ -17,9 +17,11 @@ returns-in_err-word-clause-reads c =
 pub fields-init : goal.fields-init
 fields-init c =
     let h = c.in_ok-word.ensures.reads in
-    let n = c.name_node.ensures in
-    (c.in_ok-word.ensures.shorter, rw c.new-access.ensures.items (accesses_first _ _ _ _ (tree_done Label.primary _ _ _ _ (tree_done Label.name _ _ _ _ h.1))
-    (lone_name _ c.name_node.result c.name_primary-item.result _ h.2 (rw c.new.ensures.items at n) c.name_primary-item.ensures)))
+    let n = c.name_node.ensures in (
+      c.in_ok-word.ensures.shorter,
+      rw c.new-access.ensures.items (accesses_first _ _ _ _ (tree_done Label.primary _ _ _ _ (tree_done Label.name _ _ _ _ h.1))
+          (lone_name _ c.name_node.result c.name_primary-item.result _ h.2 (rw c.new.ensures.items at n) c.name_primary-item.ensures)),
+    )
 
 pub fields-preserved : goal.fields-preserved
 fields-preserved c =
