@@ -6,6 +6,7 @@ pub mod Views
 pub mod Paths
 pub mod Operands
 pub mod Closed
+pub mod Manys
 pub mod RefusalLaws
 pub mod ErasedSame
 pub mod Parsing

@@ -1,6 +1,6 @@
 -- Rows of trees and what stands for them, put together token by token and node by node; and loops over items.
-use Rattle.std.specs.Prelude.{◌≡◌, ℕ, ◌&&◌, ◌<◌, Bool, true, false, List, [], ◌∷◌, ◌++◌, length, Some, None, if◌then◌else◌}
-use Rattle.std.proofs.Common.{refl, sym, ap, ◌∙◌, append_assoc}
+use Rattle.std.specs.Prelude.{◌≡◌, ℕ, ◌&&◌, ◌<◌, Bool, true, false, List, [], ◌∷◌, ◌++◌, length, Some, None, if◌then◌else◌, ◌⊎◌}
+use Rattle.std.proofs.Common.{refl, sym, ap, ◌∙◌, append_assoc, inl, inr}
 use Rattle.std.specs.Borrow.{Bor}
 use Rattle.cedar_tokens.specs.Listing.{token_value}
 use Rattle.cedar_tokens.specs.declared.token.Span.{Span}
@@ -12,10 +12,11 @@ use Rattle.cedar_grammar.specs.Trees.{Label, Forest, none, leaf, branch, join, y
 use Rattle.cedar_grammar.specs.TrailingCommas.{without_trailing, drop_if, closes_next}
 use Rattle.cedar_grammar.specs.Reader.Reading.{Answer, Reader, done, stuck, both, tree, repeat}
 use Rattle.cedar_grammar.proofs.ReadingLaws.{Takes, IsRead, read_none, read_more, read_end, read_fails, both_done, both_fails, both_then_fails, tree_done, tree_fails, join_none, join_assoc}
+use Rattle.cedar_grammar.proofs.LanguageLaws.{yield_join}
 use Rattle.cedar_cst.specs.Erased.{Erased}
 use Rattle.cedar_cst.specs.Lexemes.{nodes_of}
 use Rattle.cedar_cst.specs.NodeTrees.{is_node, span_of, spanned}
-use Rattle.cedar_cst.specs.Reading.{kind, AreRight, Stands}
+use Rattle.cedar_cst.specs.Reading.{kind, AreRight, Stands, StandsMany}
 use Rattle.cedar_cst.specs.declared.cst.lexeme.Lexeme.{Lexeme}
 use Rattle.cedar_cst.proofs.LeafTexts.{shown, Covers, kept, from_to, nodes_fixed, nodes_node, covers_leaf, covers_more, covers_node, covers_nodes, covers_both}
 
@@ -70,11 +71,6 @@ plain_join none g = refl
 plain_join (leaf t f) g = ap (leaf (token_value t.text.now)) (plain_join f g)
 plain_join (branch l f i) g = ap (branch (l, if is_node l then span_of (λ (l : Lexeme). l.text.now) (λ (l : Lexeme). l.span) (yield f) else None) (plain f)) (plain_join i g)
 
-yield_join : (f g : Forest Label Lexeme) → yield (join f g) ≡ yield f ++ yield g
-yield_join none g = refl
-yield_join (leaf t f) g = ap (λ z. t ∷ z) (yield_join f g)
-yield_join (branch l f i) g = ap (λ z. yield f ++ z) (yield_join i g) ∙ sym (append_assoc (yield f) (yield i) (yield g))
-
 right_join : (f g : Forest Label Lexeme) → AreRight (join f g) → AreRight f × AreRight g
 right_join none g r = (tt, r)
 right_join (leaf t f) g r = let k = right_join f g r.1 in ((r.0, k.0), k.1)
@@ -86,6 +82,17 @@ row_join s u p q f g h a b = record {
       ap (λ z. join z q) (a.same k.0) ∙ ap (join (nodes_of f)) (b.same k.1) ∙ sym (ap plain (kept_join f g h) ∙ plain_join (without_trailing kind f) (without_trailing kind g));
   place = ap (λ z. span_of (λ (l : Lexeme). l.text.now) (λ (l : Lexeme). l.span) z) (ap yield (kept_join f g h) ∙ yield_join (without_trailing kind f) (without_trailing kind g)) ∙ covers_both (kept f) (kept g) s u a.place b.place;
 }
+
+pub many_join : (u : Span) (p q : Erased) (f g : Forest Label Lexeme) → closes_next kind g ≡ false → StandsMany p f → Stands u q g → StandsMany (join p q) (join f g)
+many_join u p q f g h a b = record {
+  same = λ r. let k = right_join f g r in
+      ap (λ z. join z q) (a.same k.0) ∙ ap (join (nodes_of f)) (b.same k.1) ∙ sym (ap plain (kept_join f g h) ∙ plain_join (without_trailing kind f) (without_trailing kind g));
+  place = go a.place;
+}
+  where
+    go : (f ≡ none) ⊎ ((s : Span) × Covers s (kept f)) → (join f g ≡ none) ⊎ ((s : Span) × Covers s (kept (join f g)))
+    go (inl e) = inr (u, ap (λ z. span_of (λ (l : Lexeme). l.text.now) (λ (l : Lexeme). l.span) (kept (join z g))) e ∙ b.place)
+    go (inr (s, c)) = inr (from_to s u, ap (λ z. span_of (λ (l : Lexeme). l.text.now) (λ (l : Lexeme). l.span) z) (ap yield (kept_join f g h) ∙ yield_join (without_trailing kind f) (without_trailing kind g)) ∙ covers_both (kept f) (kept g) s u c b.place)
 
 pub no_closing : (t : Lexeme) (k : Kind) → t.kind ≡ k → is_closing k ≡ false → is_closing t.kind ≡ false
 no_closing t k e h = ap is_closing e ∙ h

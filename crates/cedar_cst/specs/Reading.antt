@@ -1,5 +1,5 @@
 -- What the steps over tokens keep.
-use Rattle.std.specs.Prelude.{◌≡◌, ◌<◌, ℕ, true, false, List, [], ◌∷◌, ◌++◌, length, Result, Ok, Err, Option, Some, MatchOption, codes, Box, box_value}
+use Rattle.std.specs.Prelude.{◌≡◌, ◌<◌, ℕ, true, false, List, [], ◌∷◌, ◌++◌, length, Result, Ok, Err, Option, Some, MatchOption, codes, ◌⊎◌, Vec, Box, box_value}
 use Rattle.std.specs.declared.alloc.Global.{Global}
 use Rattle.std.specs.Borrow.{Bor}
 use Rattle.cedar_cst.specs.declared.cst.lexeme.Lexeme.{Lexeme}
@@ -154,3 +154,18 @@ annotation_parts a = leaf (codes "@") (ident_tree a.key (value_parts a.value))
 abbrev pub last_end : ℕ → List (Node MemAccess.MemAccess) → ℕ
 last_end e [] = e
 last_end e (n ∷ ns) = last_end n.span.end ns
+
+-- nodes of one label in a row
+abbrev pub node_trees : {X : Type 0} → Label → (X → Erased) → List (Node X) → Erased
+node_trees l parts [] = none
+node_trees l parts (n ∷ ns) = node l n.span (parts n.inner) (node_trees l parts ns)
+
+-- a row of nodes, perhaps of none, stands for the trees inside
+pub record StandsMany (trees : Erased) (inside : Forest Label Lexeme) : Type 0 where
+  pub same : AreRight inside → trees ≡ nodes_of inside
+  pub place : (inside ≡ none) ⊎ ((s : Span) × (span_of (λ (l : Lexeme). l.text.now) (λ (l : Lexeme). l.span) (yield (without_trailing kind inside)) ≡ Some s))
+
+-- the reader gives trees, and the nodes that were read stand for them; or the refusal is the reader's
+abbrev pub GivesMany : {X : Type 0} → Label → (X → Erased) → Result (Vec (Node X) Global × Bor (List Lexeme)) Refusal → Answer Lexeme → Type 0
+GivesMany l parts (Ok x) a = (f : Forest Label Lexeme) × (a ≡ done f x.1.now) × StandsMany (node_trees l parts x.0.items) f
+GivesMany l parts (Err e) a = Fails e a

@@ -1,8 +1,9 @@
 //! Policies: annotations, scopes and conditions.
 ghost use Rattle.std.specs.Prelude.{◌<◌, ◌≤◌, length, IfOk};
 ghost use Rattle.cedar_grammar.specs.Trees.{Label};
+ghost use Rattle.cedar_grammar.specs.Reader.Rules.{star};
 ghost use Rattle.cedar_grammar.specs.Reader.Lines.{annotation_rule};
-ghost use Rattle.cedar_cst.specs.Reading.{flat, GivesNode, annotation_parts};
+ghost use Rattle.cedar_cst.specs.Reading.{flat, GivesNode, GivesMany, annotation_parts};
 
 use crate::cst::expressions::parse_expr;
 use crate::cst::lexeme::Lexeme;
@@ -73,7 +74,8 @@ fn parse_annotations<'t, 'src>(
     alloc: Global,
     tokens: &'t [Lexeme<'src>],
 ) -> Parsed<'t, 'src, Vec<Node<Annotation<'src>>>>
-    ensures { IfOk result (λ x. length x.1.now ≤ length tokens.now) }
+    ensures shorter { IfOk result (λ x. length x.1.now ≤ length tokens.now) }
+    ensures reads { GivesMany Label.annotation annotation_parts result (flat (star annotation_rule) tokens.now) }
 {
     let mut annotations = Vec::new(alloc);
     let mut rest = tokens;

@@ -1,10 +1,10 @@
 //! Kinds of tokens, and the nodes that are read without nesting: words, strings, names, entities, literals.
-ghost use Rattle.std.specs.Prelude.{◌≡◌, [], ◌<◌, ◌≤◌, length, IfOk, IfSome};
+ghost use Rattle.std.specs.Prelude.{◌≡◌, [], ◌<◌, ◌≤◌, ◌||◌, ◌&&◌, length, is_some, IfOk, IfSome};
 ghost use Rattle.cedar_tokens.specs.Listing.{without_zeros};
-ghost use Rattle.cedar_grammar.specs.Kinds.{is_word, is_ident, is_variable, begins};
+ghost use Rattle.cedar_grammar.specs.Kinds.{is, is_word, is_ident, is_variable, is_comparison, begins};
 ghost use Rattle.cedar_grammar.specs.Trees.{Label};
 ghost use Rattle.cedar_grammar.specs.declared.kind.Kind.TheVariants as K;
-ghost use Rattle.cedar_grammar.specs.Reader.Rules.{word_of, text_rule};
+ghost use Rattle.cedar_grammar.specs.Reader.Rules.{word_of, text_rule, expr_first};
 ghost use Rattle.cedar_grammar.specs.Reader.Lines.{◌▸◌, ◌∥◌, one_of, path, field, index, text_operand, has_field};
 ghost use Rattle.cedar_cst.specs.Erased.{access_parts, add_parts};
 ghost use Rattle.cedar_cst.specs.Reading.{kind, flat, GivesNode, ident_parts, str_parts, IsIdentOf, IsStrOf, first_start, name_parts, IsNameOf, IsOperandOf, IsLiteralOf, IsNamePrimaryOf, GivesBehind, last_end};
@@ -70,7 +70,9 @@ pub fn begins_identifier(tokens: &[Lexeme]) -> bool
 }
 
 /// Whether an expression begins with the first token.
-pub fn begins_expression(tokens: &[Lexeme]) -> bool {
+pub fn begins_expression(tokens: &[Lexeme]) -> bool
+    ensures { result ≡ begins kind expr_first tokens.now }
+{
     match tokens.split_first() {
         Some((first, _)) => {
             is_identifier(first.kind)
@@ -93,7 +95,9 @@ pub fn begins_expression(tokens: &[Lexeme]) -> bool {
 }
 
 /// Whether a variable stands first.
-pub fn begins_variable(tokens: &[Lexeme]) -> bool {
+pub fn begins_variable(tokens: &[Lexeme]) -> bool
+    ensures { result ≡ begins kind is_variable tokens.now }
+{
     match tokens.split_first() {
         Some((first, _)) => is_variable(first.kind),
         None => false,
@@ -101,24 +105,32 @@ pub fn begins_variable(tokens: &[Lexeme]) -> bool {
 }
 
 /// Whether a key of a record begins with the first token.
-pub fn begins_key(tokens: &[Lexeme]) -> bool {
+pub fn begins_key(tokens: &[Lexeme]) -> bool
+    ensures { result ≡ begins kind (λ x. is_ident x || is K.Str x) tokens.now }
+{
     begins_identifier(tokens) || begins(tokens, Kind::Str)
 }
 
 /// Whether what is accessed begins with the first token; a call does where it is `callable`.
-pub fn begins_access(tokens: &[Lexeme], callable: bool) -> bool {
+pub fn begins_access(tokens: &[Lexeme], callable: bool) -> bool
+    ensures { result ≡ (begins kind (is K.Dot) tokens.now || (begins kind (is K.LBracket) tokens.now || (callable && begins kind (is K.LParen) tokens.now))) }
+{
     begins(tokens, Kind::Dot)
         || begins(tokens, Kind::LBracket)
         || (callable && begins(tokens, Kind::LParen))
 }
 
 /// Whether a parenthesis, a list or a record begins with the first token.
-pub fn begins_bracket(tokens: &[Lexeme]) -> bool {
+pub fn begins_bracket(tokens: &[Lexeme]) -> bool
+    ensures { result ≡ (begins kind (is K.LParen) tokens.now || (begins kind (is K.LBracket) tokens.now || begins kind (is K.LBrace) tokens.now)) }
+{
     begins(tokens, Kind::LParen) || begins(tokens, Kind::LBracket) || begins(tokens, Kind::LBrace)
 }
 
 // The comparison that a kind stands for.
-fn comparison_of(kind: Kind) -> Option<RelOp> {
+fn comparison_of(kind: Kind) -> Option<RelOp>
+    ensures { is_some result ≡ is_comparison kind }
+{
     match kind {
         Kind::Lt => Some(RelOp::Less),
         Kind::Le => Some(RelOp::LessEq),
@@ -132,7 +144,9 @@ fn comparison_of(kind: Kind) -> Option<RelOp> {
 }
 
 /// Whether a comparison's sign stands first.
-pub fn begins_comparison(tokens: &[Lexeme]) -> bool {
+pub fn begins_comparison(tokens: &[Lexeme]) -> bool
+    ensures { result ≡ begins kind is_comparison tokens.now }
+{
     match tokens.split_first() {
         Some((first, _)) => comparison_of(first.kind).is_some(),
         None => false,
