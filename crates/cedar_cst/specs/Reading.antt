@@ -1,6 +1,7 @@
 -- What the steps over tokens keep.
-use Rattle.std.specs.Prelude.{◌≡◌, ◌<◌, ℕ, true, false, List, [], ◌∷◌, ◌++◌, length, Result, Ok, Err, Option, Some, MatchOption, codes, ◌⊎◌, Vec, Box, box_value}
+use Rattle.std.specs.Prelude.{◌≡◌, ◌||◌, ◌<◌, ℕ, Bool, true, false, List, [], ◌∷◌, ◌++◌, length, Result, Ok, Err, Option, Some, None, ◌-◌, MatchOption, codes, ◌⊎◌, Vec, Box, box_value}
 use Rattle.std.specs.declared.alloc.Global.{Global}
+use Rattle.std.specs.List.{slice_get}
 use Rattle.std.specs.Borrow.{Bor}
 use Rattle.cedar_cst.specs.declared.cst.lexeme.Lexeme.{Lexeme}
 use Rattle.cedar_cst.specs.declared.cst.reading.Refusal.{Refusal}
@@ -20,6 +21,9 @@ use Rattle.cedar_cst.specs.NodeTrees.{span_of}
 use Rattle.cedar_tokens.specs.Units.{is_token}
 use Rattle.cedar_tokens.specs.declared.token.Span.{Span}
 use Rattle.cedar_grammar.specs.declared.kind.Kind.{Kind}
+use Rattle.cedar_grammar.specs.declared.kind.Kind.TheVariants as K
+use Rattle.cedar_cst.specs.declared.cst.tree.RelOp.{RelOp}
+use Rattle.cedar_cst.specs.declared.cst.tree.AddOp.{AddOp}
 use Rattle.cedar_grammar.specs.Kinds.{is, begins}
 use Rattle.cedar_grammar.specs.TokenKinds.{kind_of}
 use Rattle.cedar_grammar.specs.Trees.{Label, Forest, none, leaf, branch, yield}
@@ -43,14 +47,16 @@ Closes _ (Err e) = Unit {0}
 -- what was read stands in the box, and the tokens after it are left
 abbrev pub Boxes : {X : Type 0} → Result (X × Bor (List Lexeme)) Refusal → Result (Box X Global × Bor (List Lexeme)) Refusal → Type 0
 Boxes (Ok x) (Ok y) = (box_value y.0 ≡ x.0) × (y.1 ≡ x.1)
+Boxes (Ok x) (Err e) = e ≡ OutOfMemory
 Boxes (Err f) (Ok y) = ⊥
-Boxes _ (Err e) = Unit {0}
+Boxes (Err f) (Err e) = e ≡ f
 
--- after a success the tokens after it are left; a refusal is no success
+-- after a success the tokens after it are left, or memory is wanting; a refusal is passed on
 abbrev pub PassesOn : {X Y : Type 0} → Result (X × Bor (List Lexeme)) Refusal → Result (Y × Bor (List Lexeme)) Refusal → Type 0
 PassesOn (Ok x) (Ok y) = y.1 ≡ x.1
+PassesOn (Ok x) (Err e) = e ≡ OutOfMemory
 PassesOn (Err f) (Ok y) = ⊥
-PassesOn _ (Err e) = Unit {0}
+PassesOn (Err f) (Err e) = e ≡ f
 
 abbrev pub kind : Lexeme → Kind
 kind l = l.kind
@@ -169,3 +175,43 @@ pub record StandsMany (trees : Erased) (inside : Forest Label Lexeme) : Type 0 w
 abbrev pub GivesMany : {X : Type 0} → Label → (X → Erased) → Result (Vec (Node X) Global × Bor (List Lexeme)) Refusal → Answer Lexeme → Type 0
 GivesMany l parts (Ok x) a = (f : Forest Label Lexeme) × (a ≡ done f x.1.now) × StandsMany (node_trees l parts x.0.items) f
 GivesMany l parts (Err e) a = Fails e a
+
+-- where the first token starts
+abbrev pub first_place : List Lexeme → ℕ
+first_place [] = 0
+first_place (t ∷ ts) = t.span.start
+
+-- the kind of a comparison's sign
+abbrev pub relop_kind : RelOp → Kind
+relop_kind RelOp.Less = K.Lt
+relop_kind RelOp.LessEq = K.Le
+relop_kind RelOp.Greater = K.Gt
+relop_kind RelOp.GreaterEq = K.Ge
+relop_kind RelOp.NotEq = K.NotEqual
+relop_kind RelOp.Eq = K.Equal
+relop_kind RelOp.In = K.In
+
+abbrev pub addop_kind : AddOp → Kind
+addop_kind AddOp.Plus = K.Add
+addop_kind AddOp.Minus = K.Dash
+
+-- the sign that stands first, and the tokens behind it
+abbrev pub GoesPastSign : List Lexeme → Option (AddOp × Bor (List Lexeme)) → Type 0
+GoesPastSign tokens result = MatchOption result (begins kind (λ x. is K.Add x || is K.Dash x) tokens ≡ false) (λ x. (t : Lexeme) × (tokens ≡ t ∷ x.1.now) × (t.kind ≡ addop_kind x.0))
+
+-- a comparison's sign, which the reader gives as a leaf
+abbrev pub GivesSign : Result (RelOp × Bor (List Lexeme)) Refusal → Answer Lexeme → Type 0
+GivesSign (Ok x) a = (t : Lexeme) × (a ≡ done (leaf t none) x.1.now) × (t.kind ≡ relop_kind x.0)
+GivesSign (Err e) a = Fails e a
+
+-- whether a token of this kind stands first, and then the tokens behind it
+abbrev pub Skips : Kind → List Lexeme → List Lexeme → Bool → Type 0
+Skips k old new result = (result ≡ begins kind (is k) old) × (result ≡ false → new ≡ old) × (result ≡ true → (t : Lexeme) × (old ≡ t ∷ new) × (t.kind ≡ k))
+
+abbrev pub start_or : ℕ → Option Lexeme → ℕ
+start_or n None = n
+start_or n (Some l) = l.span.start
+
+-- where the token starts from which on so many are left; the text's length where none is left
+abbrev pub place_of : List ℕ → List Lexeme → ℕ → ℕ
+place_of text lexemes left = start_or (length text) (slice_get lexemes (length lexemes - left))

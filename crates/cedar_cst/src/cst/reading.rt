@@ -2,7 +2,7 @@
 ghost use Rattle.std.specs.Prelude.{◌≡◌, ◌<◌, ◌≤◌, false, length, IfOk, IfSome};
 ghost use Rattle.cedar_grammar.specs.Kinds.{is, begins};
 ghost use Rattle.cedar_grammar.specs.Reader.Reading.{one};
-ghost use Rattle.cedar_cst.specs.Reading.{Keeps, Closes, Boxes, kind, GivesToken, GoesPast, Fails, ClosesWith};
+ghost use Rattle.cedar_cst.specs.Reading.{Keeps, Closes, Boxes, kind, GivesToken, GoesPast, Fails, ClosesWith, first_place, Skips};
 ghost use Rattle.cedar_grammar.specs.Reader.Reading.{stuck};
 ghost use Rattle.cedar_cst.specs.declared.cst.reading.Refusal.TheVariants.{OutOfMemory};
 
@@ -70,7 +70,8 @@ pub fn past<'t, 'src>(tokens: &'t [Lexeme<'src>], wanted: Kind) -> Option<&'t [L
 
 /// Goes past a token of this kind, where one stands first, and says whether it did.
 pub fn skip<'t, 'src>(rest: &mut &'t [Lexeme<'src>], wanted: Kind) -> bool
-    ensures { length rest.new.now ≤ length rest.old.now }
+    ensures shorter { length rest.new.now ≤ length rest.old.now }
+    ensures token { Skips wanted rest.old.now rest.new.now result }
 {
     let tokens = *rest;
     *rest = past(tokens, wanted).unwrap_or(tokens);
@@ -95,7 +96,9 @@ pub fn expect<'t, 'src>(tokens: &'t [Lexeme<'src>], wanted: Kind) -> Parsed<'t, 
 }
 
 /// Where the first token starts.
-pub fn start_of(tokens: &[Lexeme]) -> usize {
+pub fn start_of(tokens: &[Lexeme]) -> usize
+    ensures { result ≡ first_place tokens.now }
+{
     match tokens.split_first() {
         Some((first, _)) => first.span.start,
         None => 0,

@@ -4,10 +4,11 @@ ghost use Rattle.cedar_tokens.specs.Listing.{without_zeros};
 ghost use Rattle.cedar_grammar.specs.Kinds.{is, is_word, is_ident, is_variable, is_comparison, begins};
 ghost use Rattle.cedar_grammar.specs.Trees.{Label};
 ghost use Rattle.cedar_grammar.specs.declared.kind.Kind.TheVariants as K;
+ghost use Rattle.cedar_grammar.specs.Reader.Reading.{token};
 ghost use Rattle.cedar_grammar.specs.Reader.Rules.{word_of, text_rule, expr_first};
 ghost use Rattle.cedar_grammar.specs.Reader.Lines.{◌▸◌, ◌∥◌, one_of, path, field, index, text_operand, has_field};
 ghost use Rattle.cedar_cst.specs.Erased.{access_parts, add_parts};
-ghost use Rattle.cedar_cst.specs.Reading.{kind, flat, GivesNode, ident_parts, str_parts, IsIdentOf, IsStrOf, first_start, name_parts, IsNameOf, IsOperandOf, IsLiteralOf, IsNamePrimaryOf, GivesBehind, last_end};
+ghost use Rattle.cedar_cst.specs.Reading.{kind, flat, GivesNode, ident_parts, str_parts, IsIdentOf, IsStrOf, first_start, name_parts, IsNameOf, IsOperandOf, IsLiteralOf, IsNamePrimaryOf, GivesBehind, last_end, relop_kind, GoesPastSign, GivesSign};
 
 use crate::cst::lexeme::Lexeme;
 use crate::cst::reading::{Parsed, begins, expect, keep, past, refuse};
@@ -129,7 +130,8 @@ pub fn begins_bracket(tokens: &[Lexeme]) -> bool
 
 // The comparison that a kind stands for.
 fn comparison_of(kind: Kind) -> Option<RelOp>
-    ensures { is_some result ≡ is_comparison kind }
+    ensures tells { is_some result ≡ is_comparison kind }
+    ensures which { IfSome result (λ op. relop_kind op ≡ kind) }
 {
     match kind {
         Kind::Lt => Some(RelOp::Less),
@@ -155,7 +157,8 @@ pub fn begins_comparison(tokens: &[Lexeme]) -> bool
 
 /// A comparison's sign.
 pub fn parse_comparison_sign<'t, 'src>(tokens: &'t [Lexeme<'src>]) -> Parsed<'t, 'src, RelOp>
-    ensures { IfOk result (λ x. length x.1.now < length tokens.now) }
+    ensures shorter { IfOk result (λ x. length x.1.now < length tokens.now) }
+    ensures reads { GivesSign result (token kind is_comparison tokens.now) }
 {
     match tokens.split_first() {
         Some((first, rest)) => match comparison_of(first.kind) {
@@ -168,7 +171,8 @@ pub fn parse_comparison_sign<'t, 'src>(tokens: &'t [Lexeme<'src>]) -> Parsed<'t,
 
 /// The `+` or `-` that stands first, and the tokens after it.
 pub fn past_sum_sign<'t, 'src>(tokens: &'t [Lexeme<'src>]) -> Option<(AddOp, &'t [Lexeme<'src>])>
-    ensures { IfSome result (λ x. length x.1.now < length tokens.now) }
+    ensures shorter { IfSome result (λ x. length x.1.now < length tokens.now) }
+    ensures reads { GoesPastSign tokens.now result }
 {
     let (first, rest) = tokens.split_first()?;
     match first.kind {
