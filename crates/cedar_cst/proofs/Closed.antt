@@ -1,10 +1,9 @@
 -- What was read, and the token that closes it.
-use Rattle.std.specs.Prelude.{◌≡◌, ℕ, List, [], ◌∷◌, Result, Ok, Err}
-use Rattle.std.proofs.Common.{refl, sym, ap, ◌∙◌}
+use Rattle.std.specs.Prelude.{◌≡◌, ℕ, List, Result, Ok, Err}
 use Rattle.std.specs.Borrow.{Bor}
 use Rattle.cedar_grammar.specs.declared.kind.Kind.{Kind}
 use Rattle.cedar_grammar.specs.Trees.{Label, Forest, none, leaf, branch}
-use Rattle.cedar_grammar.specs.Reader.Reading.{Answer, Reader, done, stuck, both, one}
+use Rattle.cedar_grammar.specs.Reader.Reading.{Reader, done, both, one}
 use Rattle.cedar_grammar.proofs.ReadingLaws.{both_done, both_fails, both_then_fails}
 use Rattle.cedar_cst.specs.Erased.{Erased}
 use Rattle.cedar_cst.specs.Reading.{kind, Fails, Stands, GivesNode, ClosesWith}

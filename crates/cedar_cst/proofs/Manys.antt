@@ -1,10 +1,10 @@
 -- The loop over nodes in a row.
-use Rattle.std.specs.Prelude.{◌≡◌, ℕ, Bool, true, false, IsTrue, List, [], ◌∷◌, ◌++◌}
-use Rattle.std.proofs.Common.{refl, sym, ap, ◌∙◌, inl}
-use Rattle.cedar_grammar.specs.Trees.{Label, Forest, none, leaf, branch, join}
-use Rattle.cedar_grammar.specs.Reader.Reading.{Answer, Reader, done, stuck, repeat}
+use Rattle.std.specs.Prelude.{◌≡◌, Bool, true, false, IsTrue, List, [], ◌∷◌, ◌++◌}
+use Rattle.std.proofs.Common.{refl, ap, ◌∙◌, inl}
+use Rattle.cedar_grammar.specs.Trees.{Label, Forest, none, branch, join}
+use Rattle.cedar_grammar.specs.Reader.Reading.{Reader, done}
 use Rattle.cedar_grammar.specs.Reader.Rules.{Rule, core, nullable, refuse}
-use Rattle.cedar_grammar.proofs.ReadingLaws.{Takes, IsRead, read_none, read_more, read_end, read_fails}
+use Rattle.cedar_grammar.proofs.ReadingLaws.{Takes, IsRead, read_none, read_more}
 use Rattle.cedar_grammar.proofs.RuleMeanings.{decided}
 use Rattle.cedar_grammar.proofs.RuleLaws.{read_takes, refuse_sound}
 use Rattle.cedar_cst.specs.Erased.{Erased, node}

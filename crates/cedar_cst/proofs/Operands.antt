@@ -1,5 +1,5 @@
 -- Operands that a primary and what is accessed in it make, and the loop over fields.
-use Rattle.std.specs.Prelude.{◌≡◌, ℕ, Bool, true, false, List, [], ◌∷◌, ◌++◌, length, codes, ◌<◌, ◌≤◌, ◌-◌, zero, suc, Result, Ok, Err, Some, IfOk}
+use Rattle.std.specs.Prelude.{◌≡◌, ℕ, Bool, true, false, List, [], ◌∷◌, ◌++◌, length, ◌<◌, ◌≤◌, ◌-◌, zero, suc, Result, Ok, Err, Some, IfOk}
 use Rattle.std.specs.List.{slice_get}
 use Rattle.std.proofs.Common.{refl, sym, ap, ◌∙◌, arith}
 use Rattle.std.specs.Borrow.{Bor}
@@ -9,19 +9,18 @@ use Rattle.cedar_grammar.specs.declared.kind.Kind.TheVariants as K
 use Rattle.cedar_grammar.specs.Kinds.{is, is_ident, begins}
 use Rattle.cedar_grammar.specs.Trees.{Label, Forest, none, leaf, branch, join}
 use Rattle.cedar_grammar.specs.Reader.Reading.{Answer, Reader, done, stuck, both, tree, repeat, token, one}
-use Rattle.cedar_grammar.proofs.ReadingLaws.{Takes, tree_done, tree_fails, both_done, both_fails, both_then_fails, both_takes, tree_takes, token_takes}
+use Rattle.cedar_grammar.proofs.ReadingLaws.{Takes, tree_done, tree_fails, both_done, both_then_fails, both_takes, tree_takes, token_takes}
 use Rattle.cedar_cst.specs.Erased.{Erased, node, access_parts, primary_parts, add_parts}
-use Rattle.cedar_cst.specs.Reading.{kind, Keeps, Fails, Stands, GivesNode, access_items, operand_parts, IsOperandOf, last_end, IsNameOf, IsNamePrimaryOf, GivesBehind, ident_parts, name_parts}
+use Rattle.cedar_cst.specs.Reading.{kind, Keeps, Fails, Stands, GivesNode, access_items, IsOperandOf, last_end, IsNameOf, IsNamePrimaryOf, GivesBehind, ident_parts}
 use Rattle.cedar_cst.specs.declared.cst.lexeme.Lexeme.{Lexeme}
 use Rattle.cedar_cst.specs.declared.cst.reading.Refusal.{Refusal}
-use Rattle.cedar_cst.specs.declared.cst.reading.Refusal.TheVariants.{OutOfMemory}
 use Rattle.cedar_cst.specs.declared.cst.tree.Node.{Node}
 use Rattle.cedar_cst.specs.declared.cst.tree.Ident.{Ident}
 use Rattle.cedar_cst.specs.declared.cst.tree.Name.{Name}
 use Rattle.cedar_cst.specs.declared.cst.tree.Primary as Primary
 use Rattle.cedar_cst.specs.declared.cst.tree.MemAccess as MemAccess
 use Rattle.cedar_cst.specs.declared.cst.tree.Add as Add
-use Rattle.cedar_cst.proofs.LeafTexts.{own_text, covers_leaf, nodes_own, from_to}
+use Rattle.cedar_cst.proofs.LeafTexts.{covers_leaf, nodes_own}
 use Rattle.cedar_cst.proofs.Rows.{row_node, row_join, row_parts, row_span, Chain, chain_first, chain_next, chain_stuck, chain_end}
 use Rattle.cedar_cst.proofs.Steps.{passes}
 use Rattle.cedar_cst.proofs.Paths.{word, name_stands}

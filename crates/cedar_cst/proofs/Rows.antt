@@ -1,7 +1,6 @@
 -- Rows of trees and what stands for them, put together token by token and node by node; and loops over items.
-use Rattle.std.specs.Prelude.{◌≡◌, ℕ, ◌&&◌, ◌<◌, Bool, true, false, List, [], ◌∷◌, ◌++◌, length, Some, None, if◌then◌else◌, ◌⊎◌}
-use Rattle.std.proofs.Common.{refl, sym, ap, ◌∙◌, append_assoc, inl, inr}
-use Rattle.std.specs.Borrow.{Bor}
+use Rattle.std.specs.Prelude.{◌≡◌, ◌&&◌, Bool, true, false, List, Some, None, if◌then◌else◌, ◌⊎◌}
+use Rattle.std.proofs.Common.{refl, sym, ap, ◌∙◌, inl, inr}
 use Rattle.cedar_tokens.specs.Listing.{token_value}
 use Rattle.cedar_tokens.specs.declared.token.Span.{Span}
 use Rattle.cedar_grammar.specs.declared.kind.Kind.{Kind}
@@ -10,7 +9,7 @@ use Rattle.cedar_grammar.specs.Kinds.{code, is, is_closing}
 use Rattle.cedar_grammar.specs.TokenKinds.{fixed_tokens}
 use Rattle.cedar_grammar.specs.Trees.{Label, Forest, none, leaf, branch, join, yield}
 use Rattle.cedar_grammar.specs.TrailingCommas.{without_trailing, drop_if, closes_next}
-use Rattle.cedar_grammar.specs.Reader.Reading.{Answer, Reader, done, stuck, both, tree, repeat}
+use Rattle.cedar_grammar.specs.Reader.Reading.{Reader, done, stuck, both, tree, repeat}
 use Rattle.cedar_grammar.proofs.ReadingLaws.{Takes, IsRead, read_none, read_more, read_end, read_fails, both_done, both_fails, both_then_fails, tree_done, tree_fails, join_none, join_assoc}
 use Rattle.cedar_grammar.proofs.LanguageLaws.{yield_join}
 use Rattle.cedar_cst.specs.Erased.{Erased}

@@ -1,16 +1,13 @@
 -- Steps of reading: what the tests of tokens say, how a refusal is passed on, and what a leaf's text is.
-use Rattle.std.specs.Prelude.{◌≡◌, ℕ, zero, suc, ◌&&◌, ◌||◌, not, Bool, true, false, IsTrue, List, [], ◌∷◌, ◌++◌, length, nat_eq, Option, Some, None, if◌then◌else◌}
+use Rattle.std.specs.Prelude.{◌≡◌, ℕ, not, Bool, true, false, List, [], ◌∷◌, length, Some}
 use Rattle.std.proofs.Common.{refl, sym, ap, ◌∙◌, arith, subst}
-use borrow.Author.Tests.{eqb-true}
-use denote.Enum.Bare.{sameb, same_true, same_false}
-use Rattle.cedar_tokens.specs.declared.token.Span.{Span}
+use denote.Enum.Bare.{sameb, same_true}
 use Rattle.cedar_grammar.specs.declared.kind.Kind.{Kind}
 use Rattle.cedar_grammar.specs.contracts.kind.Kind.{the_type}
 use Rattle.cedar_grammar.specs.declared.kind.Kind.TheVariants as K
-use Rattle.cedar_grammar.specs.Kinds.{code, is, is_word, is_ident, begins}
-use Rattle.cedar_grammar.specs.Trees.{Label, Forest, none, leaf, branch, join, yield}
-use Rattle.cedar_grammar.specs.TrailingCommas.{without_trailing, drop_if, closes_next}
-use Rattle.cedar_grammar.specs.Reader.Reading.{Answer, Reader, done, stuck, token, tree}
+use Rattle.cedar_grammar.specs.Kinds.{is, is_word, is_ident, begins}
+use Rattle.cedar_grammar.specs.Trees.{Label, none, leaf, branch}
+use Rattle.cedar_grammar.specs.Reader.Reading.{Answer, done, stuck, token, tree}
 use Rattle.cedar_grammar.proofs.KindSets.{every, kinds, every_kind, apart_at}
 use Rattle.cedar_grammar.proofs.ReadingLaws.{token_yes, token_no, token_end, tree_done, tree_fails}
 use Rattle.std.specs.Borrow.{Bor}
@@ -21,7 +18,7 @@ use Rattle.cedar_cst.specs.declared.cst.tree.Str.{Str}
 use Rattle.cedar_cst.proofs.LeafTexts.{nodes_own, covers_leaf}
 use Rattle.cedar_cst.specs.declared.cst.reading.Refusal.{Refusal}
 use Rattle.cedar_cst.specs.declared.cst.reading.Refusal.TheVariants.{Grammar, TooDeep, OutOfMemory}
-use Rattle.cedar_cst.specs.Reading.{kind, Fails, Stands, AreRight, IsIdentOf, IsStrOf, ident_parts, str_parts}
+use Rattle.cedar_cst.specs.Reading.{kind, Fails, Stands, IsIdentOf, IsStrOf, ident_parts, str_parts}
 
 abbrev agree : Bool → Bool → Bool
 agree true y = y

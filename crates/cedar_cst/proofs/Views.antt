@@ -1,16 +1,15 @@
 -- What nodes of the recursive types are made of.
-use Rattle.std.specs.Prelude.{◌≡◌, ℕ, List, [], ◌∷◌, Vec, Option, Some, None, codes}
+use Rattle.std.specs.Prelude.{◌≡◌, List, [], ◌∷◌, Vec, None, codes}
 use Rattle.std.specs.declared.alloc.Global.{Global}
-use Rattle.std.proofs.Common.{refl, sym, ap, ◌∙◌, rules}
+use Rattle.std.proofs.Common.{rules}
 use mathlib.Core.Former.{Count}
 use Rattle.cedar_tokens.specs.declared.token.Span.{Span}
 use Rattle.cedar_grammar.specs.Trees.{Label, none, leaf}
-use Rattle.cedar_cst.specs.Erased.{Erased, node, signs, addop_text, access_trees, access_parts, primary_parts, unary_parts, mult_parts, mult_rest, add_parts, add_rest}
+use Rattle.cedar_cst.specs.Erased.{Erased, node, addop_text, access_trees, unary_parts, mult_parts, mult_rest, add_parts, add_rest}
 use Rattle.cedar_cst.specs.Reading.{access_items, operand_parts}
 use Rattle.cedar_cst.specs.declared.cst.tree.Node.{Node}
 use Rattle.cedar_cst.specs.declared.cst.tree.AddOp.{AddOp}
 use Rattle.cedar_cst.specs.declared.cst.tree.MultOp.{MultOp}
-use Rattle.cedar_cst.specs.declared.cst.tree.NegOp.{NegOp}
 use Rattle.cedar_cst.specs.declared.cst.tree.Primary as Primary
 use Rattle.cedar_cst.specs.declared.cst.tree.MemAccess as MemAccess
 use Rattle.cedar_cst.specs.declared.cst.tree.Member as Member

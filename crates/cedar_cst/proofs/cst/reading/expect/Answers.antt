@@ -1,4 +1,4 @@
-use Rattle.std.proofs.Common.{◌∙◌, sym, ap}
+use Rattle.std.proofs.Common.{◌∙◌, sym}
 use Rattle.cedar_grammar.specs.Kinds.{is}
 use Rattle.cedar_cst.proofs.Steps.{kind_test, kind_is, first_begins, token_at, token_not, none_begins, fails_as}
 use Rattle.cedar_cst.proofs.cst.reading.expect.Goals as goal

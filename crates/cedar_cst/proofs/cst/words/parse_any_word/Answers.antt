@@ -1,4 +1,4 @@
-use Rattle.std.proofs.Common.{◌∙◌, sym, ◌||◌}
+use Rattle.std.proofs.Common.{◌∙◌, sym}
 use Rattle.cedar_grammar.specs.Kinds.{is_word}
 use Rattle.cedar_grammar.specs.Trees.{Label, leaf, none}
 use Rattle.cedar_cst.proofs.Steps.{first_begins, none_begins, tree_not, tree_at, word_stands, words_apart}

@@ -1,4 +1,3 @@
-use Rattle.std.proofs.Common.{◌∙◌, sym}
 use Rattle.std.proofs.lemmas.Result.{err_from_is_err_and}
 use Rattle.cedar_grammar.specs.Trees.{Label, leaf, none}
 use Rattle.cedar_grammar.proofs.ReadingLaws.{tree_done, tree_fails}

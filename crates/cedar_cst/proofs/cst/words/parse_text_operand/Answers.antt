@@ -1,7 +1,7 @@
 use Rattle.std.proofs.Common.{refl, sym, []}
 use Rattle.std.proofs.lemmas.Result.{err_from_is_err_and}
 use Rattle.cedar_grammar.specs.declared.kind.Kind.TheVariants as K
-use Rattle.cedar_grammar.specs.Trees.{Label, leaf, branch, none}
+use Rattle.cedar_grammar.specs.Trees.{Label}
 use Rattle.cedar_grammar.proofs.ReadingLaws.{tree_done, tree_fails}
 use Rattle.cedar_cst.proofs.Steps.{passes}
 use Rattle.cedar_cst.proofs.Rows.{row_node, row_parts, row_span}
