@@ -7,6 +7,7 @@ pub mod Paths
 pub mod Operands
 pub mod Closed
 pub mod Manys
+pub mod Whole
 pub mod RefusalLaws
 pub mod ErasedSame
 pub mod Parsing

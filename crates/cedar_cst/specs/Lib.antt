@@ -5,3 +5,4 @@ pub mod NodeTrees
 pub mod Lexemes
 pub mod Laws
 pub mod Reading
+pub mod ReadingSet
