@@ -1,6 +1,7 @@
 -- Nodes are equal but for their spans exactly where their trees are: erasing is one to one.
 use Rattle.std.specs.Prelude.{◌≡◌, nat_eq, ℕ, zero, suc, Bool, true, false, List, [], ◌∷◌, codes, Option, Some, None, if◌then◌else◌}
 use Rattle.std.specs.Str.{bytes_eq}
+use Rattle.std.specs.List.{AllZip}
 use Rattle.std.proofs.Common.{refl, sym, ap, ◌∙◌}
 use Rattle.std.proofs.lemmas.Bool.Decides.{Decides-eqb}
 use Rattle.cedar_tokens.specs.declared.token.Span.{Span}
@@ -30,7 +31,7 @@ use Rattle.cedar_cst.specs.declared.cst.tree.NegOp.{NegOp}
 use Rattle.cedar_grammar.specs.Trees.{Label, Forest, none, leaf, branch, join}
 use Rattle.cedar_grammar.specs.Trees as L
 use Rattle.cedar_cst.specs.Erased.{Erased, node, ident_tree, path_parts, name_tree, variant_label, literal_text, slot_text, relop_text, addop_text, times, signs_or, signs, expr_parts, or_parts, or_rest, and_rest, relation_parts, compare_tree, in_parts, add_parts, add_rest, mult_parts, mult_rest, unary_parts, access_trees, access_parts, expr_items, more_items, primary_parts, init_items, more_inits, value_parts, annotation_trees, type_parts, operator_parts, variable_tree, more_variables, variable_items, cond_trees, policy_parts, policy_trees, scope_variables, without_spans}
-use Rattle.cedar_cst.specs.Same.{SameEach, SameOption, SameIdent, SameStr, SameName, SameLiteral, SameExpr, SameOr, SameAnds, SameRelations, SameRelation, SameCompared, SameIn, SameAdd, SameMults, SameMult, SameUnaries, SameUnary, SameAccesses, SameAccess, SameExprs, SamePrimary, SameInits, SameAnnotation, SameOperator, SameVariable, SameCond, SamePolicy}
+use Rattle.cedar_cst.specs.Same.{SameOption, SameIdent, SameStr, SameName, SameLiteral, SameExpr, SameOr, SameAnds, SameRelations, SameRelation, SameCompared, SameIn, SameAdd, SameMults, SameMult, SameUnaries, SameUnary, SameAccesses, SameAccess, SameExprs, SamePrimary, SameInits, SameAnnotation, SameOperator, SameVariable, SameCond, SamePolicy}
 use Rattle.cedar_cst.specs.Laws.{SameTreeIsByFields}
 use Rattle.cedar_grammar.proofs.PartsSame.{last_same, ins, nxt, lab, shape, hd}
 
@@ -225,13 +226,13 @@ signs_alike (Some (NegOp.Dash (suc n))) f g e = go (suc n)
     go (suc n) = ap (leaf (codes "-")) (go n)
 
 -- Names.
-path_same : (as' bs' : List (Node Ident)) (a b : Node Ident) → ws (path_parts as' a) ≡ ws (path_parts bs' b) → SameEach SameIdent as' bs' × SameIdent a b
+path_same : (as' bs' : List (Node Ident)) (a b : Node Ident) → ws (path_parts as' a) ≡ ws (path_parts bs' b) → AllZip SameIdent as' bs' × SameIdent a b
 path_same [] [] a b e = (tt, ap (λ z. hd [] (ins z)) e)
 path_same [] (y ∷ ys) a b e = absurd (differ 0 1 refl (ap (λ z. shape (nxt z)) e))
 path_same (x ∷ xs) [] a b e = absurd (differ 1 0 refl (ap (λ z. shape (nxt z)) e))
 path_same (x ∷ xs) (y ∷ ys) a b e = let r = path_same xs ys a b (ap (λ z. nxt (nxt z)) e) in ((ap (λ z. hd [] (ins z)) e, r.0), r.1)
 
-path_alike : (as' bs' : List (Node Ident)) (a b : Node Ident) → SameEach SameIdent as' bs' → SameIdent a b → ws (path_parts as' a) ≡ ws (path_parts bs' b)
+path_alike : (as' bs' : List (Node Ident)) (a b : Node Ident) → AllZip SameIdent as' bs' → SameIdent a b → ws (path_parts as' a) ≡ ws (path_parts bs' b)
 path_alike [] [] a b s e = ap (λ z. branch L.ident (leaf z none) none) e
 path_alike [] (y ∷ ys) a b s e = absurd s
 path_alike (x ∷ xs) [] a b s e = absurd s
@@ -635,7 +636,7 @@ value_alike (Some x) (Some y) e = ap (λ z. leaf (codes "(") (branch L.str (leaf
 
 -- annotations and then the effect
 annotations_same : (xs ys : List (Node Annotation)) (a b : Node Ident) (f g : Erased) → ws (annotation_trees xs (ident_tree a f)) ≡ ws (annotation_trees ys (ident_tree b g))
-    → SameEach SameAnnotation xs ys × SameIdent a b × (ws f ≡ ws g)
+    → AllZip SameAnnotation xs ys × SameIdent a b × (ws f ≡ ws g)
 annotations_same [] [] a b f g e = (tt, ap (λ z. hd [] (ins z)) e, ap nxt e)
 annotations_same [] (y ∷ ys) a b f g e = absurd (labels_differ L.ident L.annotation refl (ap lab e))
 annotations_same (x ∷ xs) [] a b f g e = absurd (labels_differ L.annotation L.ident refl (ap lab e))
@@ -643,7 +644,7 @@ annotations_same (x ∷ xs) (y ∷ ys) a b f g e =
     let r = annotations_same xs ys a b f g (ap nxt e) in
     (((ap (λ z. hd [] (ins (nxt (ins z)))) e, value_same x.inner.value y.inner.value (ap (λ z. nxt (nxt (ins z))) e)), r.0), r.1, r.2)
 
-annotations_alike : (xs ys : List (Node Annotation)) (f g : Erased) → SameEach SameAnnotation xs ys → ws f ≡ ws g → ws (annotation_trees xs f) ≡ ws (annotation_trees ys g)
+annotations_alike : (xs ys : List (Node Annotation)) (f g : Erased) → AllZip SameAnnotation xs ys → ws f ≡ ws g → ws (annotation_trees xs f) ≡ ws (annotation_trees ys g)
 annotations_alike [] [] f g s e = e
 annotations_alike [] (y ∷ ys) f g s e = absurd s
 annotations_alike (x ∷ xs) [] f g s e = absurd s
@@ -687,37 +688,37 @@ variable_same a b f g e =
 variable_alike : (a b : Node VariableDef) (f g : Erased) → SameVariable a b → ws f ≡ ws g → ws (variable_tree a f) ≡ ws (variable_tree b g)
 variable_alike a b f g s e = two L.variable (two L.ident (ap (λ z. leaf z none) s.0) (type_alike a.inner.entity_type b.inner.entity_type a.inner.ineq b.inner.ineq s.1 s.2)) e
 
-more_variables_same : (xs ys : List (Node VariableDef)) → ws (more_variables xs) ≡ ws (more_variables ys) → SameEach SameVariable xs ys
+more_variables_same : (xs ys : List (Node VariableDef)) → ws (more_variables xs) ≡ ws (more_variables ys) → AllZip SameVariable xs ys
 more_variables_same [] [] e = tt
 more_variables_same [] (y ∷ ys) e = absurd (differ 0 1 refl (ap shape e))
 more_variables_same (x ∷ xs) [] e = absurd (differ 1 0 refl (ap shape e))
 more_variables_same (x ∷ xs) (y ∷ ys) e = let r = variable_same x y (more_variables xs) (more_variables ys) (ap nxt e) in (r.0, more_variables_same xs ys r.1)
 
-more_variables_alike : (xs ys : List (Node VariableDef)) → SameEach SameVariable xs ys → ws (more_variables xs) ≡ ws (more_variables ys)
+more_variables_alike : (xs ys : List (Node VariableDef)) → AllZip SameVariable xs ys → ws (more_variables xs) ≡ ws (more_variables ys)
 more_variables_alike [] [] s = refl
 more_variables_alike [] (y ∷ ys) s = absurd s
 more_variables_alike (x ∷ xs) [] s = absurd s
 more_variables_alike (x ∷ xs) (y ∷ ys) s = ap (leaf (codes ",")) (variable_alike x y (more_variables xs) (more_variables ys) s.0 (more_variables_alike xs ys s.1))
 
-variables_same : (xs ys : List (Node VariableDef)) → ws (variable_items xs) ≡ ws (variable_items ys) → SameEach SameVariable xs ys
+variables_same : (xs ys : List (Node VariableDef)) → ws (variable_items xs) ≡ ws (variable_items ys) → AllZip SameVariable xs ys
 variables_same [] [] e = tt
 variables_same [] (y ∷ ys) e = absurd (differ 0 2 refl (ap shape e))
 variables_same (x ∷ xs) [] e = absurd (differ 2 0 refl (ap shape e))
 variables_same (x ∷ xs) (y ∷ ys) e = let r = variable_same x y (more_variables xs) (more_variables ys) e in (r.0, more_variables_same xs ys r.1)
 
-variables_alike : (xs ys : List (Node VariableDef)) → SameEach SameVariable xs ys → ws (variable_items xs) ≡ ws (variable_items ys)
+variables_alike : (xs ys : List (Node VariableDef)) → AllZip SameVariable xs ys → ws (variable_items xs) ≡ ws (variable_items ys)
 variables_alike [] [] s = refl
 variables_alike [] (y ∷ ys) s = absurd s
 variables_alike (x ∷ xs) [] s = absurd s
 variables_alike (x ∷ xs) (y ∷ ys) s = variable_alike x y (more_variables xs) (more_variables ys) s.0 (more_variables_alike xs ys s.1)
 
-conds_same : (xs ys : List (Node Cond)) → ws (cond_trees xs (leaf (codes ";") none)) ≡ ws (cond_trees ys (leaf (codes ";") none)) → SameEach SameCond xs ys
+conds_same : (xs ys : List (Node Cond)) → ws (cond_trees xs (leaf (codes ";") none)) ≡ ws (cond_trees ys (leaf (codes ";") none)) → AllZip SameCond xs ys
 conds_same [] [] e = tt
 conds_same [] (y ∷ ys) e = absurd (differ 1 2 refl (ap shape e))
 conds_same (x ∷ xs) [] e = absurd (differ 2 1 refl (ap shape e))
 conds_same (x ∷ xs) (y ∷ ys) e = ((ap (λ z. hd [] (ins (ins z))) e, expr_same x.inner.expr.inner y.inner.expr.inner (ap (λ z. ins (nxt (nxt (ins z)))) e)), conds_same xs ys (ap nxt e))
 
-conds_alike : (xs ys : List (Node Cond)) → SameEach SameCond xs ys → ws (cond_trees xs (leaf (codes ";") none)) ≡ ws (cond_trees ys (leaf (codes ";") none))
+conds_alike : (xs ys : List (Node Cond)) → AllZip SameCond xs ys → ws (cond_trees xs (leaf (codes ";") none)) ≡ ws (cond_trees ys (leaf (codes ";") none))
 conds_alike [] [] s = refl
 conds_alike [] (y ∷ ys) s = absurd s
 conds_alike (x ∷ xs) [] s = absurd s
@@ -725,7 +726,7 @@ conds_alike (x ∷ xs) (y ∷ ys) s =
     two L.condition (two L.ident (ap (λ z. leaf z none) s.0.0) (ap (λ z. leaf (codes "{") (branch L.expr z (leaf (codes "}") none))) (expr_alike x.inner.expr.inner y.inner.expr.inner s.0.1))) (conds_alike xs ys s.1)
 
 -- the scope's variables and the bracket behind them
-more_scope : (xs ys : List (Node VariableDef)) (f g : Erased) → ws (join (more_variables xs) (leaf (codes ")") f)) ≡ ws (join (more_variables ys) (leaf (codes ")") g)) → SameEach SameVariable xs ys × (ws f ≡ ws g)
+more_scope : (xs ys : List (Node VariableDef)) (f g : Erased) → ws (join (more_variables xs) (leaf (codes ")") f)) ≡ ws (join (more_variables ys) (leaf (codes ")") g)) → AllZip SameVariable xs ys × (ws f ≡ ws g)
 more_scope [] [] f g e = (tt, ap nxt e)
 more_scope [] (y ∷ ys) f g e = absurd (differ 41 44 refl (ap mark e))
 more_scope (x ∷ xs) [] f g e = absurd (differ 44 41 refl (ap mark e))
@@ -734,7 +735,7 @@ more_scope (x ∷ xs) (y ∷ ys) f g e =
     let s = more_scope xs ys f g r.1 in
     ((r.0, s.0), s.1)
 
-scope_same : (xs ys : List (Node VariableDef)) (f g : Erased) → ws (join (variable_items xs) (leaf (codes ")") f)) ≡ ws (join (variable_items ys) (leaf (codes ")") g)) → SameEach SameVariable xs ys × (ws f ≡ ws g)
+scope_same : (xs ys : List (Node VariableDef)) (f g : Erased) → ws (join (variable_items xs) (leaf (codes ")") f)) ≡ ws (join (variable_items ys) (leaf (codes ")") g)) → AllZip SameVariable xs ys × (ws f ≡ ws g)
 scope_same [] [] f g e = (tt, ap nxt e)
 scope_same [] (y ∷ ys) f g e = absurd (differ 1 2 refl (ap shape e))
 scope_same (x ∷ xs) [] f g e = absurd (differ 2 1 refl (ap shape e))
@@ -743,7 +744,7 @@ scope_same (x ∷ xs) (y ∷ ys) f g e =
     let s = more_scope xs ys f g r.1 in
     ((r.0, s.0), s.1)
 
-scope_alike : (xs ys : List (Node VariableDef)) (f g : Erased) → SameEach SameVariable xs ys → ws f ≡ ws g → ws (join (variable_items xs) (leaf (codes ")") f)) ≡ ws (join (variable_items ys) (leaf (codes ")") g))
+scope_alike : (xs ys : List (Node VariableDef)) (f g : Erased) → AllZip SameVariable xs ys → ws f ≡ ws g → ws (join (variable_items xs) (leaf (codes ")") f)) ≡ ws (join (variable_items ys) (leaf (codes ")") g))
 scope_alike xs ys f g s e = ws_join (variable_items xs) (leaf (codes ")") f) ∙ ap (λ z. join z (leaf (codes ")") (ws f))) (variables_alike xs ys s)
     ∙ ap (λ z. join (ws (variable_items ys)) (leaf (codes ")") z)) e ∙ sym (ws_join (variable_items ys) (leaf (codes ")") g))
 
@@ -758,13 +759,13 @@ policy_alike a b s = annotations_alike a.inner.annotations.items b.inner.annotat
     (ap (leaf (codes "(")) (scope_alike (scope_variables a.inner) (scope_variables b.inner) (cond_trees a.inner.conds.items (leaf (codes ";") none)) (cond_trees b.inner.conds.items (leaf (codes ";") none)) s.2
     (conds_alike a.inner.conds.items b.inner.conds.items s.3))))
 
-policies_same : (xs ys : List (Node Policy)) → ws (policy_trees xs) ≡ ws (policy_trees ys) → SameEach SamePolicy xs ys
+policies_same : (xs ys : List (Node Policy)) → ws (policy_trees xs) ≡ ws (policy_trees ys) → AllZip SamePolicy xs ys
 policies_same [] [] e = tt
 policies_same [] (y ∷ ys) e = absurd (differ 0 2 refl (ap shape e))
 policies_same (x ∷ xs) [] e = absurd (differ 2 0 refl (ap shape e))
 policies_same (x ∷ xs) (y ∷ ys) e = (policy_same x y (ap ins e), policies_same xs ys (ap nxt e))
 
-policies_alike : (xs ys : List (Node Policy)) → SameEach SamePolicy xs ys → ws (policy_trees xs) ≡ ws (policy_trees ys)
+policies_alike : (xs ys : List (Node Policy)) → AllZip SamePolicy xs ys → ws (policy_trees xs) ≡ ws (policy_trees ys)
 policies_alike [] [] s = refl
 policies_alike [] (y ∷ ys) s = absurd s
 policies_alike (x ∷ xs) [] s = absurd s

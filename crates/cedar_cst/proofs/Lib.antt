@@ -13,3 +13,5 @@ pub mod ErasedSame
 pub mod Parsing
 pub mod Walking
 pub mod Digits
+pub mod Comparing
+pub mod ComparedRows

@@ -1,5 +1,6 @@
 -- Equality of nodes but for their spans, field by field. It is equality of their trees without spans.
-use Rattle.std.specs.Prelude.{◌≡◌, List, [], ◌∷◌, Option, Some, None, ⊤}
+use Rattle.std.specs.Prelude.{◌≡◌, Option, Some, None, ⊤}
+use Rattle.std.specs.List.{AllZip}
 use Rattle.cedar_cst.specs.declared.cst.tree.Node.{Node}
 use Rattle.cedar_cst.specs.declared.cst.tree.Policies.{Policies}
 use Rattle.cedar_cst.specs.declared.cst.tree.Policy.{Policy}
@@ -22,13 +23,8 @@ use Rattle.cedar_cst.specs.declared.cst.tree.Add as Add
 use Rattle.cedar_cst.specs.declared.cst.tree.Mult as Mult
 use Rattle.cedar_cst.specs.declared.cst.tree.Unary as Unary
 use Rattle.cedar_cst.specs.declared.cst.tree.Member as Member
+use Rattle.cedar_cst.specs.declared.cst.tree.RecInit as RecInit
 use Rattle.cedar_cst.specs.Erased.{scope_variables}
-
--- the nodes of two lists are equal one by one
-abbrev pub SameEach : {X : Type 0} → (X → X → Type 0) → List X → List X → Type 0
-SameEach same [] [] = ⊤
-SameEach same (a ∷ xs) (b ∷ ys) = same a b × SameEach same xs ys
-SameEach same xs ys = ⊥
 
 -- neither is there, or both are and are equal
 abbrev pub SameOption : {X : Type 0} → (X → X → Type 0) → Option X → Option X → Type 0
@@ -43,7 +39,7 @@ abbrev pub SameStr : Node Str → Node Str → Type 0
 SameStr a b = a.inner.0.now ≡ b.inner.0.now
 
 abbrev pub SameName : Node Name → Node Name → Type 0
-SameName a b = SameEach SameIdent a.inner.path.items b.inner.path.items × SameIdent a.inner.name b.inner.name
+SameName a b = AllZip SameIdent a.inner.path.items b.inner.path.items × SameIdent a.inner.name b.inner.name
 
 abbrev pub SameRef : Node Ref → Node Ref → Type 0
 SameRef a b = SameName a.inner.path b.inner.path × SameStr a.inner.eid b.inner.eid
@@ -156,8 +152,18 @@ abbrev pub SameCond : Node Cond → Node Cond → Type 0
 SameCond a b = SameIdent a.inner.cond b.inner.cond × SameExpr a.inner.expr.inner b.inner.expr.inner
 
 abbrev pub SamePolicy : Node Policy → Node Policy → Type 0
-SamePolicy a b = SameEach SameAnnotation a.inner.annotations.items b.inner.annotations.items × SameIdent a.inner.effect b.inner.effect
-    × SameEach SameVariable (scope_variables a.inner) (scope_variables b.inner) × SameEach SameCond a.inner.conds.items b.inner.conds.items
+SamePolicy a b = AllZip SameAnnotation a.inner.annotations.items b.inner.annotations.items × SameIdent a.inner.effect b.inner.effect
+    × AllZip SameVariable (scope_variables a.inner) (scope_variables b.inner) × AllZip SameCond a.inner.conds.items b.inner.conds.items
 
 abbrev pub SamePolicies : Policies → Policies → Type 0
-SamePolicies a b = SameEach SamePolicy a.policies.items b.policies.items
+SamePolicies a b = AllZip SamePolicy a.policies.items b.policies.items
+
+-- Of parts that stand in lists.
+abbrev pub SameAnd : And.And → And.And → Type 0
+SameAnd a b = SameRelation a.initial.inner b.initial.inner × AllZip (λ x y. SameRelation x.inner y.inner) a.extended.items b.extended.items
+
+abbrev pub SameMember : Member.Member → Member.Member → Type 0
+SameMember a b = SamePrimary a.item.inner b.item.inner × AllZip (λ x y. SameAccess x.inner y.inner) a.access.items b.access.items
+
+abbrev pub SameInit : RecInit.RecInit → RecInit.RecInit → Type 0
+SameInit a b = SamePrimary a.key.inner b.key.inner × SameExpr a.value.inner b.value.inner

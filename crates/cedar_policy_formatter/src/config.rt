@@ -1,0 +1,27 @@
+//! How policies are laid out, and what their documents are made from.
+use cedar_tokens::token::WrappedToken;
+
+/// The width of a line and the indentation of a level, in columns. Every value of the types is taken: a negative
+/// indentation moves to the left, and stops at the margin.
+#[derive(Clone, Debug, Drop)]
+pub struct Config {
+    pub line_width: usize,
+    pub indent_width: isize,
+}
+
+impl Default for Config {
+    /// 80 columns a line, and 2 a level.
+    fn default() -> Config {
+        Config {
+            line_width: 80,
+            indent_width: 2,
+        }
+    }
+}
+
+/// The configuration, and the tokens of a text with the comments that no document has taken yet.
+#[derive(Debug, Drop)]
+pub struct Context<'a, 'src> {
+    pub config: &'a Config,
+    pub tokens: Vec<WrappedToken<'src>>,
+}

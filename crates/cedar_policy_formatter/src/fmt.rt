@@ -1,0 +1,166 @@
+//! Formatting of whole texts.
+ghost use Rattle.std.specs.Prelude.{◌≡◌, IfOk, MatchResult};
+ghost use Rattle.cedar_grammar.specs.Numbers.{HasFittingNumbers};
+ghost use Rattle.cedar_layout.specs.Lookups.{AreInOrder};
+ghost use Rattle.cedar_policy_formatter.specs.Kept.{KeepsTokens};
+ghost use Rattle.cedar_policy_formatter.specs.Refused.{IsOwn, IsOfCheck, RefusesText, RefusesOne};
+
+use crate::config::{Config, Context};
+use crate::doc::{Doc, NoDocument};
+use cedar_cst::cst::{FormatError, Node, Policies, Policy, parse_policies, same_tree};
+pub use cedar_documents::{
+    accepted_texts_have_trees, cleaning_is_unique, cleaning_keeps_the_list, cleaning_takes_blanks,
+    every_layout_reads_back, every_list_is_good, lists_join, outputs_are_canonical,
+    outputs_are_determined,
+};
+use cedar_layout::layout::render;
+use cedar_layout::utils::remove_empty_lines;
+use cedar_tokens::lexer::{drop_trailing_commas, get_token_stream};
+use cedar_tokens::token::{Comments, WrappedToken};
+use std::alloc::{AllocError, Global};
+
+mod stream;
+
+pub use stream::{RunFault, Watched, format_stream};
+
+impl From<NoDocument> for FormatError {
+    ghost from_gives = { λ _ e. IsOwn e };
+
+    fn from(error: NoDocument) -> FormatError {
+        match error {
+            NoDocument::NoToken => FormatError::NoDocument,
+            NoDocument::OutOfMemory => FormatError::OutOfMemory,
+        }
+    }
+}
+
+/// The policies `ps`, laid out.
+///
+/// Trailing commas are dropped, leading zeros of numbers too; every comment is kept in its place. A text that isn't
+/// accepted is refused as `cst::parse_policies` refuses it.
+pub fn policies_str_to_pretty(
+    alloc: Global,
+    ps: &str,
+    config: &Config,
+) -> Result<String, FormatError>
+    ensures { MatchResult result (λ _. HasFittingNumbers ps.now) (RefusesText ps.now) }
+{
+    let tree = parse_policies(alloc, ps)?;
+    let text = lay_out(alloc, ps, &tree, config)?;
+    soundness_check(alloc, text.as_str(), &tree)?;
+    Ok(text)
+}
+
+/// Whether `ps` is a text of these policies: `Unsound` exactly where it isn't accepted or its tree is another one.
+pub fn soundness_check(alloc: Global, ps: &str, tree: &Policies<'_>) -> Result<(), FormatError>
+    ensures { MatchResult result (λ _. HasFittingNumbers ps.now) IsOfCheck }
+{
+    match parse_policies(alloc, ps) {
+        Ok(other) => {
+            if same_tree(&other, tree) {
+                Ok(())
+            } else {
+                Err(FormatError::Unsound)
+            }
+        }
+        Err(FormatError::OutOfMemory) => Err(FormatError::OutOfMemory),
+        Err(_) => Err(FormatError::Unsound),
+    }
+}
+
+/// Whether `ps` is as `policies_str_to_pretty` lays it out.
+pub fn is_formatted(alloc: Global, ps: &str, config: &Config) -> Result<bool, FormatError>
+    ensures { MatchResult result (λ _. HasFittingNumbers ps.now) (RefusesText ps.now) }
+{
+    let text = policies_str_to_pretty(alloc, ps, config)?;
+    Ok(text.as_str() == ps)
+}
+
+/// Whether `a` and `b` are laid out alike. A refusal of `a` is answered before one of `b`.
+pub fn same_layout(alloc: Global, a: &str, b: &str, config: &Config) -> Result<bool, FormatError>
+    ensures { MatchResult result (λ _. HasFittingNumbers a.now × HasFittingNumbers b.now) (RefusesOne a.now b.now) }
+{
+    let first = policies_str_to_pretty(alloc, a, config)?;
+    let second = policies_str_to_pretty(alloc, b, config)?;
+    Ok(first.as_str() == second.as_str())
+}
+
+// The layout of a text with this tree.
+fn lay_out<'src>(
+    alloc: Global,
+    ps: &'src str,
+    tree: &Policies<'src>,
+    config: &Config,
+) -> Result<String, NoDocument> {
+    let (tokens, closing) = plain_stream(alloc, ps)?;
+    let mut context = Context { config, tokens };
+    let mut text = joined_policies(alloc, tree, &mut context)?;
+    append_closing(closing, &mut text)?;
+    Ok(text)
+}
+
+// The tokens of a text without trailing commas, and its closing comments.
+fn plain_stream<'src>(
+    alloc: Global,
+    ps: &'src str,
+) -> Result<(Vec<WrappedToken<'src>>, Comments<'src>), NoDocument>
+    ensures { IfOk result (λ p. AreInOrder p.0.items) }
+{
+    let Some((mut tokens, closing)) = get_token_stream(alloc, ps)? else {
+        return Err(NoDocument::NoToken);
+    };
+    drop_trailing_commas(alloc, &mut tokens)?;
+    Ok((tokens, closing))
+}
+
+// The layouts of the policies, with an empty line between them.
+fn joined_policies<'src>(
+    alloc: Global,
+    tree: &Policies<'src>,
+    context: &mut Context<'_, 'src>,
+) -> Result<String, NoDocument>
+    requires { AreInOrder context.old.tokens.items }
+    ensures order { AreInOrder context.new.tokens.items }
+    ensures kept { KeepsTokens context.old.tokens.items context.new.tokens.items }
+    ensures config { context.new.config ≡ context.old.config }
+{
+    let mut text = String::new(alloc);
+    for (index, policy) in tree.policies.iter().enumerate() {
+        if index > 0 {
+            text.push_str("\n\n")?;
+        }
+        let layout = policy_text(alloc, policy, context)?;
+        text.push_str(layout.as_str())?;
+    }
+    Ok(text)
+}
+
+// The layout of one policy, without empty lines.
+fn policy_text<'src>(
+    alloc: Global,
+    policy: &Node<Policy<'src>>,
+    context: &mut Context<'_, 'src>,
+) -> Result<String, NoDocument>
+    requires { AreInOrder context.old.tokens.items }
+    ensures order { AreInOrder context.new.tokens.items }
+    ensures kept { KeepsTokens context.old.tokens.items context.new.tokens.items }
+    ensures config { context.new.config ≡ context.old.config }
+{
+    let width = context.config.line_width;
+    let Some(doc) = policy.to_doc(alloc, context)? else {
+        return Err(NoDocument::NoToken);
+    };
+    let mut layout = String::new(alloc);
+    render(alloc, &doc, width, &mut layout)?;
+    Ok(remove_empty_lines(alloc, layout.as_str())?)
+}
+
+// A line feed, and each closing comment with a line feed.
+fn append_closing(closing: Comments<'_>, text: &mut String) -> Result<(), AllocError> {
+    text.push('\n')?;
+    for comment in closing {
+        text.push_str(comment)?;
+        text.push('\n')?;
+    }
+    Ok(())
+}

@@ -1,0 +1,19 @@
+//! A formatter for policies.
+//!
+//! `policies_str_to_pretty` lays a policy text out. All modules that it stands on are given out here too, so that a user
+//! depends on this crate alone.
+#![tactic(auto)]
+
+pub mod config;
+pub mod doc;
+pub mod fmt;
+
+pub use cedar_cst::cst;
+pub use cedar_cst::cst::FormatError;
+pub use cedar_layout::{layout, utils};
+pub use cedar_tokens::{lexer, token};
+pub use config::{Config, Context};
+pub use fmt::{
+    RunFault, Watched, format_stream, is_formatted, policies_str_to_pretty, same_layout,
+    soundness_check,
+};

@@ -1,0 +1,5 @@
+//! Tests of the formatter as a whole: worked examples of the written rules. There is nothing here to call.
+#![tactic(auto)]
+
+#[cfg(test)]
+mod tests;
