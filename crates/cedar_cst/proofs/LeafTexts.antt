@@ -131,11 +131,11 @@ fixed_text t k r e h = own_text t k r e h ∙ sym (text_shown t.text.now k (sym 
 pub kept_leaf : (t : Lexeme) (k : Kind) (f : Forest Label Lexeme) → t.kind ≡ k → is K.Comma k ≡ false → without_trailing kind (leaf t f) ≡ leaf t (without_trailing kind f)
 kept_leaf t k f e h = ap (λ b. drop_if (b && closes_next kind f) (leaf t (without_trailing kind f)) (without_trailing kind f)) (ap (is K.Comma) e ∙ h)
 
+pub nodes_leaf : (t : Lexeme) (k : Kind) (f : Forest Label Lexeme) → t.kind ≡ k → is K.Comma k ≡ false → nodes_of (leaf t f) ≡ leaf (token_value t.text.now) (nodes_of f)
+nodes_leaf t k f e h = ap (λ b. spanned (λ (l : Lexeme). l.text.now) (λ (l : Lexeme). l.span) (drop_if (b && closes_next kind f) (leaf t (without_trailing kind f)) (without_trailing kind f))) (ap (is K.Comma) e ∙ h)
+
 pub nodes_own : (t : Lexeme) (k : Kind) (f : Forest Label Lexeme) → IsRight t → t.kind ≡ k → is K.Comma k ≡ false → is K.Number k ≡ false → nodes_of (leaf t f) ≡ leaf t.text.now (nodes_of f)
-nodes_own t k f r e h i = go ∙ ap (λ u. leaf u (nodes_of f)) (own_text t k r e i)
-  where
-    go : nodes_of (leaf t f) ≡ leaf (token_value t.text.now) (nodes_of f)
-    go = ap (λ b. spanned (λ (l : Lexeme). l.text.now) (λ (l : Lexeme). l.span) (drop_if (b && closes_next kind f) (leaf t (without_trailing kind f)) (without_trailing kind f))) (ap (is K.Comma) e ∙ h)
+nodes_own t k f r e h i = nodes_leaf t k f e h ∙ ap (λ u. leaf u (nodes_of f)) (own_text t k r e i)
 
 pub nodes_fixed : (t : Lexeme) (k : Kind) (f : Forest Label Lexeme) → IsRight t → t.kind ≡ k → is K.Comma k ≡ false → is K.Number k ≡ false → nodes_of (leaf t f) ≡ leaf (shown (code k) fixed_tokens t.text.now) (nodes_of f)
 nodes_fixed t k f r e h i = nodes_own t k f r e h i ∙ ap (λ u. leaf u (nodes_of f)) (sym (text_shown t.text.now k (sym e ∙ r.0)))

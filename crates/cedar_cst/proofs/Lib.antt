@@ -5,6 +5,10 @@ pub mod Rows
 pub mod Views
 pub mod Paths
 pub mod Operands
+pub mod NumberTexts
+pub mod Literals
+pub mod Tails
+pub mod Entities
 pub mod Closed
 pub mod Manys
 pub mod Whole

@@ -33,11 +33,11 @@ pub record PathRead (ts : List Lexeme) (path : List (Node Ident)) (name : Node I
   pub chain : Chain Label.name word goes_on step ts row rest
   pub stands : Stands (record { start = first_start path name; end = name.span.end }) (path_parts path name) row
 
-path_grow : (path : List (Node Ident)) (name next : Node Ident) → path_parts (path ++ name ∷ []) next ≡ join (path_parts path name) (leaf (codes "::") (ident_tree next none))
+pub path_grow : (path : List (Node Ident)) (name next : Node Ident) → path_parts (path ++ name ∷ []) next ≡ join (path_parts path name) (leaf (codes "::") (ident_tree next none))
 path_grow [] name next = refl
 path_grow (n ∷ ns) name next = ap (λ z. ident_tree n (leaf (codes "::") z)) (path_grow ns name next)
 
-start_grow : (path : List (Node Ident)) (name next : Node Ident) → first_start (path ++ name ∷ []) next ≡ first_start path name
+pub start_grow : (path : List (Node Ident)) (name next : Node Ident) → first_start (path ++ name ∷ []) next ≡ first_start path name
 start_grow [] name next = refl
 start_grow (n ∷ ns) name next = refl
 

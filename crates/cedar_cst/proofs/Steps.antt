@@ -1,5 +1,5 @@
 -- Steps of reading: what the tests of tokens say, how a refusal is passed on, and what a leaf's text is.
-use Rattle.std.specs.Prelude.{◌≡◌, ℕ, not, Bool, true, false, List, [], ◌∷◌, length, Some}
+use Rattle.std.specs.Prelude.{◌≡◌, ℕ, not, Bool, true, false, List, [], ◌∷◌, length, Some, Result}
 use Rattle.std.proofs.Common.{refl, sym, ap, ◌∙◌, arith, subst}
 use denote.Enum.Bare.{sameb, same_true}
 use Rattle.cedar_grammar.specs.declared.kind.Kind.{Kind}
@@ -18,7 +18,9 @@ use Rattle.cedar_cst.specs.declared.cst.tree.Str.{Str}
 use Rattle.cedar_cst.proofs.LeafTexts.{nodes_own, covers_leaf}
 use Rattle.cedar_cst.specs.declared.cst.reading.Refusal.{Refusal}
 use Rattle.cedar_cst.specs.declared.cst.reading.Refusal.TheVariants.{Grammar, TooDeep, OutOfMemory}
-use Rattle.cedar_cst.specs.Reading.{kind, Fails, Stands, IsIdentOf, IsStrOf, ident_parts, str_parts}
+use Rattle.cedar_cst.specs.Erased.{Erased}
+use Rattle.cedar_cst.specs.Reading.{kind, Fails, Stands, GivesNode, IsIdentOf, IsStrOf, ident_parts, str_parts}
+use Rattle.cedar_cst.specs.ReadingParts.{is_effect, is_cond_word}
 
 abbrev agree : Bool → Bool → Bool
 agree true y = y
@@ -63,6 +65,9 @@ passes OutOfMemory a b h k = tt
 pub fails_as : (e : Refusal) (a b : Answer Lexeme) → Fails e a → b ≡ a → Fails e b
 fails_as e a b h k = subst (Fails e) (sym k) h
 
+pub gives_as : {X : Type 0} (l : Label) (parts : X → Erased) (result : Result (Node X × Bor (List Lexeme)) Refusal) (a b : Answer Lexeme) → GivesNode l parts result a → b ≡ a → GivesNode l parts result b
+gives_as l parts result a b h k = subst (GivesNode l parts result) (sym k) h
+
 -- one token as a node
 pub tree_not : (l : Label) (p : Kind → Bool) (e : Refusal) (ts : List Lexeme) → Fails e (stuck false ts) → begins kind p ts ≡ false → Fails e (tree l (token kind p) ts)
 tree_not l p e ts h b = fails_as e (stuck false ts) (tree l (token kind p) ts) h (tree_fails l (token kind p) ts false ts (token_not p ts b))
@@ -88,3 +93,9 @@ words_apart k h = (apart_at is_word (is K.Comma) refl k h, apart_at is_word (is 
 
 pub idents_apart : (k : Kind) → is_ident k ≡ true → (is K.Comma k ≡ false) × (is K.Number k ≡ false)
 idents_apart k h = (apart_at is_ident (is K.Comma) refl k h, apart_at is_ident (is K.Number) refl k h)
+
+pub effects_apart : (k : Kind) → is_effect k ≡ true → (is K.Comma k ≡ false) × (is K.Number k ≡ false)
+effects_apart k h = (apart_at is_effect (is K.Comma) refl k h, apart_at is_effect (is K.Number) refl k h)
+
+pub cond_words_apart : (k : Kind) → is_cond_word k ≡ true → (is K.Comma k ≡ false) × (is K.Number k ≡ false)
+cond_words_apart k h = (apart_at is_cond_word (is K.Comma) refl k h, apart_at is_cond_word (is K.Number) refl k h)

@@ -6,3 +6,4 @@ pub mod Lexemes
 pub mod Laws
 pub mod Reading
 pub mod ReadingSet
+pub mod ReadingParts

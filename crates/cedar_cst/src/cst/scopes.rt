@@ -16,8 +16,8 @@ use crate::cst::tree::{
     VariableDef,
 };
 use crate::cst::words::{
-    begins_identifier, lone_operand, parse_any_word, parse_entity, parse_one_of, parse_path,
-    parse_slot_or_entity, parse_str,
+    begins_identifier, ident_node, lone_operand, parse_any_word, parse_cond_word, parse_effect,
+    parse_entity, parse_path, parse_slot_or_entity, parse_str,
 };
 use cedar_grammar::kind::Kind;
 use cedar_tokens::token::Span;
@@ -53,7 +53,7 @@ fn parse_policy<'t, 'src>(
     ensures { IfOk result (λ x. length x.1.now < length tokens.now) }
 {
     let (annotations, rest) = parse_annotations(alloc, tokens)?;
-    let (effect, rest) = parse_one_of(rest, Kind::Permit, Kind::Forbid)?;
+    let (effect, rest) = parse_effect(rest)?;
     let (variables, rest) = parse_scope(alloc, rest)?;
     let ((conds, end), rest) = closed_by(parse_conds(alloc, rest), Kind::SemiColon)?;
     let span = Span {
@@ -159,7 +159,8 @@ fn parse_variable<'t, 'src>(
         Slot::Principal => Kind::Principal,
         Slot::Resource => Kind::Resource,
     };
-    let (variable, rest) = parse_one_of(tokens, kind, kind)?;
+    let (word, rest) = expect(tokens, kind)?;
+    let variable = ident_node(word);
     if let Some(after) = past(rest, Kind::Equal) {
         let (entity, rest) = parse_slot_or_entity(alloc, after, slot)?;
         let entity = lone_operand(alloc, entity);
@@ -195,7 +196,8 @@ fn parse_action<'t, 'src>(
 ) -> Parsed<'t, 'src, Node<VariableDef<'src>>>
     ensures { IfOk result (λ x. length x.1.now < length tokens.now) }
 {
-    let (variable, rest) = parse_one_of(tokens, Kind::Action, Kind::Action)?;
+    let (word, rest) = expect(tokens, Kind::Action)?;
+    let variable = ident_node(word);
     if let Some(after) = past(rest, Kind::Equal) {
         let (entity, rest) = parse_entity(alloc, after)?;
         let entity = lone_operand(alloc, entity);
@@ -313,7 +315,7 @@ fn parse_cond<'t, 'src>(
 ) -> Parsed<'t, 'src, Node<Cond<'src>>>
     ensures { IfOk result (λ x. length x.1.now < length tokens.now) }
 {
-    let (cond, rest) = parse_one_of(tokens, Kind::When, Kind::Unless)?;
+    let (cond, rest) = parse_cond_word(tokens)?;
     let (_, rest) = expect(rest, Kind::LBrace)?;
     let ((expr, end), rest) = closed_by(parse_expr(alloc, rest, MAX_NESTING), Kind::RBrace)?;
     let span = Span {

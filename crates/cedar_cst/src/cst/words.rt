@@ -7,7 +7,9 @@ ghost use Rattle.cedar_grammar.specs.declared.kind.Kind.TheVariants as K;
 ghost use Rattle.cedar_grammar.specs.Reader.Reading.{token};
 ghost use Rattle.cedar_grammar.specs.Reader.Rules.{word_of, text_rule, expr_first};
 ghost use Rattle.cedar_grammar.specs.Reader.Lines.{◌▸◌, ◌∥◌, one_of, path, field, index, text_operand, has_field};
-ghost use Rattle.cedar_cst.specs.Erased.{access_parts, add_parts};
+ghost use Rattle.cedar_grammar.specs.Reader.Rules.{entity};
+ghost use Rattle.cedar_cst.specs.Erased.{access_parts, add_parts, primary_parts};
+ghost use Rattle.cedar_cst.specs.ReadingParts.{is_effect, is_cond_word, literal_rule, text_primary, key_rule, HasLiteral, GivesWords, IsEntityOf, slot_kind, IsSlotOf, slot_or_entity};
 ghost use Rattle.cedar_cst.specs.Reading.{kind, flat, GivesNode, ident_parts, str_parts, IsIdentOf, IsStrOf, first_start, name_parts, IsNameOf, IsOperandOf, IsLiteralOf, IsNamePrimaryOf, GivesBehind, last_end, relop_kind, GoesPastSign, GivesSign};
 
 use crate::cst::lexeme::Lexeme;
@@ -58,6 +60,20 @@ pub fn is_variable(kind: Kind) -> bool
         kind,
         Kind::Principal | Kind::Action | Kind::Resource | Kind::Context
     )
+}
+
+// Whether the kind is that of `permit` or `forbid`.
+fn is_effect(kind: Kind) -> bool
+    ensures { result ≡ is_effect kind }
+{
+    matches!(kind, Kind::Permit | Kind::Forbid)
+}
+
+// Whether the kind is that of `when` or `unless`.
+fn is_cond_word(kind: Kind) -> bool
+    ensures { result ≡ is_cond_word kind }
+{
+    matches!(kind, Kind::When | Kind::Unless)
 }
 
 /// Whether the first token can name something.
@@ -265,17 +281,31 @@ pub fn parse_any_word<'t, 'src>(tokens: &'t [Lexeme<'src>]) -> Parsed<'t, 'src, 
     }
 }
 
-/// One of two words.
-pub fn parse_one_of<'t, 'src>(
-    tokens: &'t [Lexeme<'src>],
-    wanted: Kind,
-    other: Kind,
-) -> Parsed<'t, 'src, Node<Ident<'src>>>
-    ensures { IfOk result (λ x. length x.1.now < length tokens.now) }
+/// `permit` or `forbid`.
+pub fn parse_effect<'t, 'src>(tokens: &'t [Lexeme<'src>]) -> Parsed<'t, 'src, Node<Ident<'src>>>
+    ensures shorter { IfOk result (λ x. length x.1.now < length tokens.now) }
+    ensures reads { GivesNode Label.ident ident_parts result (flat (word_of is_effect) tokens.now) }
 {
     match tokens.split_first() {
         Some((first, rest)) => {
-            if first.kind == wanted || first.kind == other {
+            if is_effect(first.kind) {
+                Ok((ident_node(*first), rest))
+            } else {
+                Err(refuse(tokens))
+            }
+        }
+        None => Err(refuse(tokens)),
+    }
+}
+
+/// `when` or `unless`.
+pub fn parse_cond_word<'t, 'src>(tokens: &'t [Lexeme<'src>]) -> Parsed<'t, 'src, Node<Ident<'src>>>
+    ensures shorter { IfOk result (λ x. length x.1.now < length tokens.now) }
+    ensures reads { GivesNode Label.ident ident_parts result (flat (word_of is_cond_word) tokens.now) }
+{
+    match tokens.split_first() {
+        Some((first, rest)) => {
+            if is_cond_word(first.kind) {
                 Ok((ident_node(*first), rest))
             } else {
                 Err(refuse(tokens))
@@ -338,7 +368,9 @@ pub fn parse_path<'t, 'src>(
 }
 
 /// An entity as a primary.
-pub fn entity_node<'src>(path: Node<Name<'src>>, eid: Node<Str<'src>>) -> Node<Primary<'src>> {
+pub fn entity_node<'src>(path: Node<Name<'src>>, eid: Node<Str<'src>>) -> Node<Primary<'src>>
+    ensures { IsEntityOf path.entry eid.entry result }
+{
     let span = Span {
         start: path.span.start,
         end: eid.span.end,
@@ -393,7 +425,9 @@ fn without_zeros(digits: &str) -> &str
 }
 
 // The literal that a token is.
-fn literal_of<'src>(token: Lexeme<'src>) -> Option<Literal<'src>> {
+fn literal_of<'src>(token: Lexeme<'src>) -> Option<Literal<'src>>
+    ensures { HasLiteral token.entry result }
+{
     match token.kind {
         Kind::True => Some(Literal::True),
         Kind::False => Some(Literal::False),
@@ -405,7 +439,8 @@ fn literal_of<'src>(token: Lexeme<'src>) -> Option<Literal<'src>> {
 
 /// A literal as a primary.
 pub fn parse_literal<'t, 'src>(tokens: &'t [Lexeme<'src>]) -> Parsed<'t, 'src, Node<Primary<'src>>>
-    ensures { IfOk result (λ x. length x.1.now < length tokens.now) }
+    ensures shorter { IfOk result (λ x. length x.1.now < length tokens.now) }
+    ensures reads { GivesNode Label.primary primary_parts result (flat literal_rule tokens.now) }
 {
     match tokens.split_first() {
         Some((first, rest)) => match literal_of(*first) {
@@ -416,40 +451,54 @@ pub fn parse_literal<'t, 'src>(tokens: &'t [Lexeme<'src>]) -> Parsed<'t, 'src, N
     }
 }
 
+/// A string as a primary.
+pub fn parse_text<'t, 'src>(tokens: &'t [Lexeme<'src>]) -> Parsed<'t, 'src, Node<Primary<'src>>>
+    ensures shorter { IfOk result (λ x. length x.1.now < length tokens.now) }
+    ensures reads { GivesNode Label.primary primary_parts result (flat text_primary tokens.now) }
+{
+    let (string, rest) = expect(tokens, Kind::Str)?;
+    Ok((
+        literal_primary(Literal::Str(string.text), string.span),
+        rest,
+    ))
+}
+
 /// A key of a record.
 pub fn parse_key<'t, 'src>(
     alloc: Global,
     tokens: &'t [Lexeme<'src>],
 ) -> Parsed<'t, 'src, Node<Primary<'src>>>
-    ensures { IfOk result (λ x. length x.1.now < length tokens.now) }
+    ensures shorter { IfOk result (λ x. length x.1.now < length tokens.now) }
+    ensures reads { GivesNode Label.primary primary_parts result (flat key_rule tokens.now) }
 {
-    if begins(tokens, Kind::Str) {
-        return parse_literal(tokens);
+    if begins_identifier(tokens) {
+        let (word, rest) = parse_ident(tokens)?;
+        return Ok((name_primary(name_node(Vec::new(alloc), word)), rest));
     }
-    let (word, rest) = parse_ident(tokens)?;
-    Ok((name_primary(name_node(Vec::new(alloc), word)), rest))
+    parse_text(tokens)
 }
 
-/// Words joined by `::`, up to a string after `::`, which makes them an entity. What follows a `::` is told by the next token.
-pub fn parse_entity_or_name<'t, 'src>(
+/// Words joined by `::`, and a string after a last `::`, which makes them an entity. What follows a `::` is told by the next token.
+pub fn parse_words<'t, 'src>(
     alloc: Global,
     tokens: &'t [Lexeme<'src>],
-) -> Parsed<'t, 'src, Node<Primary<'src>>>
-    ensures { IfOk result (λ x. length x.1.now < length tokens.now) }
+) -> Parsed<'t, 'src, (Node<Name<'src>>, Option<Node<Str<'src>>>)>
+    ensures shorter { IfOk result (λ x. length x.1.now < length tokens.now) }
+    ensures reads { GivesWords result tokens.now }
 {
     let (mut name, mut rest) = parse_ident(tokens)?;
     let mut path = Vec::new(alloc);
     'words: while let Some(after) = past(rest, Kind::DoubleColon) {
         if begins(after, Kind::Str) {
             let (eid, after) = parse_str(after)?;
-            return Ok((entity_node(name_node(path, name), eid), after));
+            return Ok(((name_node(path, name), Some(eid)), after));
         }
         let (next, after) = parse_ident(after)?;
         path.push(name)?;
         name = next;
         rest = after;
     }
-    Ok((name_primary(name_node(path, name)), rest))
+    Ok(((name_node(path, name), None), rest))
 }
 
 /// An entity.
@@ -457,12 +506,34 @@ pub fn parse_entity<'t, 'src>(
     alloc: Global,
     tokens: &'t [Lexeme<'src>],
 ) -> Parsed<'t, 'src, Node<Primary<'src>>>
-    ensures { IfOk result (λ x. length x.1.now < length tokens.now) }
+    ensures shorter { IfOk result (λ x. length x.1.now < length tokens.now) }
+    ensures reads { GivesNode Label.primary primary_parts result (flat entity tokens.now) }
 {
-    let (primary, rest) = parse_entity_or_name(alloc, tokens)?;
-    match primary.inner {
-        Primary::Ref(_) => Ok((primary, rest)),
-        _ => Err(refuse(rest)),
+    let ((path, eid), rest) = parse_words(alloc, tokens)?;
+    match eid {
+        Some(eid) => Ok((entity_node(path, eid), rest)),
+        None => Err(refuse(rest)),
+    }
+}
+
+// The token of a slot.
+fn slot_kind(slot: Slot) -> Kind
+    ensures { result ≡ slot_kind slot }
+{
+    match slot {
+        Slot::Principal => Kind::PrincipalSlot,
+        Slot::Resource => Kind::ResourceSlot,
+    }
+}
+
+// A slot as a primary.
+fn slot_primary<'src>(slot: Slot, span: Span) -> Node<Primary<'src>>
+    ensures { IsSlotOf slot span result }
+{
+    let slot = Node { inner: slot, span };
+    Node {
+        inner: Primary::Slot(slot),
+        span,
     }
 }
 
@@ -472,37 +543,15 @@ pub fn parse_slot_or_entity<'t, 'src>(
     tokens: &'t [Lexeme<'src>],
     slot: Slot,
 ) -> Parsed<'t, 'src, Node<Primary<'src>>>
-    ensures { IfOk result (λ x. length x.1.now < length tokens.now) }
+    ensures shorter { IfOk result (λ x. length x.1.now < length tokens.now) }
+    ensures reads { GivesNode Label.primary primary_parts result (flat (slot_or_entity (slot_kind slot)) tokens.now) }
 {
-    let kind = match slot {
-        Slot::Principal => Kind::PrincipalSlot,
-        Slot::Resource => Kind::ResourceSlot,
-    };
-    match expect(tokens, kind) {
-        Ok((token, rest)) => {
-            let span = token.span;
-            let slot = Node { inner: slot, span };
-            let primary = Node {
-                inner: Primary::Slot(slot),
-                span,
-            };
-            Ok((primary, rest))
-        }
-        Err(_) => parse_entity(alloc, tokens),
+    let kind = slot_kind(slot);
+    if begins(tokens, kind) {
+        let (token, rest) = expect(tokens, kind)?;
+        return Ok((slot_primary(slot, token.span), rest));
     }
-}
-
-/// Whether a primary is a name.
-pub fn is_name(primary: &Primary<'_>) -> bool {
-    matches!(primary, Primary::Name(_))
-}
-
-/// Whether a primary is a name of one word.
-pub fn is_lone_word(primary: &Primary<'_>) -> bool {
-    match primary {
-        Primary::Name(name) => name.inner.path.is_empty(),
-        _ => false,
-    }
+    parse_entity(alloc, tokens)
 }
 
 /// A primary with what is accessed in it as an operand of comparisons.
