@@ -9,6 +9,7 @@ pub mod NumberTexts
 pub mod Literals
 pub mod Tails
 pub mod Entities
+pub mod Variables
 pub mod Closed
 pub mod Manys
 pub mod Whole

@@ -1,5 +1,5 @@
 -- What parse functions promise of literals, keys, entities and the words before them, in terms of the reader.
-use Rattle.std.specs.Prelude.{◌≡◌, ◌||◌, Bool, true, false, List, [], ◌∷◌, Result, Ok, Err, Option, Some, None, codes}
+use Rattle.std.specs.Prelude.{◌≡◌, ℕ, ◌||◌, Bool, true, false, List, [], ◌∷◌, Result, Ok, Err, Option, Some, None, codes}
 use Rattle.std.specs.Borrow.{Bor}
 use Rattle.cedar_tokens.specs.Listing.{without_zeros}
 use Rattle.cedar_tokens.specs.declared.token.Span.{Span}
@@ -20,8 +20,11 @@ use Rattle.cedar_cst.specs.declared.cst.tree.Name.{Name}
 use Rattle.cedar_cst.specs.declared.cst.tree.Str.{Str}
 use Rattle.cedar_cst.specs.declared.cst.tree.Slot.{Slot}
 use Rattle.cedar_cst.specs.declared.cst.tree.Literal.{Literal}
+use Rattle.cedar_cst.specs.declared.cst.tree.RelOp.{RelOp}
+use Rattle.cedar_cst.specs.declared.cst.tree.VariableDef.{VariableDef}
 use Rattle.cedar_cst.specs.declared.cst.tree.Primary as Primary
-use Rattle.cedar_cst.specs.Erased.{node, name_tree, str_tree, primary_parts, slot_text}
+use Rattle.cedar_cst.specs.declared.cst.tree.Add as Add
+use Rattle.cedar_cst.specs.Erased.{Erased, node, ident_tree, name_tree, str_tree, primary_parts, slot_text, type_parts, operator_parts}
 use Rattle.cedar_cst.specs.Reading.{kind, Fails, Stands, str_parts, name_parts}
 
 abbrev pub is_effect : Kind → Bool
@@ -110,3 +113,16 @@ variable_kind Slot.Resource = K.Resource
 
 abbrev pub slot_or_entity : Kind → Rule
 slot_or_entity k = R.node Label.primary (R.node Label.slot (one_of k)) ∥ entity
+
+-- Variables of a scope.
+abbrev pub variable_parts : VariableDef → Erased
+variable_parts v = ident_tree v.variable (type_parts v.entity_type (operator_parts v.ineq))
+
+-- where the last part ends
+abbrev pub variable_end : Node Ident → Option (Node Name) → Option (RelOp × Node Add.Add) → ℕ
+variable_end v type (Some x) = x.1.span.end
+variable_end v (Some name) None = name.span.end
+variable_end v None None = v.span.end
+
+abbrev pub IsVariableOf : Node Ident → Option (Node Name) → Option (RelOp × Node Add.Add) → Node VariableDef → Type 0
+IsVariableOf v type operator n = (variable_parts n.inner ≡ ident_tree v (type_parts type (operator_parts operator))) × (n.span ≡ record { start = v.span.start; end = variable_end v type operator })

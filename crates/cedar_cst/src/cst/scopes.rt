@@ -1,9 +1,12 @@
 //! Policies: annotations, scopes and conditions.
-ghost use Rattle.std.specs.Prelude.{◌<◌, ◌≤◌, length, IfOk};
+ghost use Rattle.std.specs.Prelude.{◌≡◌, ◌<◌, ◌≤◌, length, IfOk};
 ghost use Rattle.cedar_grammar.specs.Trees.{Label};
-ghost use Rattle.cedar_grammar.specs.Reader.Rules.{star};
-ghost use Rattle.cedar_grammar.specs.Reader.Lines.{annotation_rule};
-ghost use Rattle.cedar_cst.specs.Reading.{flat, GivesNode, GivesMany, annotation_parts};
+ghost use Rattle.cedar_grammar.specs.Kinds.{is};
+ghost use Rattle.cedar_grammar.specs.Reader.Rules.{star, entity, word_of};
+ghost use Rattle.cedar_grammar.specs.Reader.Lines.{annotation_rule, operand, entity_or, scoped};
+ghost use Rattle.cedar_cst.specs.Erased.{add_parts};
+ghost use Rattle.cedar_cst.specs.ReadingParts.{slot_kind, variable_kind, variable_parts, IsVariableOf};
+ghost use Rattle.cedar_cst.specs.Reading.{flat, GivesNode, GivesMany, annotation_parts, ident_parts};
 
 use crate::cst::expressions::parse_expr;
 use crate::cst::lexeme::Lexeme;
@@ -147,74 +150,51 @@ fn parse_scope<'t, 'src>(
     Ok(((principal, action, resource), rest))
 }
 
-// `principal` or `resource`, and perhaps a type, an entity or the slot.
-fn parse_variable<'t, 'src>(
+// The word of a variable.
+fn variable_kind(slot: Slot) -> Kind
+    ensures { result ≡ variable_kind slot }
+{
+    match slot {
+        Slot::Principal => Kind::Principal,
+        Slot::Resource => Kind::Resource,
+    }
+}
+
+// `principal` or `resource`.
+fn parse_variable_word<'t, 'src>(
+    tokens: &'t [Lexeme<'src>],
+    slot: Slot,
+) -> Parsed<'t, 'src, Node<Ident<'src>>>
+    ensures shorter { IfOk result (λ x. length x.1.now < length tokens.now) }
+    ensures reads { GivesNode Label.ident ident_parts result (flat (word_of (is (variable_kind slot))) tokens.now) }
+{
+    let (word, rest) = expect(tokens, variable_kind(slot))?;
+    Ok((ident_node(word), rest))
+}
+
+// A slot or an entity as an operand.
+fn parse_slot_operand<'t, 'src>(
     alloc: Global,
     tokens: &'t [Lexeme<'src>],
     slot: Slot,
-) -> Parsed<'t, 'src, Node<VariableDef<'src>>>
-    ensures { IfOk result (λ x. length x.1.now < length tokens.now) }
+) -> Parsed<'t, 'src, Node<Add<'src>>>
+    ensures shorter { IfOk result (λ x. length x.1.now < length tokens.now) }
+    ensures reads { GivesNode Label.add add_parts result (flat (entity_or (slot_kind slot)) tokens.now) }
 {
-    let kind = match slot {
-        Slot::Principal => Kind::Principal,
-        Slot::Resource => Kind::Resource,
-    };
-    let (word, rest) = expect(tokens, kind)?;
-    let variable = ident_node(word);
-    if let Some(after) = past(rest, Kind::Equal) {
-        let (entity, rest) = parse_slot_or_entity(alloc, after, slot)?;
-        let entity = lone_operand(alloc, entity);
-        return Ok((
-            variable_node(variable, None, Some((RelOp::Eq, entity))),
-            rest,
-        ));
-    }
-    if let Some(after) = past(rest, Kind::In) {
-        let (entity, rest) = parse_slot_or_entity(alloc, after, slot)?;
-        let entity = lone_operand(alloc, entity);
-        return Ok((
-            variable_node(variable, None, Some((RelOp::In, entity))),
-            rest,
-        ));
-    }
-    if let Some(after) = past(rest, Kind::Is) {
-        let (entity_type, rest) = parse_path(alloc, after)?;
-        if let Some(after) = past(rest, Kind::In) {
-            let (entity, rest) = parse_slot_or_entity(alloc, after, slot)?;
-            let entity = Some((RelOp::In, lone_operand(alloc, entity)));
-            return Ok((variable_node(variable, Some(entity_type), entity), rest));
-        }
-        return Ok((variable_node(variable, Some(entity_type), None), rest));
-    }
-    Ok((variable_node(variable, None, None), rest))
+    let (entity, rest) = parse_slot_or_entity(alloc, tokens, slot)?;
+    Ok((lone_operand(alloc, entity), rest))
 }
 
-// `action`, and perhaps an entity or a list of entities.
-fn parse_action<'t, 'src>(
+// An entity as an operand.
+fn parse_entity_operand<'t, 'src>(
     alloc: Global,
     tokens: &'t [Lexeme<'src>],
-) -> Parsed<'t, 'src, Node<VariableDef<'src>>>
-    ensures { IfOk result (λ x. length x.1.now < length tokens.now) }
+) -> Parsed<'t, 'src, Node<Add<'src>>>
+    ensures shorter { IfOk result (λ x. length x.1.now < length tokens.now) }
+    ensures reads { GivesNode Label.add add_parts result (flat (operand entity) tokens.now) }
 {
-    let (word, rest) = expect(tokens, Kind::Action)?;
-    let variable = ident_node(word);
-    if let Some(after) = past(rest, Kind::Equal) {
-        let (entity, rest) = parse_entity(alloc, after)?;
-        let entity = lone_operand(alloc, entity);
-        return Ok((
-            variable_node(variable, None, Some((RelOp::Eq, entity))),
-            rest,
-        ));
-    }
-    if let Some(after) = past(rest, Kind::In) {
-        let (entities, rest) = parse_entity_or_list(alloc, after)?;
-        let entities = lone_operand(alloc, entities);
-        return Ok((
-            variable_node(variable, None, Some((RelOp::In, entities))),
-            rest,
-        ));
-    }
-    Ok((variable_node(variable, None, None), rest))
+    let (entity, rest) = parse_entity(alloc, tokens)?;
+    Ok((lone_operand(alloc, entity), rest))
 }
 
 // A variable with its type, and its operator with what follows that.
@@ -222,7 +202,9 @@ fn variable_node<'src>(
     variable: Node<Ident<'src>>,
     entity_type: Option<Node<Name<'src>>>,
     ineq: Option<(RelOp, Node<Add<'src>>)>,
-) -> Node<VariableDef<'src>> {
+) -> Node<VariableDef<'src>>
+    ensures { IsVariableOf variable.entry entity_type.entry ineq.entry result }
+{
     let end = match (&ineq, &entity_type) {
         (Some((_, operand)), _) => operand.span.end,
         (None, Some(name)) => name.span.end,
@@ -240,11 +222,65 @@ fn variable_node<'src>(
     Node { inner, span }
 }
 
-// An entity, or entities in square brackets.
-fn parse_entity_or_list<'t, 'src>(
+// `principal` or `resource`, and perhaps a type, an entity or the slot.
+fn parse_variable<'t, 'src>(
     alloc: Global,
     tokens: &'t [Lexeme<'src>],
-) -> Parsed<'t, 'src, Node<Primary<'src>>>
+    slot: Slot,
+) -> Parsed<'t, 'src, Node<VariableDef<'src>>>
+    ensures shorter { IfOk result (λ x. length x.1.now < length tokens.now) }
+    ensures reads { GivesNode Label.variable variable_parts result (flat (scoped (variable_kind slot) (slot_kind slot)) tokens.now) }
+{
+    let (variable, rest) = parse_variable_word(tokens, slot)?;
+    if let Some(after) = past(rest, Kind::Equal) {
+        let (entity, rest) = parse_slot_operand(alloc, after, slot)?;
+        let entity = Some((RelOp::Eq, entity));
+        return Ok((variable_node(variable, None, entity), rest));
+    }
+    if let Some(after) = past(rest, Kind::Is) {
+        let (entity_type, rest) = parse_path(alloc, after)?;
+        if let Some(after) = past(rest, Kind::In) {
+            let (entity, rest) = parse_slot_operand(alloc, after, slot)?;
+            let entity = Some((RelOp::In, entity));
+            return Ok((variable_node(variable, Some(entity_type), entity), rest));
+        }
+        return Ok((variable_node(variable, Some(entity_type), None), rest));
+    }
+    if let Some(after) = past(rest, Kind::In) {
+        let (entity, rest) = parse_slot_operand(alloc, after, slot)?;
+        let entity = Some((RelOp::In, entity));
+        return Ok((variable_node(variable, None, entity), rest));
+    }
+    Ok((variable_node(variable, None, None), rest))
+}
+
+// `action`, and perhaps an entity or a list of entities.
+fn parse_action<'t, 'src>(
+    alloc: Global,
+    tokens: &'t [Lexeme<'src>],
+) -> Parsed<'t, 'src, Node<VariableDef<'src>>>
+    ensures { IfOk result (λ x. length x.1.now < length tokens.now) }
+{
+    let (word, rest) = expect(tokens, Kind::Action)?;
+    let variable = ident_node(word);
+    if let Some(after) = past(rest, Kind::Equal) {
+        let (entity, rest) = parse_entity_operand(alloc, after)?;
+        let entity = Some((RelOp::Eq, entity));
+        return Ok((variable_node(variable, None, entity), rest));
+    }
+    if let Some(after) = past(rest, Kind::In) {
+        let (entities, rest) = parse_entities_operand(alloc, after)?;
+        let entities = Some((RelOp::In, entities));
+        return Ok((variable_node(variable, None, entities), rest));
+    }
+    Ok((variable_node(variable, None, None), rest))
+}
+
+// An entity, or entities in square brackets, as an operand.
+fn parse_entities_operand<'t, 'src>(
+    alloc: Global,
+    tokens: &'t [Lexeme<'src>],
+) -> Parsed<'t, 'src, Node<Add<'src>>>
     ensures { IfOk result (λ x. length x.1.now < length tokens.now) }
 {
     match past(tokens, Kind::LBracket) {
@@ -255,9 +291,9 @@ fn parse_entity_or_list<'t, 'src>(
                 end,
             };
             let inner = Primary::EList(items);
-            Ok((Node { inner, span }, rest))
+            Ok((lone_operand(alloc, Node { inner, span }), rest))
         }
-        None => parse_entity(alloc, tokens),
+        None => parse_entity_operand(alloc, tokens),
     }
 }
 
@@ -286,8 +322,8 @@ fn parse_entity_expr<'t, 'src>(
 ) -> Parsed<'t, 'src, Node<Expr<'src>>>
     ensures { IfOk result (λ x. length x.1.now < length tokens.now) }
 {
-    let (entity, rest) = parse_entity(alloc, tokens)?;
-    let relation = lone_relation(lone_operand(alloc, entity));
+    let (entity, rest) = parse_entity_operand(alloc, tokens)?;
+    let relation = lone_relation(entity);
     let and = and_node(relation, Vec::new(alloc));
     let or = or_node(and, Vec::new(alloc));
     or_expr(alloc, Ok((or, rest)))
