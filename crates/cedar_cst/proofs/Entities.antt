@@ -2,29 +2,26 @@
 use Rattle.std.specs.Prelude.{◌≡◌, Bool, true, false, List, [], ◌∷◌, ◌++◌, Option, Some, None, Ok}
 use Rattle.std.specs.Borrow.{Bor}
 use Rattle.std.proofs.Common.{refl, sym, ap, ◌∙◌, subst}
-use Rattle.cedar_tokens.specs.declared.token.Span.{Span}
-use Rattle.cedar_grammar.specs.declared.kind.Kind.{Kind}
 use Rattle.cedar_grammar.specs.declared.kind.Kind.TheVariants as K
 use Rattle.cedar_grammar.specs.Kinds.{is, is_ident, begins}
 use Rattle.cedar_grammar.specs.Trees.{Label, Forest, none, leaf, branch, join}
-use Rattle.cedar_grammar.specs.Reader.Reading.{Answer, Reader, done, stuck, after, both, tree, token}
+use Rattle.cedar_grammar.specs.Reader.Reading.{Answer, Reader, done, stuck, token}
 use Rattle.cedar_grammar.specs.Reader.Rules.{refuse, entity}
 use Rattle.cedar_grammar.specs.Reader.Regroup.{gather}
-use Rattle.cedar_grammar.proofs.ReadingLaws.{Takes, both_first, both_fails, tree_takes, token_takes, tree_fails, join_none, join_assoc, onto, onto_onto}
+use Rattle.cedar_grammar.proofs.ReadingLaws.{Takes, both_first, tree_takes, token_takes, tree_fails, join_assoc, onto, onto_onto}
 use Rattle.cedar_grammar.proofs.RuleLaws.{shaped_done, shaped_fails}
 use Rattle.cedar_grammar.proofs.KindSets.{apart_at}
-use Rattle.cedar_cst.specs.Erased.{ident_tree, path_parts, primary_parts}
-use Rattle.cedar_cst.specs.Reading.{kind, flat, Fails, Stands, ident_parts, str_parts, name_parts, first_start, GivesNode}
+use Rattle.cedar_cst.specs.Erased.{path_parts, primary_parts}
+use Rattle.cedar_cst.specs.Reading.{kind, flat, Stands, ident_parts, str_parts, name_parts, first_start, GivesNode}
 use Rattle.cedar_cst.specs.ReadingParts.{ident_reader, text_reader, words_on, words_then, GoesOn, Words, WordsEnd, Gathers, GivesWords, IsEntityOf, slot_kind, IsSlotOf}
 use Rattle.cedar_cst.specs.declared.cst.lexeme.Lexeme.{Lexeme}
-use Rattle.cedar_cst.specs.declared.cst.reading.Refusal.{Refusal}
 use Rattle.cedar_cst.specs.declared.cst.tree.Node.{Node}
 use Rattle.cedar_cst.specs.declared.cst.tree.Ident.{Ident}
 use Rattle.cedar_cst.specs.declared.cst.tree.Name.{Name}
 use Rattle.cedar_cst.specs.declared.cst.tree.Str.{Str}
 use Rattle.cedar_cst.specs.declared.cst.tree.Slot.{Slot}
 use Rattle.cedar_cst.specs.declared.cst.tree.Primary as Primary
-use Rattle.cedar_cst.proofs.Steps.{passes, fails_as, is_itself, token_not}
+use Rattle.cedar_cst.proofs.Steps.{is_itself, token_not}
 use Rattle.cedar_cst.proofs.Rows.{row_token, row_node, row_nodes, row_more, row_join, row_parts, row_span, no_closing}
 use Rattle.cedar_cst.proofs.Paths.{path_grow, start_grow}
 use Rattle.cedar_cst.proofs.Tails.{tailed_end, tailed_item, tailed_fails, tailed_last}

@@ -2,23 +2,21 @@
 use Rattle.std.specs.Prelude.{◌≡◌, ℕ, ◌||◌, Bool, true, false, List, [], ◌∷◌}
 use Rattle.std.specs.Borrow.{Bor}
 use Rattle.std.proofs.Common.{refl, sym, ap, ◌∙◌}
-use Rattle.cedar_tokens.specs.declared.token.Span.{Span}
 use Rattle.cedar_grammar.specs.declared.kind.Kind.{Kind}
 use Rattle.cedar_grammar.specs.declared.kind.Kind.TheVariants as K
-use Rattle.cedar_grammar.specs.Kinds.{is, is_boolean, is_ident, begins}
+use Rattle.cedar_grammar.specs.Kinds.{is, is_boolean, begins}
 use Rattle.cedar_grammar.specs.Trees.{Label, Forest, none, leaf, branch}
-use Rattle.cedar_grammar.specs.Reader.Reading.{Answer, Reader, done, stuck, tree, token}
+use Rattle.cedar_grammar.specs.Reader.Reading.{Reader, done, stuck, tree, token}
 use Rattle.cedar_grammar.proofs.ReadingLaws.{choice_yes, choice_no, tree_done, tree_fails}
-use Rattle.cedar_grammar.proofs.KindSets.{apart_at, or_left, or_right}
+use Rattle.cedar_grammar.proofs.KindSets.{or_left, or_right}
 use Rattle.cedar_cst.specs.Erased.{node, primary_parts}
-use Rattle.cedar_cst.specs.Reading.{kind, flat, Fails, Stands, IsLiteralOf}
-use Rattle.cedar_cst.specs.ReadingParts.{is_literal, literal_rule, text_primary, IsLiteralToken}
+use Rattle.cedar_cst.specs.Reading.{kind, flat, Stands, IsLiteralOf}
+use Rattle.cedar_cst.specs.ReadingParts.{is_literal, literal_rule, IsLiteralToken}
 use Rattle.cedar_cst.specs.declared.cst.lexeme.Lexeme.{Lexeme}
-use Rattle.cedar_cst.specs.declared.cst.reading.Refusal.{Refusal}
 use Rattle.cedar_cst.specs.declared.cst.tree.Node.{Node}
 use Rattle.cedar_cst.specs.declared.cst.tree.Literal.{Literal}
 use Rattle.cedar_cst.specs.declared.cst.tree.Primary as Primary
-use Rattle.cedar_cst.proofs.Steps.{token_at, token_not, first_begins, fails_as}
+use Rattle.cedar_cst.proofs.Steps.{token_at, token_not, first_begins}
 use Rattle.cedar_cst.proofs.Rows.{row_token, row_node, row_span, row_parts}
 use Rattle.cedar_cst.proofs.Operands.{row_own}
 use Rattle.cedar_cst.proofs.NumberTexts.{row_number}

@@ -6,10 +6,10 @@ use Rattle.cedar_grammar.specs.Kinds.{is, begins}
 use Rattle.cedar_grammar.specs.Trees.{Label, Forest, none, leaf}
 use Rattle.cedar_grammar.specs.Reader.Reading.{Answer, Reader, done, stuck, choice, both, one}
 use Rattle.cedar_grammar.specs.Reader.Rules.{tail_to, tailed}
-use Rattle.cedar_grammar.proofs.ReadingLaws.{Takes, choice_yes, choice_no, both_first, both_fails, both_then_fails, onto, onto_onto}
+use Rattle.cedar_grammar.proofs.ReadingLaws.{Takes, choice_yes, choice_no, both_first, both_fails, onto, onto_onto}
 use Rattle.cedar_cst.specs.Reading.{kind}
 use Rattle.cedar_cst.specs.declared.cst.lexeme.Lexeme.{Lexeme}
-use Rattle.cedar_cst.proofs.Steps.{token_at, first_begins}
+use Rattle.cedar_cst.proofs.Steps.{token_at}
 
 module _ (s : Kind) (u : Kind → Bool) (X Y Z : Reader Lexeme) where
   abbrev behind : ℕ → Reader Lexeme

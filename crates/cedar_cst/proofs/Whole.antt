@@ -1,7 +1,7 @@
 -- What the parser of policies gives where its loop gives what the reader gives: the tree of the text, or the exact place of its refusal.
-use Rattle.std.specs.Prelude.{◌≡◌, ℕ, zero, suc, ◌+◌, ◌-◌, ◌<◌, ◌≤◌, Bool, true, false, List, [], ◌∷◌, ◌++◌, ◌⊎◌, length, map, Option, Some, None, Result, Ok, Err, if◌then◌else◌}
+use Rattle.std.specs.Prelude.{◌≡◌, ℕ, suc, ◌-◌, Bool, true, false, List, [], ◌∷◌, ◌++◌, ◌⊎◌, length, map, Some, Ok, Err, if◌then◌else◌}
 use Rattle.std.specs.List.{filter, slice_get, AllByRecursion}
-use Rattle.std.proofs.Common.{refl, sym, ap, ◌∙◌, arith, inl, inr, subst, length-append, append-nil}
+use Rattle.std.proofs.Common.{refl, sym, ap, ◌∙◌, arith, inl, inr, subst, length-append}
 use Rattle.std.proofs.lemmas.Option.{slice_get_past}
 use Rattle.cedar_tokens.specs.Units.{is_token}
 use Rattle.cedar_grammar.specs.TokenKinds.{kind_of}
@@ -12,15 +12,13 @@ use Rattle.cedar_grammar.specs.Reader.Lines.{set_to}
 use Rattle.cedar_grammar.proofs.DepthLaws.{Beyond}
 use Rattle.cedar_grammar.proofs.WholeLaws.{set_sound, set_local, set_deeper}
 use Rattle.cedar_cst.specs.declared.cst.lexeme.Lexeme.{Lexeme}
-use Rattle.cedar_cst.specs.declared.cst.reading.Refusal.{Refusal}
-use Rattle.cedar_cst.specs.declared.cst.reading.Refusal.TheVariants.{Grammar, TooDeep, OutOfMemory}
+use Rattle.cedar_cst.specs.declared.cst.reading.Refusal.TheVariants.{Grammar, TooDeep}
 use Rattle.cedar_cst.specs.declared.cst.tree.Policies.{Policies}
-use Rattle.cedar_cst.specs.Erased.{erase}
 use Rattle.cedar_cst.specs.NodeTrees.{IsTreeOf}
-use Rattle.cedar_cst.specs.Lexemes.{AreLexemes, nodes_of}
+use Rattle.cedar_cst.specs.Lexemes.{AreLexemes}
 use Rattle.cedar_cst.specs.Reading.{kind, IsRight, AreRight, start_or, place_of}
 use Rattle.cedar_cst.specs.ReadingSet.{GivesSet}
-use Rattle.cedar_cst.proofs.Parsing.{Outcome, parsed}
+use Rattle.cedar_cst.proofs.Parsing.{parsed}
 
 -- Lexemes of a text are right.
 all_tokens : (us : List (List ℕ)) (xs : List Lexeme) → map (λ (l : Lexeme). l.text.now) xs ≡ filter is_token us → AllByRecursion (λ (l : Lexeme). is_token l.text.now ≡ true) xs

@@ -7,7 +7,7 @@ use Rattle.cedar_grammar.specs.declared.kind.Kind.{Kind}
 use Rattle.cedar_grammar.specs.declared.kind.Kind.TheVariants as K
 use Rattle.cedar_grammar.specs.Kinds.{is, is_ident, is_boolean, begins}
 use Rattle.cedar_grammar.specs.Trees.{Label, Forest, none, leaf, branch, join}
-use Rattle.cedar_grammar.specs.Reader.Reading.{Reader, Answer, done, after, both, tree, token}
+use Rattle.cedar_grammar.specs.Reader.Reading.{Reader, done, after, both, tree, token}
 use Rattle.cedar_grammar.specs.Reader.Rules.{Rule, leaf_of, tailed, entity}
 use Rattle.cedar_grammar.specs.Reader.Rules as R
 use Rattle.cedar_grammar.specs.Reader.Regroup.{gather}

@@ -1,5 +1,5 @@
 -- What parsing all policies gives, in terms of the reader.
-use Rattle.std.specs.Prelude.{◌≡◌, ℕ, true, false, List, [], ◌∷◌, ◌⊎◌, length, Result, Ok, Err}
+use Rattle.std.specs.Prelude.{◌≡◌, true, false, List, [], ◌∷◌, ◌⊎◌, length, Result, Ok, Err}
 use Rattle.cedar_grammar.specs.Trees.{Label, Forest}
 use Rattle.cedar_grammar.specs.Reader.Reading.{Answer, done, stuck}
 use Rattle.cedar_cst.specs.declared.cst.lexeme.Lexeme.{Lexeme}

@@ -82,8 +82,7 @@ returns-in-Some-past-clause-reads c =
     let s = c.args.slot in
     let h = c.in_ok-variable.ensures.reads in
     let d = c.in-Some-past.ensures.token in
-    let j = c.in_ok-entity_type.ensures.reads in
-    (
+    let j = c.in_ok-entity_type.ensures.reads in (
       _,
       variable_done (W s) (related (E s) P) _ h.0 _ _ _ h.1 (typed_reads (E s) P _ d.0 _ _ _ d.1 d.2 j.1 ∙ ap (onto (leaf d.0 (branch Label.name j.0 none))) (in_none (E s) P _ c.in_default-past-2.ensures.token)),
       variable_is c.in_ok-variable.variable c.in_ok-entity_type.entity_type c.variable_node-in-Some-past.result h.0 j.0 d.0 d.2 c.variable_node-in-Some-past.ensures h.2 j.2,

@@ -1,8 +1,7 @@
 use Rattle.std.proofs.Common.{sym, ◌∙◌, arith}
 use Rattle.std.proofs.lemmas.Result.{err_from_is_err_and}
-use Rattle.cedar_grammar.specs.Trees.{Label}
 use Rattle.cedar_grammar.proofs.ReadingLaws.{both_fails}
-use Rattle.cedar_cst.specs.ReadingParts.{ident_reader, text_reader, words_on, words_then}
+use Rattle.cedar_cst.specs.ReadingParts.{ident_reader, words_on, words_then}
 use Rattle.cedar_cst.proofs.Steps.{passes}
 use Rattle.cedar_cst.proofs.Paths.{name_stands}
 use Rattle.cedar_cst.proofs.Entities.{words_first, words_next, words_stuck, text_fails, words_text, words_end}
