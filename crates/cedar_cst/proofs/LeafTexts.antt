@@ -156,7 +156,7 @@ kept f = yield (without_trailing kind f)
 abbrev pub from_to : Span → Span → Span
 from_to s u = record { start = s.start; end = u.end }
 
-end_append : (s : Span) (xs : List Lexeme) (y : Lexeme) (ys : List Lexeme) → end_of (λ (l : Lexeme). l.text.now) (λ (l : Lexeme). l.span) s (xs ++ (y ∷ ys)) ≡ end_of (λ (l : Lexeme). l.text.now) (λ (l : Lexeme). l.span) y.span ys
+pub end_append : (s : Span) (xs : List Lexeme) (y : Lexeme) (ys : List Lexeme) → end_of (λ (l : Lexeme). l.text.now) (λ (l : Lexeme). l.span) s (xs ++ (y ∷ ys)) ≡ end_of (λ (l : Lexeme). l.text.now) (λ (l : Lexeme). l.span) y.span ys
 end_append s [] y ys = refl
 end_append s (x ∷ xs) y ys = end_append x.span xs y ys
 

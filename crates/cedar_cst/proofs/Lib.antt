@@ -10,6 +10,9 @@ pub mod Literals
 pub mod Tails
 pub mod Entities
 pub mod Variables
+pub mod Listed
+pub mod LoneExprs
+pub mod Bracketed
 pub mod Closed
 pub mod Manys
 pub mod Whole

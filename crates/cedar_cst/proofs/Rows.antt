@@ -62,7 +62,7 @@ kept_join (leaf t f) g h =
     moved false = refl
 kept_join (branch l f i) g h = ap (branch l (without_trailing kind f)) (kept_join i g h)
 
-abbrev plain : Forest Label Lexeme → Erased
+abbrev pub plain : Forest Label Lexeme → Erased
 plain f = spanned (λ (l : Lexeme). l.text.now) (λ (l : Lexeme). l.span) f
 
 plain_join : (f g : Forest Label Lexeme) → plain (join f g) ≡ join (plain f) (plain g)
@@ -70,7 +70,7 @@ plain_join none g = refl
 plain_join (leaf t f) g = ap (leaf (token_value t.text.now)) (plain_join f g)
 plain_join (branch l f i) g = ap (branch (l, if is_node l then span_of (λ (l : Lexeme). l.text.now) (λ (l : Lexeme). l.span) (yield f) else None) (plain f)) (plain_join i g)
 
-right_join : (f g : Forest Label Lexeme) → AreRight (join f g) → AreRight f × AreRight g
+pub right_join : (f g : Forest Label Lexeme) → AreRight (join f g) → AreRight f × AreRight g
 right_join none g r = (tt, r)
 right_join (leaf t f) g r = let k = right_join f g r.1 in ((r.0, k.0), k.1)
 right_join (branch l f i) g r = let k = right_join i g r.1 in ((r.0, k.0), k.1)

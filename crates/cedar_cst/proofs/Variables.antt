@@ -34,6 +34,17 @@ relates_none (t ∷ ts) h i j = go (is K.Equal t.kind) (is K.Is t.kind) (is K.In
     go false true c h i j = absurd cc
     go false false c h i j = j
 
+abbrev acts : Kind → Bool
+acts k = is K.Equal k || is K.In k
+
+acts_none : (ts : List Lexeme) → begins kind (is K.Equal) ts ≡ false → begins kind (is K.In) ts ≡ false → begins kind acts ts ≡ false
+acts_none [] h i = refl
+acts_none (t ∷ ts) h i = go (is K.Equal t.kind) (is K.In t.kind) h i
+  where
+    go : (a b : Bool) → a ≡ false → b ≡ false → (a || b) ≡ false
+    go true b h i = absurd cc
+    go false b h i = i
+
 -- E reads an operand, and P a type
 module _ (E P : Reader Lexeme) where
   abbrev pub in_part : Reader Lexeme
@@ -73,6 +84,22 @@ module _ (E P : Reader Lexeme) where
 
   pub in_none : (ts : List Lexeme) → begins kind (is K.In) ts ≡ false → in_part ts ≡ done none ts
   in_none ts h = choice_no _ _ _ ts h
+
+-- E reads the operand behind `==`, and L that behind `in`
+module _ (E L : Reader Lexeme) where
+  abbrev pub acted : Reader Lexeme
+  acted ts = choice (begins kind acts ts) (λ ts. choice (begins kind (is K.Equal) ts) (both (one kind K.Equal) E) (both (one kind K.In) L) ts) skip ts
+
+  pub acted_equal : (ts : List Lexeme) (d : Lexeme) (rest : List Lexeme) → ts ≡ d ∷ rest → d.kind ≡ K.Equal → acted ts ≡ onto (leaf d none) (E rest)
+  acted_equal ts d rest e h = choice_yes _ _ _ ts (first_begins acts ts d rest e ∙ ap acts h) ∙ choice_yes _ _ _ ts (first_begins (is K.Equal) ts d rest e ∙ ap (is K.Equal) h)
+      ∙ both_first (one kind K.Equal) E ts (leaf d none) rest (token_at (is K.Equal) ts d rest e (is_itself K.Equal d.kind (sym h)))
+
+  pub acted_in : (ts : List Lexeme) (d : Lexeme) (rest : List Lexeme) → ts ≡ d ∷ rest → d.kind ≡ K.In → acted ts ≡ onto (leaf d none) (L rest)
+  acted_in ts d rest e h = choice_yes _ _ _ ts (first_begins acts ts d rest e ∙ ap acts h) ∙ choice_no _ _ _ ts (first_begins (is K.Equal) ts d rest e ∙ ap (is K.Equal) h)
+      ∙ both_first (one kind K.In) L ts (leaf d none) rest (token_at (is K.In) ts d rest e (is_itself K.In d.kind (sym h)))
+
+  pub acted_none : (ts : List Lexeme) → begins kind (is K.Equal) ts ≡ false → begins kind (is K.In) ts ≡ false → acted ts ≡ done none ts
+  acted_none ts h i = choice_no _ _ _ ts (acts_none ts h i)
 
 -- W reads the variable's word, and R what it is related to
 module _ (W R : Reader Lexeme) where

@@ -7,3 +7,4 @@ pub mod Laws
 pub mod Reading
 pub mod ReadingSet
 pub mod ReadingParts
+pub mod ReadingItems

@@ -8,10 +8,10 @@ use Rattle.cedar_grammar.specs.declared.kind.Kind.TheVariants as K
 use Rattle.cedar_grammar.specs.Kinds.{is, is_ident, is_boolean, begins}
 use Rattle.cedar_grammar.specs.Trees.{Label, Forest, none, leaf, branch, join}
 use Rattle.cedar_grammar.specs.Reader.Reading.{Reader, done, after, both, tree, token}
-use Rattle.cedar_grammar.specs.Reader.Rules.{Rule, leaf_of, tailed, entity}
+use Rattle.cedar_grammar.specs.Reader.Rules.{Rule, leaf_of, tailed, entity, items}
 use Rattle.cedar_grammar.specs.Reader.Rules as R
 use Rattle.cedar_grammar.specs.Reader.Regroup.{gather}
-use Rattle.cedar_grammar.specs.Reader.Lines.{◌∥◌, one_of, ident_rule}
+use Rattle.cedar_grammar.specs.Reader.Lines.{◌▸◌, ◌∥◌, one_of, ident_rule, maybe, entity_item}
 use Rattle.cedar_cst.specs.declared.cst.lexeme.Lexeme.{Lexeme}
 use Rattle.cedar_cst.specs.declared.cst.reading.Refusal.{Refusal}
 use Rattle.cedar_cst.specs.declared.cst.tree.Node.{Node}
@@ -24,7 +24,9 @@ use Rattle.cedar_cst.specs.declared.cst.tree.RelOp.{RelOp}
 use Rattle.cedar_cst.specs.declared.cst.tree.VariableDef.{VariableDef}
 use Rattle.cedar_cst.specs.declared.cst.tree.Primary as Primary
 use Rattle.cedar_cst.specs.declared.cst.tree.Add as Add
-use Rattle.cedar_cst.specs.Erased.{Erased, node, ident_tree, name_tree, str_tree, primary_parts, slot_text, type_parts, operator_parts}
+use Rattle.cedar_cst.specs.declared.cst.tree.Expr as Expr
+use Rattle.cedar_cst.specs.declared.cst.tree.Or as Or
+use Rattle.cedar_cst.specs.Erased.{Erased, node, ident_tree, name_tree, str_tree, primary_parts, slot_text, type_parts, operator_parts, add_parts, expr_parts, or_parts}
 use Rattle.cedar_cst.specs.Reading.{kind, Fails, Stands, str_parts, name_parts}
 
 abbrev pub is_effect : Kind → Bool
@@ -114,6 +116,9 @@ variable_kind Slot.Resource = K.Resource
 abbrev pub slot_or_entity : Kind → Rule
 slot_or_entity k = R.node Label.primary (R.node Label.slot (one_of k)) ∥ entity
 
+abbrev pub entity_list : Rule
+entity_list = R.node Label.primary (R.node Label.list (one_of K.LBracket ▸ maybe (items entity_item) ▸ one_of K.RBracket))
+
 -- Variables of a scope.
 abbrev pub variable_parts : VariableDef → Erased
 variable_parts v = ident_tree v.variable (type_parts v.entity_type (operator_parts v.ineq))
@@ -126,3 +131,15 @@ variable_end v None None = v.span.end
 
 abbrev pub IsVariableOf : Node Ident → Option (Node Name) → Option (RelOp × Node Add.Add) → Node VariableDef → Type 0
 IsVariableOf v type operator n = (variable_parts n.inner ≡ ident_tree v (type_parts type (operator_parts operator))) × (n.span ≡ record { start = v.span.start; end = variable_end v type operator })
+
+-- an operand without any operator
+abbrev pub IsLoneOrOf : Node Add.Add → Node Or.Or → Type 0
+IsLoneOrOf a n = (or_parts n.inner ≡ node Label.and a.span (node Label.relation a.span (node Label.add a.span (add_parts a.inner) none) none) none) × (n.span ≡ a.span)
+
+abbrev pub IsOrExprOf : Node Or.Or → Node Expr.Expr → Type 0
+IsOrExprOf o n = (expr_parts n.inner ≡ node Label.or o.span (or_parts o.inner) none) × (n.span ≡ o.span)
+
+-- after a success what was made is as P says of what was read
+abbrev pub Makes : {X Y : Type 0} → (X → Y → Type 0) → Result (X × Bor (List Lexeme)) Refusal → Result (Y × Bor (List Lexeme)) Refusal → Type 0
+Makes P (Ok x) (Ok y) = P x.0 y.0
+Makes P _ _ = Unit {0}

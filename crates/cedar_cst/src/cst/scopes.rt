@@ -2,21 +2,23 @@
 ghost use Rattle.std.specs.Prelude.{◌≡◌, ◌<◌, ◌≤◌, length, IfOk};
 ghost use Rattle.cedar_grammar.specs.Trees.{Label};
 ghost use Rattle.cedar_grammar.specs.Kinds.{is};
-ghost use Rattle.cedar_grammar.specs.Reader.Rules.{star, entity, word_of};
-ghost use Rattle.cedar_grammar.specs.Reader.Lines.{annotation_rule, operand, entity_or, scoped};
-ghost use Rattle.cedar_cst.specs.Erased.{add_parts};
-ghost use Rattle.cedar_cst.specs.ReadingParts.{slot_kind, variable_kind, variable_parts, IsVariableOf};
+ghost use Rattle.cedar_grammar.specs.declared.kind.Kind.TheVariants as K;
+ghost use Rattle.cedar_grammar.specs.Reader.Rules.{star, entity, items, word_of};
+ghost use Rattle.cedar_grammar.specs.Reader.Lines.{◌∥◌, annotation_rule, operand, entity_or, scoped, maybe, entity_item, action};
+ghost use Rattle.cedar_cst.specs.Erased.{add_parts, expr_parts, primary_parts};
+ghost use Rattle.cedar_cst.specs.ReadingParts.{slot_kind, variable_kind, variable_parts, IsVariableOf, IsLoneOrOf, entity_list};
+ghost use Rattle.cedar_cst.specs.ReadingItems.{GivesItems};
 ghost use Rattle.cedar_cst.specs.Reading.{flat, GivesNode, GivesMany, annotation_parts, ident_parts};
 
 use crate::cst::expressions::parse_expr;
 use crate::cst::lexeme::Lexeme;
-use crate::cst::nodes::{and_node, lone_relation, or_expr, or_node};
+use crate::cst::nodes::{list_node, or_expr};
 use crate::cst::reading::{
     Parsed, Refusal, begins, closed_by, expect, keep, past, refuse, skip, start_of,
 };
 use crate::cst::tree::{
-    Add, Annotation, Cond, Expr, Ident, Name, Node, Policies, Policy, Primary, RelOp, Slot,
-    VariableDef,
+    Add, And, Annotation, Cond, Expr, Ident, Name, Node, Or, Policies, Policy, Primary, RelOp,
+    Relation, Slot, VariableDef,
 };
 use crate::cst::words::{
     begins_identifier, ident_node, lone_operand, parse_any_word, parse_cond_word, parse_effect,
@@ -172,6 +174,15 @@ fn parse_variable_word<'t, 'src>(
     Ok((ident_node(word), rest))
 }
 
+// `action`.
+fn parse_action_word<'t, 'src>(tokens: &'t [Lexeme<'src>]) -> Parsed<'t, 'src, Node<Ident<'src>>>
+    ensures shorter { IfOk result (λ x. length x.1.now < length tokens.now) }
+    ensures reads { GivesNode Label.ident ident_parts result (flat (word_of (is K.Action)) tokens.now) }
+{
+    let (word, rest) = expect(tokens, Kind::Action)?;
+    Ok((ident_node(word), rest))
+}
+
 // A slot or an entity as an operand.
 fn parse_slot_operand<'t, 'src>(
     alloc: Global,
@@ -254,15 +265,102 @@ fn parse_variable<'t, 'src>(
     Ok((variable_node(variable, None, None), rest))
 }
 
+// An operand without any operator.
+fn lone_or<'src>(alloc: Global, operand: Node<Add<'src>>) -> Node<Or<'src>>
+    ensures { IsLoneOrOf operand.entry result }
+{
+    let span = operand.span;
+    let relation = Node {
+        inner: Relation::Common {
+            initial: operand,
+            extended: None,
+        },
+        span,
+    };
+    let and = Node {
+        inner: And {
+            initial: relation,
+            extended: Vec::new(alloc),
+        },
+        span,
+    };
+    Node {
+        inner: Or {
+            initial: and,
+            extended: Vec::new(alloc),
+        },
+        span,
+    }
+}
+
+// An entity as an expression.
+fn parse_entity_expr<'t, 'src>(
+    alloc: Global,
+    tokens: &'t [Lexeme<'src>],
+) -> Parsed<'t, 'src, Node<Expr<'src>>>
+    ensures shorter { IfOk result (λ x. length x.1.now < length tokens.now) }
+    ensures reads { GivesNode Label.expr expr_parts result (flat entity_item tokens.now) }
+{
+    let (entity, rest) = parse_entity_operand(alloc, tokens)?;
+    or_expr(alloc, Ok((lone_or(alloc, entity), rest)))
+}
+
+// Entities with commas between them, and perhaps one behind the last; or none.
+fn parse_entities<'t, 'src>(
+    alloc: Global,
+    tokens: &'t [Lexeme<'src>],
+) -> Parsed<'t, 'src, Vec<Node<Expr<'src>>>>
+    ensures shorter { IfOk result (λ x. length x.1.now ≤ length tokens.now) }
+    ensures reads { GivesItems Label.expr expr_parts result (flat (maybe (items entity_item)) tokens.now) }
+{
+    let mut items = Vec::new(alloc);
+    let mut rest = tokens;
+    'items: while begins_identifier(rest) {
+        keep(parse_entity_expr(alloc, rest), &mut items, &mut rest)?;
+        if !skip(&mut rest, Kind::Comma) {
+            return Ok((items, rest));
+        }
+    }
+    Ok((items, rest))
+}
+
+// Entities in square brackets.
+fn parse_entity_list<'t, 'src>(
+    alloc: Global,
+    tokens: &'t [Lexeme<'src>],
+) -> Parsed<'t, 'src, Node<Primary<'src>>>
+    ensures shorter { IfOk result (λ x. length x.1.now < length tokens.now) }
+    ensures reads { GivesNode Label.primary primary_parts result (flat entity_list tokens.now) }
+{
+    let (open, rest) = expect(tokens, Kind::LBracket)?;
+    let read = closed_by(parse_entities(alloc, rest), Kind::RBracket);
+    list_node(open.span.start, read)
+}
+
+// An entity, or entities in square brackets, as an operand.
+fn parse_entities_operand<'t, 'src>(
+    alloc: Global,
+    tokens: &'t [Lexeme<'src>],
+) -> Parsed<'t, 'src, Node<Add<'src>>>
+    ensures shorter { IfOk result (λ x. length x.1.now < length tokens.now) }
+    ensures reads { GivesNode Label.add add_parts result (flat (operand entity_list ∥ operand entity) tokens.now) }
+{
+    if begins(tokens, Kind::LBracket) {
+        let (entities, rest) = parse_entity_list(alloc, tokens)?;
+        return Ok((lone_operand(alloc, entities), rest));
+    }
+    parse_entity_operand(alloc, tokens)
+}
+
 // `action`, and perhaps an entity or a list of entities.
 fn parse_action<'t, 'src>(
     alloc: Global,
     tokens: &'t [Lexeme<'src>],
 ) -> Parsed<'t, 'src, Node<VariableDef<'src>>>
-    ensures { IfOk result (λ x. length x.1.now < length tokens.now) }
+    ensures shorter { IfOk result (λ x. length x.1.now < length tokens.now) }
+    ensures reads { GivesNode Label.variable variable_parts result (flat action tokens.now) }
 {
-    let (word, rest) = expect(tokens, Kind::Action)?;
-    let variable = ident_node(word);
+    let (variable, rest) = parse_action_word(tokens)?;
     if let Some(after) = past(rest, Kind::Equal) {
         let (entity, rest) = parse_entity_operand(alloc, after)?;
         let entity = Some((RelOp::Eq, entity));
@@ -274,59 +372,6 @@ fn parse_action<'t, 'src>(
         return Ok((variable_node(variable, None, entities), rest));
     }
     Ok((variable_node(variable, None, None), rest))
-}
-
-// An entity, or entities in square brackets, as an operand.
-fn parse_entities_operand<'t, 'src>(
-    alloc: Global,
-    tokens: &'t [Lexeme<'src>],
-) -> Parsed<'t, 'src, Node<Add<'src>>>
-    ensures { IfOk result (λ x. length x.1.now < length tokens.now) }
-{
-    match past(tokens, Kind::LBracket) {
-        Some(after) => {
-            let ((items, end), rest) = closed_by(parse_entities(alloc, after), Kind::RBracket)?;
-            let span = Span {
-                start: start_of(tokens),
-                end,
-            };
-            let inner = Primary::EList(items);
-            Ok((lone_operand(alloc, Node { inner, span }), rest))
-        }
-        None => parse_entity_operand(alloc, tokens),
-    }
-}
-
-// Entities with commas between them, and perhaps one behind the last; or none.
-fn parse_entities<'t, 'src>(
-    alloc: Global,
-    tokens: &'t [Lexeme<'src>],
-) -> Parsed<'t, 'src, Vec<Node<Expr<'src>>>>
-    ensures { IfOk result (λ x. length x.1.now ≤ length tokens.now) }
-{
-    let mut items = Vec::new(alloc);
-    let mut rest = tokens;
-    'items: while begins_identifier(rest) {
-        keep(parse_entity_expr(alloc, rest), &mut items, &mut rest)?;
-        if !skip(&mut rest, Kind::Comma) {
-            break;
-        }
-    }
-    Ok((items, rest))
-}
-
-// An entity as an expression without any operator.
-fn parse_entity_expr<'t, 'src>(
-    alloc: Global,
-    tokens: &'t [Lexeme<'src>],
-) -> Parsed<'t, 'src, Node<Expr<'src>>>
-    ensures { IfOk result (λ x. length x.1.now < length tokens.now) }
-{
-    let (entity, rest) = parse_entity_operand(alloc, tokens)?;
-    let relation = lone_relation(entity);
-    let and = and_node(relation, Vec::new(alloc));
-    let or = or_node(and, Vec::new(alloc));
-    or_expr(alloc, Ok((or, rest)))
 }
 
 // Conditions, or none.
