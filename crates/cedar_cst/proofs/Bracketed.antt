@@ -14,8 +14,8 @@ use Rattle.cedar_grammar.specs.Reader.Reading.{Reader, done, stuck, both, tree, 
 use Rattle.cedar_grammar.proofs.ReadingLaws.{both_done, both_fails, both_then_fails, tree_done, tree_fails}
 use Rattle.cedar_cst.specs.Erased.{Erased, expr_parts, primary_parts}
 use Rattle.cedar_cst.specs.Lexemes.{nodes_of}
-use Rattle.cedar_cst.specs.NodeTrees.{is_node, span_of, end_of}
-use Rattle.cedar_cst.specs.Reading.{kind, Fails, Stands, PassesOn, ClosesWith, GivesNode}
+use Rattle.cedar_cst.specs.NodeTrees.{is_node, span_of}
+use Rattle.cedar_cst.specs.Reading.{kind, Stands, PassesOn, ClosesWith, GivesNode}
 use Rattle.cedar_cst.specs.ReadingItems.{item_trees, StandsItems, GivesItems, IsListOf}
 use Rattle.cedar_cst.specs.ReadingParts.{Makes}
 use Rattle.cedar_cst.specs.declared.cst.lexeme.Lexeme.{Lexeme}
@@ -23,7 +23,7 @@ use Rattle.cedar_cst.specs.declared.cst.reading.Refusal.{Refusal}
 use Rattle.cedar_cst.specs.declared.cst.tree.Node.{Node}
 use Rattle.cedar_cst.specs.declared.cst.tree.Expr as Expr
 use Rattle.cedar_cst.specs.declared.cst.tree.Primary as Primary
-use Rattle.cedar_cst.proofs.LeafTexts.{shown, Covers, kept, from_to, nodes_fixed, covers_node, kept_leaf, end_append}
+use Rattle.cedar_cst.proofs.LeafTexts.{shown, kept, from_to, nodes_fixed, covers_node, kept_leaf, end_append}
 use Rattle.cedar_cst.proofs.Rows.{right_join, row_span, row_parts}
 use Rattle.cedar_cst.proofs.Steps.{passes}
 

@@ -5,7 +5,7 @@ use Rattle.cedar_grammar.specs.declared.kind.Kind.{Kind}
 use Rattle.cedar_grammar.specs.declared.kind.Kind.TheVariants as K
 use Rattle.cedar_grammar.specs.Kinds.{is, is_closing, begins}
 use Rattle.cedar_grammar.specs.Trees.{Label, Forest, none, leaf, branch, join}
-use Rattle.cedar_grammar.specs.TrailingCommas.{without_trailing, drop_if, closes_next}
+use Rattle.cedar_grammar.specs.TrailingCommas.{without_trailing, drop_if}
 use Rattle.cedar_grammar.specs.Reader.Reading.{Answer, Reader, done, stuck, choice, both, skip}
 use Rattle.cedar_grammar.specs.Reader.Rules.{tailed}
 use Rattle.cedar_grammar.proofs.ReadingLaws.{Takes, choice_yes, choice_no, both_first, both_fails, onto, onto_onto, join_none, join_assoc}
