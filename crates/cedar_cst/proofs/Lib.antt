@@ -13,6 +13,7 @@ pub mod Variables
 pub mod Listed
 pub mod LoneExprs
 pub mod Bracketed
+pub mod Scopes
 pub mod Closed
 pub mod Manys
 pub mod Whole

@@ -55,6 +55,9 @@ module _ {X : Type 0} (l : Label) (parts : X → Erased) where
     pub closed : StandsItems (item_trees l parts items) row
     pub further : (f g : Forest Label Lexeme) → AreRight row → nodes_of (join row (branch l f g)) ≡ join (with_commas items) (nodes_of (branch l f g))
 
+  pub no_items : StandsOpen [] none
+  no_items = record { closed = λ t c r. refl; further = λ f g r. refl }
+
   -- one more item, and what follows it
   item_next : is_node l ≡ true → (items : List (Node X)) (row f h : Forest Label Lexeme) (n : Node X) → StandsOpen items row → Stands n.span (parts n.inner) f → AreRight row → AreRight f
       → nodes_of (join row (branch l f h)) ≡ join (with_commas items) (node l n.span (parts n.inner) (nodes_of h))
@@ -109,7 +112,7 @@ module _ {X : Type 0} (l : Label) (parts : X → Erased) where
     onto_none (stuck b r) = refl
 
     pub items_first : (ts : List Lexeme) (items : List (Node X)) → items ≡ [] → ItemsRead ts items ts
-    items_first ts items e = rw e (record { row = none; read = onto_none (list_reader ts); stands = record { closed = λ t c r. refl; further = λ f g r. refl } })
+    items_first ts items e = rw e (record { row = none; read = onto_none (list_reader ts); stands = no_items })
 
     pub items_next : is_node l ≡ true → Takes P → (ts rest s s' : List Lexeme) (items more : List (Node X)) (n : Node X) (f : Forest Label Lexeme) (d : Lexeme) → ItemsRead ts items rest → begins kind u rest ≡ true → P rest ≡ done (branch l f none) s
         → Stands n.span (parts n.inner) f → s ≡ d ∷ s' → d.kind ≡ K.Comma → more ≡ items ++ n ∷ [] → ItemsRead ts more s'

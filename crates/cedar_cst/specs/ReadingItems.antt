@@ -12,7 +12,10 @@ use Rattle.cedar_cst.specs.declared.cst.tree.Expr as Expr
 use Rattle.cedar_cst.specs.declared.cst.tree.Primary as Primary
 use Rattle.cedar_cst.specs.Erased.{Erased, node, variant, expr_parts, primary_parts}
 use Rattle.cedar_cst.specs.Lexemes.{nodes_of}
-use Rattle.cedar_cst.specs.Reading.{AreRight, Fails}
+use Rattle.cedar_cst.specs.Reading.{AreRight, Fails, Stands}
+use Rattle.cedar_cst.specs.ReadingParts.{variable_parts}
+use Rattle.cedar_cst.specs.declared.cst.tree.VariableDef.{VariableDef}
+use Rattle.cedar_tokens.specs.declared.token.Span.{Span}
 
 abbrev pub more_trees : {X : Type 0} → Label → (X → Erased) → List (Node X) → Erased
 more_trees l parts [] = none
@@ -36,3 +39,9 @@ GivesItems l parts (Err e) a = Fails e a
 abbrev pub IsListOf : ℕ → Vec (Node Expr.Expr) Global × ℕ → Node Primary.Primary → Type 0
 IsListOf start x n =
     (primary_parts n.inner ≡ variant Label.list (leaf (codes "[") (join (item_trees Label.expr expr_parts x.0.items) (leaf (codes "]") none))) none) × (n.span ≡ record { start = start; end = x.1 })
+
+-- the reader gives a scope, and the three variables that were read stand for it; or the refusal is the reader's
+abbrev pub GivesScope : Result ((Node VariableDef × Node VariableDef × Node VariableDef) × Bor (List Lexeme)) Refusal → Answer Lexeme → Type 0
+GivesScope (Ok x) a = (f : Forest Label Lexeme) × (s : Span) × (a ≡ done f x.1.now)
+    × Stands s (leaf (codes "(") (join (item_trees Label.variable variable_parts (x.0.0 ∷ x.0.1 ∷ x.0.2 ∷ [])) (leaf (codes ")") none))) f
+GivesScope (Err e) a = Fails e a

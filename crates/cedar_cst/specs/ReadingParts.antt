@@ -11,7 +11,7 @@ use Rattle.cedar_grammar.specs.Reader.Reading.{Reader, done, after, both, tree, 
 use Rattle.cedar_grammar.specs.Reader.Rules.{Rule, leaf_of, tailed, entity, items}
 use Rattle.cedar_grammar.specs.Reader.Rules as R
 use Rattle.cedar_grammar.specs.Reader.Regroup.{gather}
-use Rattle.cedar_grammar.specs.Reader.Lines.{◌▸◌, ◌∥◌, one_of, ident_rule, maybe, entity_item}
+use Rattle.cedar_grammar.specs.Reader.Lines.{◌▸◌, ◌∥◌, one_of, ident_rule, maybe, entity_item, scoped, action}
 use Rattle.cedar_cst.specs.declared.cst.lexeme.Lexeme.{Lexeme}
 use Rattle.cedar_cst.specs.declared.cst.reading.Refusal.{Refusal}
 use Rattle.cedar_cst.specs.declared.cst.tree.Node.{Node}
@@ -122,6 +122,10 @@ entity_list = R.node Label.primary (R.node Label.list (one_of K.LBracket ▸ may
 -- Variables of a scope.
 abbrev pub variable_parts : VariableDef → Erased
 variable_parts v = ident_tree v.variable (type_parts v.entity_type (operator_parts v.ineq))
+
+-- the three variables in brackets
+abbrev pub scope_rule : Rule
+scope_rule = one_of K.LParen ▸ scoped K.Principal K.PrincipalSlot ▸ one_of K.Comma ▸ action ▸ one_of K.Comma ▸ scoped K.Resource K.ResourceSlot ▸ maybe (one_of K.Comma) ▸ one_of K.RParen
 
 -- where the last part ends
 abbrev pub variable_end : Node Ident → Option (Node Name) → Option (RelOp × Node Add.Add) → ℕ

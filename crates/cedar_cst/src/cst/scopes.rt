@@ -6,8 +6,8 @@ ghost use Rattle.cedar_grammar.specs.declared.kind.Kind.TheVariants as K;
 ghost use Rattle.cedar_grammar.specs.Reader.Rules.{star, entity, items, word_of};
 ghost use Rattle.cedar_grammar.specs.Reader.Lines.{◌∥◌, annotation_rule, operand, entity_or, scoped, maybe, entity_item, action};
 ghost use Rattle.cedar_cst.specs.Erased.{add_parts, expr_parts, primary_parts};
-ghost use Rattle.cedar_cst.specs.ReadingParts.{slot_kind, variable_kind, variable_parts, IsVariableOf, IsLoneOrOf, entity_list};
-ghost use Rattle.cedar_cst.specs.ReadingItems.{GivesItems};
+ghost use Rattle.cedar_cst.specs.ReadingParts.{slot_kind, variable_kind, variable_parts, IsVariableOf, IsLoneOrOf, entity_list, scope_rule};
+ghost use Rattle.cedar_cst.specs.ReadingItems.{GivesItems, GivesScope};
 ghost use Rattle.cedar_cst.specs.Reading.{flat, GivesNode, GivesMany, annotation_parts, ident_parts};
 
 use crate::cst::expressions::parse_expr;
@@ -125,31 +125,6 @@ fn parse_annotation<'t, 'src>(
             ))
         }
     }
-}
-
-// The three variables in brackets, and perhaps a comma behind the last.
-fn parse_scope<'t, 'src>(
-    alloc: Global,
-    tokens: &'t [Lexeme<'src>],
-) -> Parsed<
-    't,
-    'src,
-    (
-        Node<VariableDef<'src>>,
-        Node<VariableDef<'src>>,
-        Node<VariableDef<'src>>,
-    ),
->
-    ensures { IfOk result (λ x. length x.1.now < length tokens.now) }
-{
-    let (_, rest) = expect(tokens, Kind::LParen)?;
-    let principal = parse_variable(alloc, rest, Slot::Principal);
-    let ((principal, _), rest) = closed_by(principal, Kind::Comma)?;
-    let ((action, _), rest) = closed_by(parse_action(alloc, rest), Kind::Comma)?;
-    let (resource, mut rest) = parse_variable(alloc, rest, Slot::Resource)?;
-    skip(&mut rest, Kind::Comma);
-    let (_, rest) = expect(rest, Kind::RParen)?;
-    Ok(((principal, action, resource), rest))
 }
 
 // The word of a variable.
@@ -372,6 +347,32 @@ fn parse_action<'t, 'src>(
         return Ok((variable_node(variable, None, entities), rest));
     }
     Ok((variable_node(variable, None, None), rest))
+}
+
+// The three variables in brackets, and perhaps a comma behind the last.
+fn parse_scope<'t, 'src>(
+    alloc: Global,
+    tokens: &'t [Lexeme<'src>],
+) -> Parsed<
+    't,
+    'src,
+    (
+        Node<VariableDef<'src>>,
+        Node<VariableDef<'src>>,
+        Node<VariableDef<'src>>,
+    ),
+>
+    ensures shorter { IfOk result (λ x. length x.1.now < length tokens.now) }
+    ensures reads { GivesScope result (flat scope_rule tokens.now) }
+{
+    let (_, rest) = expect(tokens, Kind::LParen)?;
+    let principal = parse_variable(alloc, rest, Slot::Principal);
+    let ((principal, _), rest) = closed_by(principal, Kind::Comma)?;
+    let ((action, _), rest) = closed_by(parse_action(alloc, rest), Kind::Comma)?;
+    let (resource, mut rest) = parse_variable(alloc, rest, Slot::Resource)?;
+    skip(&mut rest, Kind::Comma);
+    let (_, rest) = expect(rest, Kind::RParen)?;
+    Ok(((principal, action, resource), rest))
 }
 
 // Conditions, or none.
