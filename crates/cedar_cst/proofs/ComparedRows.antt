@@ -1,11 +1,10 @@
 -- Equality of nodes that stand in lists, over the lists and over their rows.
-use Rattle.std.specs.Prelude.{◌≡◌, ◌↔◌, List, [], ◌∷◌, ⊤}
-use Rattle.std.proofs.Common.{refl, sym, subst, Vec, Global}
+use Rattle.std.specs.Prelude.{◌≡◌, ◌↔◌}
+use Rattle.std.proofs.Common.{refl, sym}
 use Rattle.std.specs.List.{AllZip}
 use mathlib.Core.Former.{Count}
 use Rattle.cedar_cst.proofs.Comparing.{moved}
 use Rattle.cedar_cst.specs.Same.{SameExpr, SameOr, SameAnd, SameAnds, SameRelation, SameRelations, SameAdd, SameMult, SameMults, SameUnary, SameUnaries, SameMember, SameAccess, SameAccesses, SameExprs, SamePrimary, SameInit, SameInits}
-use Rattle.cedar_cst.specs.declared.cst.tree.Expr as Expr
 use Rattle.cedar_cst.specs.declared.cst.tree.Or as Or
 use Rattle.cedar_cst.specs.declared.cst.tree.And as And
 use Rattle.cedar_cst.specs.declared.cst.tree.Add as Add

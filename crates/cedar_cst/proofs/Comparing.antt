@@ -1,7 +1,7 @@
 -- Comparing two lists from their front on.
-use Rattle.std.specs.Prelude.{◌≡◌, ◌↔◌, ◌⊎◌, List, [], ◌∷◌, length, ⊤}
+use Rattle.std.specs.Prelude.{◌≡◌, ◌↔◌, ◌⊎◌, List, [], ◌∷◌, length}
 use Rattle.std.specs.List.{AllZip}
-use Rattle.std.proofs.Common.{refl, sym, ap, ◌∙◌, inl, inr, arith, subst}
+use Rattle.std.proofs.Common.{sym, inl, inr, arith, subst}
 
 -- the lists us, vs are alike exactly if xs and ys are, which are left of them
 pub record Left {A B : Type 0} (R : A → B → Type 0) (us : List A) (vs : List B) (xs : List A) (ys : List B) : Type 0 where

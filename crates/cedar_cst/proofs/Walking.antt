@@ -13,7 +13,7 @@ use Rattle.std.proofs.lemmas.List.Elements.{filter-append}
 use Rattle.std.specs.Prelude.{map, if◌then◌else◌}
 use Rattle.std.proofs.lemmas.List.Sums.{sum_by-append}
 use Rattle.std.proofs.lemmas.List.Folds.{list_any-append}
-use Rattle.cedar_tokens.specs.Units.{FindsLongest, IsUnit, IsFirstUnit, BeginsNoUnit, is_number}
+use Rattle.cedar_tokens.specs.Units.{FindsLongest, IsUnit, BeginsNoUnit, is_number}
 use Rattle.cedar_tokens.specs.Split.{Scans, IsFirstFault}
 use Rattle.cedar_tokens.specs.Units.{IsToken, is_token}
 use Rattle.cedar_tokens.specs.Split.{HasKind}

@@ -5,3 +5,7 @@ pub mod NodeTrees
 pub mod Lexemes
 pub mod Laws
 pub mod Reading
+pub mod ReadingSet
+pub mod ReadingParts
+pub mod ReadingItems
+pub mod ReadingExprs

@@ -1,7 +1,8 @@
 //! Trees of policies, and the parser.
-ghost use Rattle.std.specs.Prelude.{MatchResult};
+ghost use Rattle.std.specs.Prelude.{◌≡◌, MatchResult};
 ghost use Rattle.cedar_grammar.specs.Numbers.{HasFittingNumbers};
 ghost use Rattle.cedar_cst.specs.Refusals.{RefusesInOrder};
+ghost use Rattle.cedar_cst.specs.Reading.{place_of};
 
 mod compare;
 mod error;
@@ -46,7 +47,9 @@ pub fn parse_policies<'src>(alloc: Global, text: &'src str) -> Result<Policies<'
 }
 
 // Where the token starts from which on so many are left; the text's length where none is left.
-fn place(text: &str, lexemes: &[Lexeme], left: usize) -> usize {
+fn place(text: &str, lexemes: &[Lexeme], left: usize) -> usize
+    ensures { result ≡ place_of text.now lexemes.now left }
+{
     match lexemes.get(lexemes.len().saturating_sub(left)) {
         Some(lexeme) => lexeme.span.start,
         None => text.len(),

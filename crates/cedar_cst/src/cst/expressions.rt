@@ -16,9 +16,9 @@ use crate::cst::tree::{
 };
 use crate::cst::words::{
     begins_access, begins_bracket, begins_comparison, begins_expression, begins_identifier,
-    begins_key, begins_variable, is_lone_word, is_name, parse_comparison_sign,
-    parse_entity_or_name, parse_field, parse_has_field, parse_index, parse_key, parse_literal,
-    parse_path, parse_pattern, past_sum_sign, read_signs,
+    begins_key, begins_variable, entity_node, name_primary, parse_comparison_sign, parse_field,
+    parse_has_field, parse_index, parse_key, parse_literal, parse_path, parse_pattern, parse_words,
+    past_sum_sign, read_signs,
 };
 use cedar_grammar::kind::Kind;
 use std::alloc::Global;
@@ -287,16 +287,18 @@ fn parse_reference<'t, 'src>(
 ) -> Parsed<'t, 'src, (Node<Primary<'src>>, Vec<Node<MemAccess<'src>>>)>
     ensures { IfOk result (λ x. length x.1.now < length tokens.now) }
 {
-    let (primary, rest) = parse_entity_or_name(alloc, tokens)?;
-    if is_name(&primary.inner) {
-        if begins(rest, Kind::LParen) {
-            return called_primary(alloc, primary, parse_call(alloc, rest, depth));
-        }
-        if !(begins_variable(tokens) && is_lone_word(&primary.inner)) {
-            return Err(refuse(rest));
-        }
+    let ((name, eid), rest) = parse_words(alloc, tokens)?;
+    if let Some(eid) = eid {
+        return Ok(((entity_node(name, eid), Vec::new(alloc)), rest));
     }
-    Ok(((primary, Vec::new(alloc)), rest))
+    if begins(rest, Kind::LParen) {
+        let primary = name_primary(name);
+        return called_primary(alloc, primary, parse_call(alloc, rest, depth));
+    }
+    if begins_variable(tokens) && name.inner.path.is_empty() {
+        return Ok(((name_primary(name), Vec::new(alloc)), rest));
+    }
+    Err(refuse(rest))
 }
 
 // The arguments of a call, in brackets.

@@ -1,5 +1,7 @@
 //! Nodes made of their parts. Where a part was read just now, its refusal is passed on.
 ghost use Rattle.cedar_cst.specs.Reading.{PassesOn};
+ghost use Rattle.cedar_cst.specs.ReadingParts.{Makes, IsOrExprOf};
+ghost use Rattle.cedar_cst.specs.ReadingItems.{IsListOf};
 
 use crate::cst::reading::Parsed;
 use crate::cst::tree::{
@@ -14,7 +16,8 @@ pub fn or_expr<'t, 'src>(
     alloc: Global,
     read: Parsed<'t, 'src, Node<Or<'src>>>,
 ) -> Parsed<'t, 'src, Node<Expr<'src>>>
-    ensures { PassesOn read.entry result }
+    ensures passes { PassesOn read.entry result }
+    ensures made { Makes IsOrExprOf read.entry result }
 {
     match read {
         Ok((or, rest)) => {
@@ -356,24 +359,26 @@ pub fn parens_node<'t, 'src>(
     }
 }
 
+// A list of these items.
+fn list_primary<'src>(start: usize, items: Vec<Node<Expr<'src>>>, end: usize) -> Node<Primary<'src>>
+    ensures { IsListOf start (items.entry, end) result }
+{
+    Node {
+        inner: Primary::EList(items),
+        span: Span { start, end },
+    }
+}
+
 /// A list from `start` on, with the closing bracket's end.
 pub fn list_node<'t, 'src>(
     start: usize,
     read: Parsed<'t, 'src, (Vec<Node<Expr<'src>>>, usize)>,
 ) -> Parsed<'t, 'src, Node<Primary<'src>>>
-    ensures { PassesOn read.entry result }
+    ensures passes { PassesOn read.entry result }
+    ensures made { Makes (IsListOf start) read.entry result }
 {
     match read {
-        Ok(((parts, end), rest)) => {
-            let inner = Primary::EList(parts);
-            Ok((
-                Node {
-                    inner,
-                    span: Span { start, end },
-                },
-                rest,
-            ))
-        }
+        Ok(((parts, end), rest)) => Ok((list_primary(start, parts, end), rest)),
         Err(refusal) => Err(refusal),
     }
 }

@@ -1,6 +1,9 @@
 //! Steps over tokens that every parse function shares.
-ghost use Rattle.std.specs.Prelude.{◌≡◌, ◌<◌, ◌≤◌, length, IfOk, IfSome};
-ghost use Rattle.cedar_cst.specs.Reading.{Keeps, Closes, Boxes};
+ghost use Rattle.std.specs.Prelude.{◌≡◌, ◌<◌, ◌≤◌, false, length, IfOk, IfSome};
+ghost use Rattle.cedar_grammar.specs.Kinds.{is, begins};
+ghost use Rattle.cedar_grammar.specs.Reader.Reading.{one};
+ghost use Rattle.cedar_cst.specs.Reading.{Keeps, Closes, Boxes, kind, GivesToken, GoesPast, Fails, ClosesWith, first_place, Skips};
+ghost use Rattle.cedar_grammar.specs.Reader.Reading.{stuck};
 ghost use Rattle.cedar_cst.specs.declared.cst.reading.Refusal.TheVariants.{OutOfMemory};
 
 use crate::cst::lexeme::Lexeme;
@@ -27,7 +30,9 @@ impl<T: Drop> From<AllocFailed<T>> for Refusal {
 pub type Parsed<'t, 'src, T> = Result<(T, &'t [Lexeme<'src>]), Refusal>;
 
 /// The refusal at the first of these tokens.
-pub fn refuse(tokens: &[Lexeme]) -> Refusal {
+pub fn refuse(tokens: &[Lexeme]) -> Refusal
+    ensures { Fails result (stuck false tokens.now) }
+{
     Refusal::Grammar { left: tokens.len() }
 }
 
@@ -37,20 +42,23 @@ pub fn too_deep(tokens: &[Lexeme]) -> Refusal {
 }
 
 /// Whether the first token is of this kind.
-pub fn begins(tokens: &[Lexeme], wanted: Kind) -> bool {
+pub fn begins(tokens: &[Lexeme], wanted: Kind) -> bool
+    ensures { result ≡ begins kind (is wanted) tokens.now }
+{
     match tokens.split_first() {
-        Some((first, _)) => first.kind == wanted,
+        Some((first, _)) => wanted == first.kind,
         None => false,
     }
 }
 
 /// The tokens after the first, where that is of this kind.
 pub fn past<'t, 'src>(tokens: &'t [Lexeme<'src>], wanted: Kind) -> Option<&'t [Lexeme<'src>]>
-    ensures { IfSome result (λ rest. length rest.now < length tokens.now) }
+    ensures shorter { IfSome result (λ rest. length rest.now < length tokens.now) }
+    ensures token { GoesPast wanted tokens.now result }
 {
     match tokens.split_first() {
         Some((first, rest)) => {
-            if first.kind == wanted {
+            if wanted == first.kind {
                 Some(rest)
             } else {
                 None
@@ -62,7 +70,8 @@ pub fn past<'t, 'src>(tokens: &'t [Lexeme<'src>], wanted: Kind) -> Option<&'t [L
 
 /// Goes past a token of this kind, where one stands first, and says whether it did.
 pub fn skip<'t, 'src>(rest: &mut &'t [Lexeme<'src>], wanted: Kind) -> bool
-    ensures { length rest.new.now ≤ length rest.old.now }
+    ensures shorter { length rest.new.now ≤ length rest.old.now }
+    ensures token { Skips wanted rest.old.now rest.new.now result }
 {
     let tokens = *rest;
     *rest = past(tokens, wanted).unwrap_or(tokens);
@@ -71,11 +80,12 @@ pub fn skip<'t, 'src>(rest: &mut &'t [Lexeme<'src>], wanted: Kind) -> bool
 
 /// The token of this kind, and the tokens after it.
 pub fn expect<'t, 'src>(tokens: &'t [Lexeme<'src>], wanted: Kind) -> Parsed<'t, 'src, Lexeme<'src>>
-    ensures { IfOk result (λ x. length x.1.now < length tokens.now) }
+    ensures shorter { IfOk result (λ x. length x.1.now < length tokens.now) }
+    ensures reads { GivesToken wanted result (one kind wanted tokens.now) }
 {
     match tokens.split_first() {
         Some((first, rest)) => {
-            if first.kind == wanted {
+            if wanted == first.kind {
                 Ok((*first, rest))
             } else {
                 Err(refuse(tokens))
@@ -86,7 +96,9 @@ pub fn expect<'t, 'src>(tokens: &'t [Lexeme<'src>], wanted: Kind) -> Parsed<'t, 
 }
 
 /// Where the first token starts.
-pub fn start_of(tokens: &[Lexeme]) -> usize {
+pub fn start_of(tokens: &[Lexeme]) -> usize
+    ensures { result ≡ first_place tokens.now }
+{
     match tokens.split_first() {
         Some((first, _)) => first.span.start,
         None => 0,
@@ -116,7 +128,8 @@ pub fn closed_by<'t, 'src, T: Drop>(
     read: Parsed<'t, 'src, T>,
     wanted: Kind,
 ) -> Parsed<'t, 'src, (T, usize)>
-    ensures { Closes read.entry result }
+    ensures shorter { Closes read.entry result }
+    ensures reads { ClosesWith wanted read.entry result }
 {
     match read {
         Ok((value, rest)) => match expect(rest, wanted) {

@@ -1,19 +1,28 @@
 //! Policies: annotations, scopes and conditions.
-ghost use Rattle.std.specs.Prelude.{◌<◌, ◌≤◌, length, IfOk};
+ghost use Rattle.std.specs.Prelude.{◌≡◌, ◌<◌, ◌≤◌, length, IfOk};
+ghost use Rattle.cedar_grammar.specs.Trees.{Label};
+ghost use Rattle.cedar_grammar.specs.Kinds.{is};
+ghost use Rattle.cedar_grammar.specs.declared.kind.Kind.TheVariants as K;
+ghost use Rattle.cedar_grammar.specs.Reader.Rules.{star, entity, items, word_of};
+ghost use Rattle.cedar_grammar.specs.Reader.Lines.{◌∥◌, annotation_rule, operand, entity_or, scoped, maybe, entity_item, action};
+ghost use Rattle.cedar_cst.specs.Erased.{add_parts, expr_parts, primary_parts};
+ghost use Rattle.cedar_cst.specs.ReadingParts.{slot_kind, variable_kind, variable_parts, IsVariableOf, IsLoneOrOf, entity_list, scope_rule};
+ghost use Rattle.cedar_cst.specs.ReadingItems.{GivesItems, GivesScope};
+ghost use Rattle.cedar_cst.specs.Reading.{flat, GivesNode, GivesMany, annotation_parts, ident_parts};
 
 use crate::cst::expressions::parse_expr;
 use crate::cst::lexeme::Lexeme;
-use crate::cst::nodes::{and_node, lone_relation, or_expr, or_node};
+use crate::cst::nodes::{list_node, or_expr};
 use crate::cst::reading::{
     Parsed, Refusal, begins, closed_by, expect, keep, past, refuse, skip, start_of,
 };
 use crate::cst::tree::{
-    Add, Annotation, Cond, Expr, Ident, Name, Node, Policies, Policy, Primary, RelOp, Slot,
-    VariableDef,
+    Add, And, Annotation, Cond, Expr, Ident, Name, Node, Or, Policies, Policy, Primary, RelOp,
+    Relation, Slot, VariableDef,
 };
 use crate::cst::words::{
-    begins_identifier, lone_operand, parse_any_word, parse_entity, parse_one_of, parse_path,
-    parse_slot_or_entity, parse_str,
+    begins_identifier, ident_node, lone_operand, parse_any_word, parse_cond_word, parse_effect,
+    parse_entity, parse_path, parse_slot_or_entity, parse_str,
 };
 use cedar_grammar::kind::Kind;
 use cedar_tokens::token::Span;
@@ -49,7 +58,7 @@ fn parse_policy<'t, 'src>(
     ensures { IfOk result (λ x. length x.1.now < length tokens.now) }
 {
     let (annotations, rest) = parse_annotations(alloc, tokens)?;
-    let (effect, rest) = parse_one_of(rest, Kind::Permit, Kind::Forbid)?;
+    let (effect, rest) = parse_effect(rest)?;
     let (variables, rest) = parse_scope(alloc, rest)?;
     let ((conds, end), rest) = closed_by(parse_conds(alloc, rest), Kind::SemiColon)?;
     let span = Span {
@@ -70,7 +79,8 @@ fn parse_annotations<'t, 'src>(
     alloc: Global,
     tokens: &'t [Lexeme<'src>],
 ) -> Parsed<'t, 'src, Vec<Node<Annotation<'src>>>>
-    ensures { IfOk result (λ x. length x.1.now ≤ length tokens.now) }
+    ensures shorter { IfOk result (λ x. length x.1.now ≤ length tokens.now) }
+    ensures reads { GivesMany Label.annotation annotation_parts result (flat (star annotation_rule) tokens.now) }
 {
     let mut annotations = Vec::new(alloc);
     let mut rest = tokens;
@@ -84,7 +94,8 @@ fn parse_annotations<'t, 'src>(
 fn parse_annotation<'t, 'src>(
     tokens: &'t [Lexeme<'src>],
 ) -> Parsed<'t, 'src, Node<Annotation<'src>>>
-    ensures { IfOk result (λ x. length x.1.now < length tokens.now) }
+    ensures shorter { IfOk result (λ x. length x.1.now < length tokens.now) }
+    ensures reads { GivesNode Label.annotation annotation_parts result (flat annotation_rule tokens.now) }
 {
     let (at, rest) = expect(tokens, Kind::At)?;
     let (key, rest) = parse_any_word(rest)?;
@@ -116,97 +127,60 @@ fn parse_annotation<'t, 'src>(
     }
 }
 
-// The three variables in brackets, and perhaps a comma behind the last.
-fn parse_scope<'t, 'src>(
-    alloc: Global,
-    tokens: &'t [Lexeme<'src>],
-) -> Parsed<
-    't,
-    'src,
-    (
-        Node<VariableDef<'src>>,
-        Node<VariableDef<'src>>,
-        Node<VariableDef<'src>>,
-    ),
->
-    ensures { IfOk result (λ x. length x.1.now < length tokens.now) }
+// The word of a variable.
+fn variable_kind(slot: Slot) -> Kind
+    ensures { result ≡ variable_kind slot }
 {
-    let (_, rest) = expect(tokens, Kind::LParen)?;
-    let principal = parse_variable(alloc, rest, Slot::Principal);
-    let ((principal, _), rest) = closed_by(principal, Kind::Comma)?;
-    let ((action, _), rest) = closed_by(parse_action(alloc, rest), Kind::Comma)?;
-    let (resource, mut rest) = parse_variable(alloc, rest, Slot::Resource)?;
-    skip(&mut rest, Kind::Comma);
-    let (_, rest) = expect(rest, Kind::RParen)?;
-    Ok(((principal, action, resource), rest))
+    match slot {
+        Slot::Principal => Kind::Principal,
+        Slot::Resource => Kind::Resource,
+    }
 }
 
-// `principal` or `resource`, and perhaps a type, an entity or the slot.
-fn parse_variable<'t, 'src>(
+// `principal` or `resource`.
+fn parse_variable_word<'t, 'src>(
+    tokens: &'t [Lexeme<'src>],
+    slot: Slot,
+) -> Parsed<'t, 'src, Node<Ident<'src>>>
+    ensures shorter { IfOk result (λ x. length x.1.now < length tokens.now) }
+    ensures reads { GivesNode Label.ident ident_parts result (flat (word_of (is (variable_kind slot))) tokens.now) }
+{
+    let (word, rest) = expect(tokens, variable_kind(slot))?;
+    Ok((ident_node(word), rest))
+}
+
+// `action`.
+fn parse_action_word<'t, 'src>(tokens: &'t [Lexeme<'src>]) -> Parsed<'t, 'src, Node<Ident<'src>>>
+    ensures shorter { IfOk result (λ x. length x.1.now < length tokens.now) }
+    ensures reads { GivesNode Label.ident ident_parts result (flat (word_of (is K.Action)) tokens.now) }
+{
+    let (word, rest) = expect(tokens, Kind::Action)?;
+    Ok((ident_node(word), rest))
+}
+
+// A slot or an entity as an operand.
+fn parse_slot_operand<'t, 'src>(
     alloc: Global,
     tokens: &'t [Lexeme<'src>],
     slot: Slot,
-) -> Parsed<'t, 'src, Node<VariableDef<'src>>>
-    ensures { IfOk result (λ x. length x.1.now < length tokens.now) }
+) -> Parsed<'t, 'src, Node<Add<'src>>>
+    ensures shorter { IfOk result (λ x. length x.1.now < length tokens.now) }
+    ensures reads { GivesNode Label.add add_parts result (flat (entity_or (slot_kind slot)) tokens.now) }
 {
-    let kind = match slot {
-        Slot::Principal => Kind::Principal,
-        Slot::Resource => Kind::Resource,
-    };
-    let (variable, rest) = parse_one_of(tokens, kind, kind)?;
-    if let Some(after) = past(rest, Kind::Equal) {
-        let (entity, rest) = parse_slot_or_entity(alloc, after, slot)?;
-        let entity = lone_operand(alloc, entity);
-        return Ok((
-            variable_node(variable, None, Some((RelOp::Eq, entity))),
-            rest,
-        ));
-    }
-    if let Some(after) = past(rest, Kind::In) {
-        let (entity, rest) = parse_slot_or_entity(alloc, after, slot)?;
-        let entity = lone_operand(alloc, entity);
-        return Ok((
-            variable_node(variable, None, Some((RelOp::In, entity))),
-            rest,
-        ));
-    }
-    if let Some(after) = past(rest, Kind::Is) {
-        let (entity_type, rest) = parse_path(alloc, after)?;
-        if let Some(after) = past(rest, Kind::In) {
-            let (entity, rest) = parse_slot_or_entity(alloc, after, slot)?;
-            let entity = Some((RelOp::In, lone_operand(alloc, entity)));
-            return Ok((variable_node(variable, Some(entity_type), entity), rest));
-        }
-        return Ok((variable_node(variable, Some(entity_type), None), rest));
-    }
-    Ok((variable_node(variable, None, None), rest))
+    let (entity, rest) = parse_slot_or_entity(alloc, tokens, slot)?;
+    Ok((lone_operand(alloc, entity), rest))
 }
 
-// `action`, and perhaps an entity or a list of entities.
-fn parse_action<'t, 'src>(
+// An entity as an operand.
+fn parse_entity_operand<'t, 'src>(
     alloc: Global,
     tokens: &'t [Lexeme<'src>],
-) -> Parsed<'t, 'src, Node<VariableDef<'src>>>
-    ensures { IfOk result (λ x. length x.1.now < length tokens.now) }
+) -> Parsed<'t, 'src, Node<Add<'src>>>
+    ensures shorter { IfOk result (λ x. length x.1.now < length tokens.now) }
+    ensures reads { GivesNode Label.add add_parts result (flat (operand entity) tokens.now) }
 {
-    let (variable, rest) = parse_one_of(tokens, Kind::Action, Kind::Action)?;
-    if let Some(after) = past(rest, Kind::Equal) {
-        let (entity, rest) = parse_entity(alloc, after)?;
-        let entity = lone_operand(alloc, entity);
-        return Ok((
-            variable_node(variable, None, Some((RelOp::Eq, entity))),
-            rest,
-        ));
-    }
-    if let Some(after) = past(rest, Kind::In) {
-        let (entities, rest) = parse_entity_or_list(alloc, after)?;
-        let entities = lone_operand(alloc, entities);
-        return Ok((
-            variable_node(variable, None, Some((RelOp::In, entities))),
-            rest,
-        ));
-    }
-    Ok((variable_node(variable, None, None), rest))
+    let (entity, rest) = parse_entity(alloc, tokens)?;
+    Ok((lone_operand(alloc, entity), rest))
 }
 
 // A variable with its type, and its operator with what follows that.
@@ -214,7 +188,9 @@ fn variable_node<'src>(
     variable: Node<Ident<'src>>,
     entity_type: Option<Node<Name<'src>>>,
     ineq: Option<(RelOp, Node<Add<'src>>)>,
-) -> Node<VariableDef<'src>> {
+) -> Node<VariableDef<'src>>
+    ensures { IsVariableOf variable.entry entity_type.entry ineq.entry result }
+{
     let end = match (&ineq, &entity_type) {
         (Some((_, operand)), _) => operand.span.end,
         (None, Some(name)) => name.span.end,
@@ -232,25 +208,76 @@ fn variable_node<'src>(
     Node { inner, span }
 }
 
-// An entity, or entities in square brackets.
-fn parse_entity_or_list<'t, 'src>(
+// `principal` or `resource`, and perhaps a type, an entity or the slot.
+fn parse_variable<'t, 'src>(
     alloc: Global,
     tokens: &'t [Lexeme<'src>],
-) -> Parsed<'t, 'src, Node<Primary<'src>>>
-    ensures { IfOk result (λ x. length x.1.now < length tokens.now) }
+    slot: Slot,
+) -> Parsed<'t, 'src, Node<VariableDef<'src>>>
+    ensures shorter { IfOk result (λ x. length x.1.now < length tokens.now) }
+    ensures reads { GivesNode Label.variable variable_parts result (flat (scoped (variable_kind slot) (slot_kind slot)) tokens.now) }
 {
-    match past(tokens, Kind::LBracket) {
-        Some(after) => {
-            let ((items, end), rest) = closed_by(parse_entities(alloc, after), Kind::RBracket)?;
-            let span = Span {
-                start: start_of(tokens),
-                end,
-            };
-            let inner = Primary::EList(items);
-            Ok((Node { inner, span }, rest))
-        }
-        None => parse_entity(alloc, tokens),
+    let (variable, rest) = parse_variable_word(tokens, slot)?;
+    if let Some(after) = past(rest, Kind::Equal) {
+        let (entity, rest) = parse_slot_operand(alloc, after, slot)?;
+        let entity = Some((RelOp::Eq, entity));
+        return Ok((variable_node(variable, None, entity), rest));
     }
+    if let Some(after) = past(rest, Kind::Is) {
+        let (entity_type, rest) = parse_path(alloc, after)?;
+        if let Some(after) = past(rest, Kind::In) {
+            let (entity, rest) = parse_slot_operand(alloc, after, slot)?;
+            let entity = Some((RelOp::In, entity));
+            return Ok((variable_node(variable, Some(entity_type), entity), rest));
+        }
+        return Ok((variable_node(variable, Some(entity_type), None), rest));
+    }
+    if let Some(after) = past(rest, Kind::In) {
+        let (entity, rest) = parse_slot_operand(alloc, after, slot)?;
+        let entity = Some((RelOp::In, entity));
+        return Ok((variable_node(variable, None, entity), rest));
+    }
+    Ok((variable_node(variable, None, None), rest))
+}
+
+// An operand without any operator.
+fn lone_or<'src>(alloc: Global, operand: Node<Add<'src>>) -> Node<Or<'src>>
+    ensures { IsLoneOrOf operand.entry result }
+{
+    let span = operand.span;
+    let relation = Node {
+        inner: Relation::Common {
+            initial: operand,
+            extended: None,
+        },
+        span,
+    };
+    let and = Node {
+        inner: And {
+            initial: relation,
+            extended: Vec::new(alloc),
+        },
+        span,
+    };
+    Node {
+        inner: Or {
+            initial: and,
+            extended: Vec::new(alloc),
+        },
+        span,
+    }
+}
+
+// An entity as an expression.
+fn parse_entity_expr<'t, 'src>(
+    alloc: Global,
+    tokens: &'t [Lexeme<'src>],
+) -> Parsed<'t, 'src, Node<Expr<'src>>>
+    ensures shorter { IfOk result (λ x. length x.1.now < length tokens.now) }
+    ensures reads { GivesNode Label.expr expr_parts result (flat entity_item tokens.now) }
+{
+    let (entity, rest) = parse_entity_operand(alloc, tokens)?;
+    or_expr(alloc, Ok((lone_or(alloc, entity), rest)))
 }
 
 // Entities with commas between them, and perhaps one behind the last; or none.
@@ -258,31 +285,94 @@ fn parse_entities<'t, 'src>(
     alloc: Global,
     tokens: &'t [Lexeme<'src>],
 ) -> Parsed<'t, 'src, Vec<Node<Expr<'src>>>>
-    ensures { IfOk result (λ x. length x.1.now ≤ length tokens.now) }
+    ensures shorter { IfOk result (λ x. length x.1.now ≤ length tokens.now) }
+    ensures reads { GivesItems Label.expr expr_parts result (flat (maybe (items entity_item)) tokens.now) }
 {
     let mut items = Vec::new(alloc);
     let mut rest = tokens;
     'items: while begins_identifier(rest) {
         keep(parse_entity_expr(alloc, rest), &mut items, &mut rest)?;
         if !skip(&mut rest, Kind::Comma) {
-            break;
+            return Ok((items, rest));
         }
     }
     Ok((items, rest))
 }
 
-// An entity as an expression without any operator.
-fn parse_entity_expr<'t, 'src>(
+// Entities in square brackets.
+fn parse_entity_list<'t, 'src>(
     alloc: Global,
     tokens: &'t [Lexeme<'src>],
-) -> Parsed<'t, 'src, Node<Expr<'src>>>
-    ensures { IfOk result (λ x. length x.1.now < length tokens.now) }
+) -> Parsed<'t, 'src, Node<Primary<'src>>>
+    ensures shorter { IfOk result (λ x. length x.1.now < length tokens.now) }
+    ensures reads { GivesNode Label.primary primary_parts result (flat entity_list tokens.now) }
 {
-    let (entity, rest) = parse_entity(alloc, tokens)?;
-    let relation = lone_relation(lone_operand(alloc, entity));
-    let and = and_node(relation, Vec::new(alloc));
-    let or = or_node(and, Vec::new(alloc));
-    or_expr(alloc, Ok((or, rest)))
+    let (open, rest) = expect(tokens, Kind::LBracket)?;
+    let read = closed_by(parse_entities(alloc, rest), Kind::RBracket);
+    list_node(open.span.start, read)
+}
+
+// An entity, or entities in square brackets, as an operand.
+fn parse_entities_operand<'t, 'src>(
+    alloc: Global,
+    tokens: &'t [Lexeme<'src>],
+) -> Parsed<'t, 'src, Node<Add<'src>>>
+    ensures shorter { IfOk result (λ x. length x.1.now < length tokens.now) }
+    ensures reads { GivesNode Label.add add_parts result (flat (operand entity_list ∥ operand entity) tokens.now) }
+{
+    if begins(tokens, Kind::LBracket) {
+        let (entities, rest) = parse_entity_list(alloc, tokens)?;
+        return Ok((lone_operand(alloc, entities), rest));
+    }
+    parse_entity_operand(alloc, tokens)
+}
+
+// `action`, and perhaps an entity or a list of entities.
+fn parse_action<'t, 'src>(
+    alloc: Global,
+    tokens: &'t [Lexeme<'src>],
+) -> Parsed<'t, 'src, Node<VariableDef<'src>>>
+    ensures shorter { IfOk result (λ x. length x.1.now < length tokens.now) }
+    ensures reads { GivesNode Label.variable variable_parts result (flat action tokens.now) }
+{
+    let (variable, rest) = parse_action_word(tokens)?;
+    if let Some(after) = past(rest, Kind::Equal) {
+        let (entity, rest) = parse_entity_operand(alloc, after)?;
+        let entity = Some((RelOp::Eq, entity));
+        return Ok((variable_node(variable, None, entity), rest));
+    }
+    if let Some(after) = past(rest, Kind::In) {
+        let (entities, rest) = parse_entities_operand(alloc, after)?;
+        let entities = Some((RelOp::In, entities));
+        return Ok((variable_node(variable, None, entities), rest));
+    }
+    Ok((variable_node(variable, None, None), rest))
+}
+
+// The three variables in brackets, and perhaps a comma behind the last.
+fn parse_scope<'t, 'src>(
+    alloc: Global,
+    tokens: &'t [Lexeme<'src>],
+) -> Parsed<
+    't,
+    'src,
+    (
+        Node<VariableDef<'src>>,
+        Node<VariableDef<'src>>,
+        Node<VariableDef<'src>>,
+    ),
+>
+    ensures shorter { IfOk result (λ x. length x.1.now < length tokens.now) }
+    ensures reads { GivesScope result (flat scope_rule tokens.now) }
+{
+    let (_, rest) = expect(tokens, Kind::LParen)?;
+    let principal = parse_variable(alloc, rest, Slot::Principal);
+    let ((principal, _), rest) = closed_by(principal, Kind::Comma)?;
+    let ((action, _), rest) = closed_by(parse_action(alloc, rest), Kind::Comma)?;
+    let (resource, mut rest) = parse_variable(alloc, rest, Slot::Resource)?;
+    skip(&mut rest, Kind::Comma);
+    let (_, rest) = expect(rest, Kind::RParen)?;
+    Ok(((principal, action, resource), rest))
 }
 
 // Conditions, or none.
@@ -307,7 +397,7 @@ fn parse_cond<'t, 'src>(
 ) -> Parsed<'t, 'src, Node<Cond<'src>>>
     ensures { IfOk result (λ x. length x.1.now < length tokens.now) }
 {
-    let (cond, rest) = parse_one_of(tokens, Kind::When, Kind::Unless)?;
+    let (cond, rest) = parse_cond_word(tokens)?;
     let (_, rest) = expect(rest, Kind::LBrace)?;
     let ((expr, end), rest) = closed_by(parse_expr(alloc, rest, MAX_NESTING), Kind::RBrace)?;
     let span = Span {

@@ -1,6 +1,16 @@
 //! Kinds of tokens, and the nodes that are read without nesting: words, strings, names, entities, literals.
-ghost use Rattle.std.specs.Prelude.{◌≡◌, ◌<◌, ◌≤◌, length, IfOk, IfSome};
+ghost use Rattle.std.specs.Prelude.{◌≡◌, [], ◌<◌, ◌≤◌, ◌||◌, ◌&&◌, length, is_some, IfOk, IfSome};
 ghost use Rattle.cedar_tokens.specs.Listing.{without_zeros};
+ghost use Rattle.cedar_grammar.specs.Kinds.{is, is_word, is_ident, is_variable, is_comparison, begins};
+ghost use Rattle.cedar_grammar.specs.Trees.{Label};
+ghost use Rattle.cedar_grammar.specs.declared.kind.Kind.TheVariants as K;
+ghost use Rattle.cedar_grammar.specs.Reader.Reading.{token};
+ghost use Rattle.cedar_grammar.specs.Reader.Rules.{word_of, text_rule, expr_first};
+ghost use Rattle.cedar_grammar.specs.Reader.Lines.{◌▸◌, ◌∥◌, one_of, path, field, index, text_operand, has_field};
+ghost use Rattle.cedar_grammar.specs.Reader.Rules.{entity};
+ghost use Rattle.cedar_cst.specs.Erased.{access_parts, add_parts, primary_parts};
+ghost use Rattle.cedar_cst.specs.ReadingParts.{is_effect, is_cond_word, literal_rule, text_primary, key_rule, HasLiteral, GivesWords, IsEntityOf, slot_kind, IsSlotOf, slot_or_entity};
+ghost use Rattle.cedar_cst.specs.Reading.{kind, flat, GivesNode, ident_parts, str_parts, IsIdentOf, IsStrOf, first_start, name_parts, IsNameOf, IsOperandOf, IsLiteralOf, IsNamePrimaryOf, GivesBehind, last_end, relop_kind, GoesPastSign, GivesSign};
 
 use crate::cst::lexeme::Lexeme;
 use crate::cst::reading::{Parsed, begins, expect, keep, past, refuse};
@@ -13,7 +23,9 @@ use cedar_tokens::token::Span;
 use std::alloc::Global;
 
 /// Whether the kind is that of a word.
-pub fn is_word(kind: Kind) -> bool {
+pub fn is_word(kind: Kind) -> bool
+    ensures { result ≡ is_word kind }
+{
     is_identifier(kind)
         || matches!(
             kind,
@@ -30,7 +42,9 @@ pub fn is_word(kind: Kind) -> bool {
 }
 
 /// Whether the kind is that of a word that can name something: all words but `true false if then else in is like has`.
-pub fn is_identifier(kind: Kind) -> bool {
+pub fn is_identifier(kind: Kind) -> bool
+    ensures { result ≡ is_ident kind }
+{
     is_variable(kind)
         || matches!(
             kind,
@@ -39,15 +53,33 @@ pub fn is_identifier(kind: Kind) -> bool {
 }
 
 /// Whether the kind is that of one of the four variables.
-pub fn is_variable(kind: Kind) -> bool {
+pub fn is_variable(kind: Kind) -> bool
+    ensures { result ≡ is_variable kind }
+{
     matches!(
         kind,
         Kind::Principal | Kind::Action | Kind::Resource | Kind::Context
     )
 }
 
+// Whether the kind is that of `permit` or `forbid`.
+fn is_effect(kind: Kind) -> bool
+    ensures { result ≡ is_effect kind }
+{
+    matches!(kind, Kind::Permit | Kind::Forbid)
+}
+
+// Whether the kind is that of `when` or `unless`.
+fn is_cond_word(kind: Kind) -> bool
+    ensures { result ≡ is_cond_word kind }
+{
+    matches!(kind, Kind::When | Kind::Unless)
+}
+
 /// Whether the first token can name something.
-pub fn begins_identifier(tokens: &[Lexeme]) -> bool {
+pub fn begins_identifier(tokens: &[Lexeme]) -> bool
+    ensures { result ≡ begins kind is_ident tokens.now }
+{
     match tokens.split_first() {
         Some((first, _)) => is_identifier(first.kind),
         None => false,
@@ -55,7 +87,9 @@ pub fn begins_identifier(tokens: &[Lexeme]) -> bool {
 }
 
 /// Whether an expression begins with the first token.
-pub fn begins_expression(tokens: &[Lexeme]) -> bool {
+pub fn begins_expression(tokens: &[Lexeme]) -> bool
+    ensures { result ≡ begins kind expr_first tokens.now }
+{
     match tokens.split_first() {
         Some((first, _)) => {
             is_identifier(first.kind)
@@ -78,7 +112,9 @@ pub fn begins_expression(tokens: &[Lexeme]) -> bool {
 }
 
 /// Whether a variable stands first.
-pub fn begins_variable(tokens: &[Lexeme]) -> bool {
+pub fn begins_variable(tokens: &[Lexeme]) -> bool
+    ensures { result ≡ begins kind is_variable tokens.now }
+{
     match tokens.split_first() {
         Some((first, _)) => is_variable(first.kind),
         None => false,
@@ -86,24 +122,33 @@ pub fn begins_variable(tokens: &[Lexeme]) -> bool {
 }
 
 /// Whether a key of a record begins with the first token.
-pub fn begins_key(tokens: &[Lexeme]) -> bool {
+pub fn begins_key(tokens: &[Lexeme]) -> bool
+    ensures { result ≡ begins kind (λ x. is_ident x || is K.Str x) tokens.now }
+{
     begins_identifier(tokens) || begins(tokens, Kind::Str)
 }
 
 /// Whether what is accessed begins with the first token; a call does where it is `callable`.
-pub fn begins_access(tokens: &[Lexeme], callable: bool) -> bool {
+pub fn begins_access(tokens: &[Lexeme], callable: bool) -> bool
+    ensures { result ≡ (begins kind (is K.Dot) tokens.now || (begins kind (is K.LBracket) tokens.now || (callable && begins kind (is K.LParen) tokens.now))) }
+{
     begins(tokens, Kind::Dot)
         || begins(tokens, Kind::LBracket)
         || (callable && begins(tokens, Kind::LParen))
 }
 
 /// Whether a parenthesis, a list or a record begins with the first token.
-pub fn begins_bracket(tokens: &[Lexeme]) -> bool {
+pub fn begins_bracket(tokens: &[Lexeme]) -> bool
+    ensures { result ≡ (begins kind (is K.LParen) tokens.now || (begins kind (is K.LBracket) tokens.now || begins kind (is K.LBrace) tokens.now)) }
+{
     begins(tokens, Kind::LParen) || begins(tokens, Kind::LBracket) || begins(tokens, Kind::LBrace)
 }
 
 // The comparison that a kind stands for.
-fn comparison_of(kind: Kind) -> Option<RelOp> {
+fn comparison_of(kind: Kind) -> Option<RelOp>
+    ensures tells { is_some result ≡ is_comparison kind }
+    ensures which { IfSome result (λ op. relop_kind op ≡ kind) }
+{
     match kind {
         Kind::Lt => Some(RelOp::Less),
         Kind::Le => Some(RelOp::LessEq),
@@ -117,7 +162,9 @@ fn comparison_of(kind: Kind) -> Option<RelOp> {
 }
 
 /// Whether a comparison's sign stands first.
-pub fn begins_comparison(tokens: &[Lexeme]) -> bool {
+pub fn begins_comparison(tokens: &[Lexeme]) -> bool
+    ensures { result ≡ begins kind is_comparison tokens.now }
+{
     match tokens.split_first() {
         Some((first, _)) => comparison_of(first.kind).is_some(),
         None => false,
@@ -126,7 +173,8 @@ pub fn begins_comparison(tokens: &[Lexeme]) -> bool {
 
 /// A comparison's sign.
 pub fn parse_comparison_sign<'t, 'src>(tokens: &'t [Lexeme<'src>]) -> Parsed<'t, 'src, RelOp>
-    ensures { IfOk result (λ x. length x.1.now < length tokens.now) }
+    ensures shorter { IfOk result (λ x. length x.1.now < length tokens.now) }
+    ensures reads { GivesSign result (token kind is_comparison tokens.now) }
 {
     match tokens.split_first() {
         Some((first, rest)) => match comparison_of(first.kind) {
@@ -139,7 +187,8 @@ pub fn parse_comparison_sign<'t, 'src>(tokens: &'t [Lexeme<'src>]) -> Parsed<'t,
 
 /// The `+` or `-` that stands first, and the tokens after it.
 pub fn past_sum_sign<'t, 'src>(tokens: &'t [Lexeme<'src>]) -> Option<(AddOp, &'t [Lexeme<'src>])>
-    ensures { IfSome result (λ x. length x.1.now < length tokens.now) }
+    ensures shorter { IfSome result (λ x. length x.1.now < length tokens.now) }
+    ensures reads { GoesPastSign tokens.now result }
 {
     let (first, rest) = tokens.split_first()?;
     match first.kind {
@@ -179,7 +228,9 @@ pub fn read_signs(tokens: &[Lexeme]) -> (Option<NegOp>, usize)
 }
 
 /// The token as a word.
-pub fn ident_node<'src>(word: Lexeme<'src>) -> Node<Ident<'src>> {
+pub fn ident_node<'src>(word: Lexeme<'src>) -> Node<Ident<'src>>
+    ensures { IsIdentOf word.entry result }
+{
     Node {
         inner: Ident(word.text),
         span: word.span,
@@ -187,7 +238,9 @@ pub fn ident_node<'src>(word: Lexeme<'src>) -> Node<Ident<'src>> {
 }
 
 /// The token as a string.
-pub fn str_node<'src>(string: Lexeme<'src>) -> Node<Str<'src>> {
+pub fn str_node<'src>(string: Lexeme<'src>) -> Node<Str<'src>>
+    ensures { IsStrOf string.entry result }
+{
     Node {
         inner: Str(string.text),
         span: string.span,
@@ -196,7 +249,8 @@ pub fn str_node<'src>(string: Lexeme<'src>) -> Node<Str<'src>> {
 
 /// A word that can name something.
 pub fn parse_ident<'t, 'src>(tokens: &'t [Lexeme<'src>]) -> Parsed<'t, 'src, Node<Ident<'src>>>
-    ensures { IfOk result (λ x. length x.1.now < length tokens.now) }
+    ensures shorter { IfOk result (λ x. length x.1.now < length tokens.now) }
+    ensures reads { GivesNode Label.ident ident_parts result (flat (word_of is_ident) tokens.now) }
 {
     match tokens.split_first() {
         Some((first, rest)) => {
@@ -212,7 +266,8 @@ pub fn parse_ident<'t, 'src>(tokens: &'t [Lexeme<'src>]) -> Parsed<'t, 'src, Nod
 
 /// Any word.
 pub fn parse_any_word<'t, 'src>(tokens: &'t [Lexeme<'src>]) -> Parsed<'t, 'src, Node<Ident<'src>>>
-    ensures { IfOk result (λ x. length x.1.now < length tokens.now) }
+    ensures shorter { IfOk result (λ x. length x.1.now < length tokens.now) }
+    ensures reads { GivesNode Label.ident ident_parts result (flat (word_of is_word) tokens.now) }
 {
     match tokens.split_first() {
         Some((first, rest)) => {
@@ -226,17 +281,31 @@ pub fn parse_any_word<'t, 'src>(tokens: &'t [Lexeme<'src>]) -> Parsed<'t, 'src, 
     }
 }
 
-/// One of two words.
-pub fn parse_one_of<'t, 'src>(
-    tokens: &'t [Lexeme<'src>],
-    wanted: Kind,
-    other: Kind,
-) -> Parsed<'t, 'src, Node<Ident<'src>>>
-    ensures { IfOk result (λ x. length x.1.now < length tokens.now) }
+/// `permit` or `forbid`.
+pub fn parse_effect<'t, 'src>(tokens: &'t [Lexeme<'src>]) -> Parsed<'t, 'src, Node<Ident<'src>>>
+    ensures shorter { IfOk result (λ x. length x.1.now < length tokens.now) }
+    ensures reads { GivesNode Label.ident ident_parts result (flat (word_of is_effect) tokens.now) }
 {
     match tokens.split_first() {
         Some((first, rest)) => {
-            if first.kind == wanted || first.kind == other {
+            if is_effect(first.kind) {
+                Ok((ident_node(*first), rest))
+            } else {
+                Err(refuse(tokens))
+            }
+        }
+        None => Err(refuse(tokens)),
+    }
+}
+
+/// `when` or `unless`.
+pub fn parse_cond_word<'t, 'src>(tokens: &'t [Lexeme<'src>]) -> Parsed<'t, 'src, Node<Ident<'src>>>
+    ensures shorter { IfOk result (λ x. length x.1.now < length tokens.now) }
+    ensures reads { GivesNode Label.ident ident_parts result (flat (word_of is_cond_word) tokens.now) }
+{
+    match tokens.split_first() {
+        Some((first, rest)) => {
+            if is_cond_word(first.kind) {
                 Ok((ident_node(*first), rest))
             } else {
                 Err(refuse(tokens))
@@ -248,14 +317,17 @@ pub fn parse_one_of<'t, 'src>(
 
 /// A string.
 pub fn parse_str<'t, 'src>(tokens: &'t [Lexeme<'src>]) -> Parsed<'t, 'src, Node<Str<'src>>>
-    ensures { IfOk result (λ x. length x.1.now < length tokens.now) }
+    ensures shorter { IfOk result (λ x. length x.1.now < length tokens.now) }
+    ensures reads { GivesNode Label.str str_parts result (flat text_rule tokens.now) }
 {
     let (string, rest) = expect(tokens, Kind::Str)?;
     Ok((str_node(string), rest))
 }
 
 /// Where a name's first word starts.
-pub fn name_start(path: &[Node<Ident<'_>>], name: &Node<Ident<'_>>) -> usize {
+pub fn name_start(path: &[Node<Ident<'_>>], name: &Node<Ident<'_>>) -> usize
+    ensures { result ≡ first_start path.now name.now }
+{
     match path.first() {
         Some(first) => first.span.start,
         None => name.span.start,
@@ -263,7 +335,9 @@ pub fn name_start(path: &[Node<Ident<'_>>], name: &Node<Ident<'_>>) -> usize {
 }
 
 /// The words of a path and its last word as a name.
-pub fn name_node<'src>(path: Vec<Node<Ident<'src>>>, name: Node<Ident<'src>>) -> Node<Name<'src>> {
+pub fn name_node<'src>(path: Vec<Node<Ident<'src>>>, name: Node<Ident<'src>>) -> Node<Name<'src>>
+    ensures { IsNameOf path.entry.items name.entry result }
+{
     let span = Span {
         start: name_start(&path, &name),
         end: name.span.end,
@@ -279,7 +353,8 @@ pub fn parse_path<'t, 'src>(
     alloc: Global,
     tokens: &'t [Lexeme<'src>],
 ) -> Parsed<'t, 'src, Node<Name<'src>>>
-    ensures { IfOk result (λ x. length x.1.now < length tokens.now) }
+    ensures shorter { IfOk result (λ x. length x.1.now < length tokens.now) }
+    ensures reads { GivesNode Label.name name_parts result (flat path tokens.now) }
 {
     let (mut name, mut rest) = parse_ident(tokens)?;
     let mut path = Vec::new(alloc);
@@ -293,7 +368,9 @@ pub fn parse_path<'t, 'src>(
 }
 
 /// An entity as a primary.
-pub fn entity_node<'src>(path: Node<Name<'src>>, eid: Node<Str<'src>>) -> Node<Primary<'src>> {
+pub fn entity_node<'src>(path: Node<Name<'src>>, eid: Node<Str<'src>>) -> Node<Primary<'src>>
+    ensures { IsEntityOf path.entry eid.entry result }
+{
     let span = Span {
         start: path.span.start,
         end: eid.span.end,
@@ -309,7 +386,9 @@ pub fn entity_node<'src>(path: Node<Name<'src>>, eid: Node<Str<'src>>) -> Node<P
 }
 
 /// A name as a primary.
-pub fn name_primary<'src>(name: Node<Name<'src>>) -> Node<Primary<'src>> {
+pub fn name_primary<'src>(name: Node<Name<'src>>) -> Node<Primary<'src>>
+    ensures { IsNamePrimaryOf name.entry result }
+{
     let span = name.span;
     Node {
         inner: Primary::Name(name),
@@ -318,7 +397,9 @@ pub fn name_primary<'src>(name: Node<Name<'src>>) -> Node<Primary<'src>> {
 }
 
 /// A literal as a primary.
-pub fn literal_primary<'src>(literal: Literal<'src>, span: Span) -> Node<Primary<'src>> {
+pub fn literal_primary<'src>(literal: Literal<'src>, span: Span) -> Node<Primary<'src>>
+    ensures { IsLiteralOf literal.entry span result }
+{
     let literal = Node {
         inner: literal,
         span,
@@ -344,7 +425,9 @@ fn without_zeros(digits: &str) -> &str
 }
 
 // The literal that a token is.
-fn literal_of<'src>(token: Lexeme<'src>) -> Option<Literal<'src>> {
+fn literal_of<'src>(token: Lexeme<'src>) -> Option<Literal<'src>>
+    ensures { HasLiteral token.entry result }
+{
     match token.kind {
         Kind::True => Some(Literal::True),
         Kind::False => Some(Literal::False),
@@ -356,7 +439,8 @@ fn literal_of<'src>(token: Lexeme<'src>) -> Option<Literal<'src>> {
 
 /// A literal as a primary.
 pub fn parse_literal<'t, 'src>(tokens: &'t [Lexeme<'src>]) -> Parsed<'t, 'src, Node<Primary<'src>>>
-    ensures { IfOk result (λ x. length x.1.now < length tokens.now) }
+    ensures shorter { IfOk result (λ x. length x.1.now < length tokens.now) }
+    ensures reads { GivesNode Label.primary primary_parts result (flat literal_rule tokens.now) }
 {
     match tokens.split_first() {
         Some((first, rest)) => match literal_of(*first) {
@@ -367,40 +451,54 @@ pub fn parse_literal<'t, 'src>(tokens: &'t [Lexeme<'src>]) -> Parsed<'t, 'src, N
     }
 }
 
+/// A string as a primary.
+pub fn parse_text<'t, 'src>(tokens: &'t [Lexeme<'src>]) -> Parsed<'t, 'src, Node<Primary<'src>>>
+    ensures shorter { IfOk result (λ x. length x.1.now < length tokens.now) }
+    ensures reads { GivesNode Label.primary primary_parts result (flat text_primary tokens.now) }
+{
+    let (string, rest) = expect(tokens, Kind::Str)?;
+    Ok((
+        literal_primary(Literal::Str(string.text), string.span),
+        rest,
+    ))
+}
+
 /// A key of a record.
 pub fn parse_key<'t, 'src>(
     alloc: Global,
     tokens: &'t [Lexeme<'src>],
 ) -> Parsed<'t, 'src, Node<Primary<'src>>>
-    ensures { IfOk result (λ x. length x.1.now < length tokens.now) }
+    ensures shorter { IfOk result (λ x. length x.1.now < length tokens.now) }
+    ensures reads { GivesNode Label.primary primary_parts result (flat key_rule tokens.now) }
 {
-    if begins(tokens, Kind::Str) {
-        return parse_literal(tokens);
+    if begins_identifier(tokens) {
+        let (word, rest) = parse_ident(tokens)?;
+        return Ok((name_primary(name_node(Vec::new(alloc), word)), rest));
     }
-    let (word, rest) = parse_ident(tokens)?;
-    Ok((name_primary(name_node(Vec::new(alloc), word)), rest))
+    parse_text(tokens)
 }
 
-/// Words joined by `::`, up to a string after `::`, which makes them an entity. What follows a `::` is told by the next token.
-pub fn parse_entity_or_name<'t, 'src>(
+/// Words joined by `::`, and a string after a last `::`, which makes them an entity. What follows a `::` is told by the next token.
+pub fn parse_words<'t, 'src>(
     alloc: Global,
     tokens: &'t [Lexeme<'src>],
-) -> Parsed<'t, 'src, Node<Primary<'src>>>
-    ensures { IfOk result (λ x. length x.1.now < length tokens.now) }
+) -> Parsed<'t, 'src, (Node<Name<'src>>, Option<Node<Str<'src>>>)>
+    ensures shorter { IfOk result (λ x. length x.1.now < length tokens.now) }
+    ensures reads { GivesWords result tokens.now }
 {
     let (mut name, mut rest) = parse_ident(tokens)?;
     let mut path = Vec::new(alloc);
     'words: while let Some(after) = past(rest, Kind::DoubleColon) {
         if begins(after, Kind::Str) {
             let (eid, after) = parse_str(after)?;
-            return Ok((entity_node(name_node(path, name), eid), after));
+            return Ok(((name_node(path, name), Some(eid)), after));
         }
         let (next, after) = parse_ident(after)?;
         path.push(name)?;
         name = next;
         rest = after;
     }
-    Ok((name_primary(name_node(path, name)), rest))
+    Ok(((name_node(path, name), None), rest))
 }
 
 /// An entity.
@@ -408,12 +506,34 @@ pub fn parse_entity<'t, 'src>(
     alloc: Global,
     tokens: &'t [Lexeme<'src>],
 ) -> Parsed<'t, 'src, Node<Primary<'src>>>
-    ensures { IfOk result (λ x. length x.1.now < length tokens.now) }
+    ensures shorter { IfOk result (λ x. length x.1.now < length tokens.now) }
+    ensures reads { GivesNode Label.primary primary_parts result (flat entity tokens.now) }
 {
-    let (primary, rest) = parse_entity_or_name(alloc, tokens)?;
-    match primary.inner {
-        Primary::Ref(_) => Ok((primary, rest)),
-        _ => Err(refuse(rest)),
+    let ((path, eid), rest) = parse_words(alloc, tokens)?;
+    match eid {
+        Some(eid) => Ok((entity_node(path, eid), rest)),
+        None => Err(refuse(rest)),
+    }
+}
+
+// The token of a slot.
+fn slot_kind(slot: Slot) -> Kind
+    ensures { result ≡ slot_kind slot }
+{
+    match slot {
+        Slot::Principal => Kind::PrincipalSlot,
+        Slot::Resource => Kind::ResourceSlot,
+    }
+}
+
+// A slot as a primary.
+fn slot_primary<'src>(slot: Slot, span: Span) -> Node<Primary<'src>>
+    ensures { IsSlotOf slot span result }
+{
+    let slot = Node { inner: slot, span };
+    Node {
+        inner: Primary::Slot(slot),
+        span,
     }
 }
 
@@ -423,37 +543,15 @@ pub fn parse_slot_or_entity<'t, 'src>(
     tokens: &'t [Lexeme<'src>],
     slot: Slot,
 ) -> Parsed<'t, 'src, Node<Primary<'src>>>
-    ensures { IfOk result (λ x. length x.1.now < length tokens.now) }
+    ensures shorter { IfOk result (λ x. length x.1.now < length tokens.now) }
+    ensures reads { GivesNode Label.primary primary_parts result (flat (slot_or_entity (slot_kind slot)) tokens.now) }
 {
-    let kind = match slot {
-        Slot::Principal => Kind::PrincipalSlot,
-        Slot::Resource => Kind::ResourceSlot,
-    };
-    match expect(tokens, kind) {
-        Ok((token, rest)) => {
-            let span = token.span;
-            let slot = Node { inner: slot, span };
-            let primary = Node {
-                inner: Primary::Slot(slot),
-                span,
-            };
-            Ok((primary, rest))
-        }
-        Err(_) => parse_entity(alloc, tokens),
+    let kind = slot_kind(slot);
+    if begins(tokens, kind) {
+        let (token, rest) = expect(tokens, kind)?;
+        return Ok((slot_primary(slot, token.span), rest));
     }
-}
-
-/// Whether a primary is a name.
-pub fn is_name(primary: &Primary<'_>) -> bool {
-    matches!(primary, Primary::Name(_))
-}
-
-/// Whether a primary is a name of one word.
-pub fn is_lone_word(primary: &Primary<'_>) -> bool {
-    match primary {
-        Primary::Name(name) => name.inner.path.is_empty(),
-        _ => false,
-    }
+    parse_entity(alloc, tokens)
 }
 
 /// A primary with what is accessed in it as an operand of comparisons.
@@ -462,7 +560,9 @@ pub fn operand<'src>(
     item: Node<Primary<'src>>,
     access: Vec<Node<MemAccess<'src>>>,
     span: Span,
-) -> Node<Add<'src>> {
+) -> Node<Add<'src>>
+    ensures { IsOperandOf item.entry access.entry.items span result }
+{
     let member = Node {
         inner: Member { item, access },
         span,
@@ -491,7 +591,9 @@ pub fn operand<'src>(
 }
 
 /// A primary that stands alone as an operand.
-pub fn lone_operand<'src>(alloc: Global, item: Node<Primary<'src>>) -> Node<Add<'src>> {
+pub fn lone_operand<'src>(alloc: Global, item: Node<Primary<'src>>) -> Node<Add<'src>>
+    ensures { IsOperandOf item.entry [] item.entry.span result }
+{
     let span = item.span;
     operand(alloc, item, Vec::new(alloc), span)
 }
@@ -501,7 +603,8 @@ pub fn parse_text_operand<'t, 'src>(
     alloc: Global,
     tokens: &'t [Lexeme<'src>],
 ) -> Parsed<'t, 'src, Node<Add<'src>>>
-    ensures { IfOk result (λ x. length x.1.now < length tokens.now) }
+    ensures shorter { IfOk result (λ x. length x.1.now < length tokens.now) }
+    ensures reads { GivesNode Label.add add_parts result (flat text_operand tokens.now) }
 {
     let (string, rest) = expect(tokens, Kind::Str)?;
     let primary = literal_primary(Literal::Str(string.text), string.span);
@@ -510,7 +613,8 @@ pub fn parse_text_operand<'t, 'src>(
 
 /// `.` and a word.
 pub fn parse_field<'t, 'src>(tokens: &'t [Lexeme<'src>]) -> Parsed<'t, 'src, Node<MemAccess<'src>>>
-    ensures { IfOk result (λ x. length x.1.now < length tokens.now) }
+    ensures shorter { IfOk result (λ x. length x.1.now < length tokens.now) }
+    ensures reads { GivesNode Label.access access_parts result (flat field tokens.now) }
 {
     let (dot, rest) = expect(tokens, Kind::Dot)?;
     let (field, rest) = parse_ident(rest)?;
@@ -527,7 +631,8 @@ pub fn parse_field<'t, 'src>(tokens: &'t [Lexeme<'src>]) -> Parsed<'t, 'src, Nod
 
 /// A string in square brackets.
 pub fn parse_index<'t, 'src>(tokens: &'t [Lexeme<'src>]) -> Parsed<'t, 'src, Node<MemAccess<'src>>>
-    ensures { IfOk result (λ x. length x.1.now < length tokens.now) }
+    ensures shorter { IfOk result (λ x. length x.1.now < length tokens.now) }
+    ensures reads { GivesNode Label.access access_parts result (flat index tokens.now) }
 {
     let (open, rest) = expect(tokens, Kind::LBracket)?;
     let (string, rest) = parse_str(rest)?;
@@ -548,7 +653,8 @@ pub fn parse_pattern<'t, 'src>(
     alloc: Global,
     tokens: &'t [Lexeme<'src>],
 ) -> Parsed<'t, 'src, Node<Add<'src>>>
-    ensures { IfOk result (λ x. length x.1.now < length tokens.now) }
+    ensures shorter { IfOk result (λ x. length x.1.now < length tokens.now) }
+    ensures reads { GivesBehind K.Like Label.add add_parts result (flat (one_of K.Like ▸ text_operand) tokens.now) }
 {
     let (_, rest) = expect(tokens, Kind::Like)?;
     parse_text_operand(alloc, rest)
@@ -559,7 +665,8 @@ pub fn parse_has_field<'t, 'src>(
     alloc: Global,
     tokens: &'t [Lexeme<'src>],
 ) -> Parsed<'t, 'src, Node<Add<'src>>>
-    ensures { IfOk result (λ x. length x.1.now < length tokens.now) }
+    ensures shorter { IfOk result (λ x. length x.1.now < length tokens.now) }
+    ensures reads { GivesBehind K.Has Label.add add_parts result (flat (one_of K.Has ▸ (text_operand ∥ has_field)) tokens.now) }
 {
     let (_, rest) = expect(tokens, Kind::Has)?;
     if begins(rest, Kind::Str) {
@@ -568,12 +675,23 @@ pub fn parse_has_field<'t, 'src>(
     parse_fields(alloc, rest)
 }
 
+/// Where the last of these accesses ends; `end` where there is none.
+pub fn accesses_end(end: usize, access: &[Node<MemAccess<'_>>]) -> usize
+    ensures { result ≡ last_end end access.now }
+{
+    match access.last() {
+        Some(last) => last.span.end,
+        None => end,
+    }
+}
+
 // Words joined by `.`, as an operand.
 fn parse_fields<'t, 'src>(
     alloc: Global,
     tokens: &'t [Lexeme<'src>],
 ) -> Parsed<'t, 'src, Node<Add<'src>>>
-    ensures { IfOk result (λ x. length x.1.now < length tokens.now) }
+    ensures shorter { IfOk result (λ x. length x.1.now < length tokens.now) }
+    ensures reads { GivesNode Label.add add_parts result (flat has_field tokens.now) }
 {
     let (word, mut rest) = parse_ident(tokens)?;
     let item = name_primary(name_node(Vec::new(alloc), word));
@@ -581,10 +699,7 @@ fn parse_fields<'t, 'src>(
     'fields: while begins(rest, Kind::Dot) {
         keep(parse_field(rest), &mut access, &mut rest)?;
     }
-    let end = match access.last() {
-        Some(field) => field.span.end,
-        None => item.span.end,
-    };
+    let end = accesses_end(item.span.end, &access);
     let span = Span {
         start: item.span.start,
         end,

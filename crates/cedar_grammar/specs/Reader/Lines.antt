@@ -71,8 +71,11 @@ item = node primary (node L.boolean (leaf_of is_boolean))
 abbrev pub field : Rule
 field = node access (one_of K.Dot ▸ ident_rule)
 
+abbrev pub index : Rule
+index = node access (one_of K.LBracket ▸ text_rule ▸ one_of K.RBracket)
+
 abbrev pub access_rule : Rule
-access_rule = field ▸ maybe call ∥ node access (one_of K.LBracket ▸ text_rule ▸ one_of K.RBracket)
+access_rule = field ▸ maybe call ∥ index
 
 abbrev pub member_rule : Rule
 member_rule = node member (item ▸ star access_rule)

@@ -1,5 +1,4 @@
-use Rattle.std.proofs.Common.{◌↔◌, ◌≡◌, length}
-use Rattle.std.specs.List.{AllZip}
+use Rattle.std.proofs.Common.{◌≡◌}
 use Rattle.cedar_cst.specs.Same.{SameExpr, SameAnd, SameRelation, SameMult, SameUnary, SameAccess, SameInit}
 use Rattle.cedar_cst.proofs.Comparing.{Left}
 use Rattle.cedar_cst.proofs.cst.compare.+same.Given as goal

@@ -1,0 +1,69 @@
+-- What nodes of the recursive types are made of.
+use Rattle.std.specs.Prelude.{◌≡◌, List, [], ◌∷◌, Vec, None, codes}
+use Rattle.std.specs.declared.alloc.Global.{Global}
+use Rattle.std.proofs.Common.{rules}
+use mathlib.Core.Former.{Count}
+use Rattle.cedar_tokens.specs.declared.token.Span.{Span}
+use Rattle.cedar_grammar.specs.Trees.{Label, none, leaf, join}
+use Rattle.cedar_cst.specs.Erased.{Erased, node, addop_text, access_trees, unary_parts, mult_parts, mult_rest, add_parts, add_rest, and_rest, or_rest, expr_parts, primary_parts, expr_items, more_items, variant}
+use Rattle.cedar_cst.specs.ReadingItems.{more_trees, item_trees}
+use Rattle.cedar_cst.specs.Reading.{access_items, operand_parts}
+use Rattle.cedar_cst.specs.declared.cst.tree.Node.{Node}
+use Rattle.cedar_cst.specs.declared.cst.tree.AddOp.{AddOp}
+use Rattle.cedar_cst.specs.declared.cst.tree.MultOp.{MultOp}
+use Rattle.cedar_cst.specs.declared.cst.tree.Primary as Primary
+use Rattle.cedar_cst.specs.declared.cst.tree.MemAccess as MemAccess
+use Rattle.cedar_cst.specs.declared.cst.tree.Member as Member
+use Rattle.cedar_cst.specs.declared.cst.tree.Unary as Unary
+use Rattle.cedar_cst.specs.declared.cst.tree.Mult as Mult
+use Rattle.cedar_cst.specs.declared.cst.tree.Add as Add
+use Rattle.cedar_cst.specs.declared.cst.tree.And as And
+use Rattle.cedar_cst.specs.declared.cst.tree.Or as Or
+use Rattle.cedar_cst.specs.declared.cst.tree.Expr as Expr
+
+abbrev pub mult_items : List (MultOp × Node Unary.Unary) → Erased
+mult_items [] = none
+mult_items (x ∷ xs) = leaf (codes "*") (node Label.unary x.1.span (unary_parts x.1.inner) (mult_items xs))
+
+abbrev pub add_items : List (AddOp × Node Mult.Mult) → Erased
+add_items [] = none
+add_items (x ∷ xs) = leaf (addop_text x.0) (node Label.mult x.1.span (mult_parts x.1.inner) (add_items xs))
+
+pub access_row : (n : Count) (k : Member.Row_of-Member-access-2 n) → access_trees k ≡ access_items (Member.items-the_row-Member-access-2 n k)
+access_row n Member.end_of-Member-access-2 = search (rules, Add.the_lemmas)
+access_row n (Member.more_of-Member-access-2 {n = m} a s rest) = search (rules, Add.the_lemmas, access_row m rest)
+
+pub mult_row : (n : Count) (k : Mult.Row_of-Mult-extended-4 n) → mult_rest k ≡ mult_items (Mult.items-the_row-Mult-extended-4 n k)
+mult_row n Mult.end_of-Mult-extended-4 = search (rules, Add.the_lemmas)
+mult_row n (Mult.more_of-Mult-extended-4 {n = m} op u s rest) = search (rules, Add.the_lemmas, mult_row m rest)
+
+pub add_row : (n : Count) (k : Add.Row_of-Add-extended-4 n) → add_rest k ≡ add_items (Add.items-the_row-Add-extended-4 n k)
+add_row n Add.end_of-Add-extended-4 = search (rules, Add.the_lemmas)
+add_row n (Add.more_of-Add-extended-4 {n = m} op u s rest) = search (rules, Add.the_lemmas, add_row m rest)
+
+-- an operand that a primary and what is accessed in it make
+pub view_operand : (item : Node Primary.Primary) (access : Vec (Node MemAccess.MemAccess) Global) (s : Span) (v : Vec (MultOp × Node Unary.Unary) Global) (w : Vec (AddOp × Node Mult.Mult) Global) → v.items ≡ [] → w.items ≡ []
+    → add_parts (Add.roll-Add record { initial = record { inner = Mult.roll-Mult record { initial = record { inner = Unary.roll-Unary record { op = None; item = record { inner = Member.roll-Member record { item = item; access = access }; span = s } }; span = s }; extended = v }; span = s }; extended = w })
+    ≡ operand_parts s item access.items
+view_operand item access s v w e f = search (rules, Add.the_lemmas, access_row, mult_row, add_row, e, f)
+
+-- rows of no operands
+pub no_relations : (n : Count) (k : And.Row_of-And-extended-2 n) → And.items-the_row-And-extended-2 n k ≡ [] → and_rest k ≡ none
+no_relations n And.end_of-And-extended-2 e = search (rules, Or.the_lemmas)
+no_relations n (And.more_of-And-extended-2 r s rest) e = absurd cc
+
+pub no_ands : (n : Count) (k : Or.Row_of-Or-extended-2 n) → Or.items-the_row-Or-extended-2 n k ≡ [] → or_rest k ≡ none
+no_ands n Or.end_of-Or-extended-2 e = search (rules, Or.the_lemmas)
+no_ands n (Or.more_of-Or-extended-2 r s v row t rest) e = absurd cc
+
+-- the items of a list
+more_row : (n : Count) (k : MemAccess.Row_of-MemAccess-Call-0-2 n) → more_items k ≡ more_trees Label.expr expr_parts (MemAccess.items-the_row-MemAccess-Call-0-2 n k)
+more_row n MemAccess.end_of-MemAccess-Call-0-2 = search (rules, Or.the_lemmas)
+more_row n (MemAccess.more_of-MemAccess-Call-0-2 {n = m} e s rest) = search (rules, Or.the_lemmas, more_row m rest)
+
+pub items_row : (n : Count) (k : MemAccess.Row_of-MemAccess-Call-0-2 n) → expr_items k ≡ item_trees Label.expr expr_parts (MemAccess.items-the_row-MemAccess-Call-0-2 n k)
+items_row n MemAccess.end_of-MemAccess-Call-0-2 = search (rules, Or.the_lemmas)
+items_row n (MemAccess.more_of-MemAccess-Call-0-2 {n = m} e s rest) = search (rules, Or.the_lemmas, more_row m rest)
+
+pub view_list : (v : Vec (Node Expr.Expr) Global) → primary_parts (Primary.EList v) ≡ variant Label.list (leaf (codes "[") (join (item_trees Label.expr expr_parts v.items) (leaf (codes "]") none))) none
+view_list v = search (rules, Or.the_lemmas, items_row)

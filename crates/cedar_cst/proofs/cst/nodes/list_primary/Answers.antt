@@ -1,0 +1,6 @@
+use Rattle.std.proofs.Common.{refl}
+use Rattle.cedar_cst.proofs.Views.{view_list}
+use Rattle.cedar_cst.proofs.cst.nodes.list_primary.Goals as goal
+
+pub returns : goal.returns
+returns c = (view_list c.args.items, refl)
