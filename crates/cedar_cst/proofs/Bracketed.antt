@@ -10,18 +10,18 @@ use Rattle.cedar_grammar.specs.Kinds.{code, is, is_closing}
 use Rattle.cedar_grammar.specs.TokenKinds.{fixed_tokens}
 use Rattle.cedar_grammar.specs.Trees.{Label, Forest, none, leaf, branch, join, yield}
 use Rattle.cedar_grammar.specs.TrailingCommas.{without_trailing, drop_if, closes_next}
-use Rattle.cedar_grammar.specs.Reader.Reading.{Reader, done, stuck, both, tree, one}
+use Rattle.cedar_grammar.specs.Reader.Reading.{Answer, Reader, done, stuck, both, tree, one}
 use Rattle.cedar_grammar.proofs.ReadingLaws.{both_done, both_fails, both_then_fails, tree_done, tree_fails}
-use Rattle.cedar_cst.specs.Erased.{Erased, expr_parts, primary_parts}
+use Rattle.cedar_cst.specs.Erased.{Erased, variant, access_parts, primary_parts}
 use Rattle.cedar_cst.specs.Lexemes.{nodes_of}
 use Rattle.cedar_cst.specs.NodeTrees.{is_node, span_of}
-use Rattle.cedar_cst.specs.Reading.{kind, Stands, PassesOn, ClosesWith, GivesNode}
-use Rattle.cedar_cst.specs.ReadingItems.{item_trees, StandsItems, GivesItems, IsListOf}
+use Rattle.cedar_cst.specs.Reading.{kind, Fails, Stands, PassesOn, ClosesWith, GivesNode}
+use Rattle.cedar_cst.specs.ReadingItems.{item_trees, StandsItems, GivesItems}
 use Rattle.cedar_cst.specs.ReadingParts.{Makes}
 use Rattle.cedar_cst.specs.declared.cst.lexeme.Lexeme.{Lexeme}
 use Rattle.cedar_cst.specs.declared.cst.reading.Refusal.{Refusal}
 use Rattle.cedar_cst.specs.declared.cst.tree.Node.{Node}
-use Rattle.cedar_cst.specs.declared.cst.tree.Expr as Expr
+use Rattle.cedar_cst.specs.declared.cst.tree.MemAccess as MemAccess
 use Rattle.cedar_cst.specs.declared.cst.tree.Primary as Primary
 use Rattle.cedar_cst.proofs.LeafTexts.{shown, kept, from_to, nodes_fixed, covers_node, kept_leaf, end_append}
 use Rattle.cedar_cst.proofs.Rows.{right_join, row_span, row_parts}
@@ -60,31 +60,85 @@ row_brackets o t a b trees f e h i d c j m s = record {
       ∙ ap (λ z. Some (record { start = o.span.start; end = z })) (end_append o.span q.0 t []);
 }
 
--- a list of what P reads, behind its opening bracket
-module _ (P : Reader Lexeme) where
-  abbrev pub bracket_reader : Reader Lexeme
-  bracket_reader = tree Label.primary (tree Label.list (both (one kind K.LBracket) (both P (one kind K.RBracket))))
+-- a kind that opens and one that closes, with their texts
+pub record Encloses (a b : Kind) (x z : List ℕ) : Type 0 where
+  pub comma : is K.Comma a ≡ false
+  pub number : is K.Number a ≡ false
+  pub opens : (u : List ℕ) → shown (code a) fixed_tokens u ≡ x
+  pub closing : is_closing b ≡ true
+  pub no_comma : is K.Comma b ≡ false
+  pub no_number : is K.Number b ≡ false
+  pub closes : (u : List ℕ) → shown (code b) fixed_tokens u ≡ z
 
-  pub list_fails : (ts : List Lexeme) (b : Bool) (r : List Lexeme) → both (one kind K.LBracket) (both P (one kind K.RBracket)) ts ≡ stuck b r → bracket_reader ts ≡ stuck b r
-  list_fails ts b r e = tree_fails Label.primary _ ts b r (tree_fails Label.list _ ts b r e)
+module _ {X : Type 0} (l : Label) (parts : X → Erased) (x z : List ℕ) where
+  abbrev pub enclosed_trees : Vec (Node X) Global → Erased
+  enclosed_trees v = leaf x (join (item_trees l parts v.items) (leaf z none))
 
-  pub list_gives : (read : Result (Vec (Node Expr.Expr) Global × Bor (List Lexeme)) Refusal) (closed : Result ((Vec (Node Expr.Expr) Global × ℕ) × Bor (List Lexeme)) Refusal) (result : Result (Node Primary.Primary × Bor (List Lexeme)) Refusal)
-      (ts rest : List Lexeme) (o : Lexeme) → one kind K.LBracket ts ≡ done (leaf o none) rest → o.kind ≡ K.LBracket → GivesItems Label.expr expr_parts read (P rest) → ClosesWith K.RBracket read closed
-      → PassesOn closed result → Makes (IsListOf o.span.start) closed result → GivesNode Label.primary primary_parts result (bracket_reader ts)
-  list_gives (Ok x) (Ok y) (Ok z) ts rest o e h g c p m =
-      let f : Forest Label Lexeme = leaf o (join g.0 (leaf c.1 none)) in
-      let whole = both_done (one kind K.LBracket) (both P (one kind K.RBracket)) ts (leaf o none) rest (join g.0 (leaf c.1 none)) y.1.now e (both_done P (one kind K.RBracket) rest g.0 x.1.now (leaf c.1 none) y.1.now g.1 c.2) in (
-        branch Label.list f none,
-        tree_done Label.primary _ ts _ y.1.now (tree_done Label.list _ ts f y.1.now whole) ∙ ap (λ (w : Bor (List Lexeme)). done (branch Label.primary (branch Label.list f none) none) w.now) (sym p),
-        row_span _ _ _ _ (sym (m.1 ∙ ap (λ w. record { start = o.span.start; end = w }) c.4))
-            (row_parts _ _ _ _ (m.0 ∙ ap (λ (w : Vec (Node Expr.Expr) Global). branch (Label.list, None) (leaf (codes "[") (join (item_trees Label.expr expr_parts w.items) (leaf (codes "]") none))) none) c.0)
-            (row_variant Label.list _ _ f refl (row_brackets o c.1 K.LBracket K.RBracket _ g.0 h refl refl c.3 refl refl refl g.2))),
-      )
-  list_gives (Ok x) (Ok y) (Err f) ts rest o e h g c p m = rw p tt
-  list_gives (Ok x) (Err f) (Ok z) ts rest o e h g c p m = absurd p
-  list_gives (Ok x) (Err f) (Err q) ts rest o e h g c p m =
-      rw p (passes f _ _ c (λ b r i. list_fails ts b r (both_then_fails (one kind K.LBracket) (both P (one kind K.RBracket)) ts (leaf o none) rest b r e (both_then_fails P (one kind K.RBracket) rest g.0 x.1.now b r g.1 i))))
-  list_gives (Err f) (Ok y) result ts rest o e h g c p m = absurd c
-  list_gives (Err f) (Err q) (Ok z) ts rest o e h g c p m = absurd p
-  list_gives (Err f) (Err q) (Err w) ts rest o e h g c p m =
-      rw (p, c) (passes f _ _ g (λ b r i. list_fails ts b r (both_then_fails (one kind K.LBracket) (both P (one kind K.RBracket)) ts (leaf o none) rest b r e (both_fails P (one kind K.RBracket) rest b r i))))
+  -- the items that were read stand with their brackets for the trees that the reader gives; or the refusal is the reader's
+  abbrev pub GivesEnclosed : ℕ → Result ((Vec (Node X) Global × ℕ) × Bor (List Lexeme)) Refusal → Answer Lexeme → Type 0
+  GivesEnclosed start (Ok y) a = (f : Forest Label Lexeme) × (a ≡ done f y.1.now) × Stands (record { start = start; end = y.0.1 }) (enclosed_trees y.0.0) f
+  GivesEnclosed start (Err e) a = Fails e a
+
+  -- P reads the items
+  module _ (a b : Kind) (fits : Encloses a b x z) (P : Reader Lexeme) where
+    abbrev pub enclosed_reader : Reader Lexeme
+    enclosed_reader = both (one kind a) (both P (one kind b))
+
+    pub enclosed_gives : (read : Result (Vec (Node X) Global × Bor (List Lexeme)) Refusal) (closed : Result ((Vec (Node X) Global × ℕ) × Bor (List Lexeme)) Refusal) (ts rest : List Lexeme) (o : Lexeme) → one kind a ts ≡ done (leaf o none) rest → o.kind ≡ a
+        → GivesItems l parts read (P rest) → ClosesWith b read closed → GivesEnclosed o.span.start closed (enclosed_reader ts)
+    enclosed_gives (Ok v) (Ok y) ts rest o e h g c = (
+      leaf o (join g.0 (leaf c.1 none)),
+      both_done (one kind a) (both P (one kind b)) ts (leaf o none) rest (join g.0 (leaf c.1 none)) y.1.now e (both_done P (one kind b) rest g.0 v.1.now (leaf c.1 none) y.1.now g.1 c.2),
+      row_span _ _ _ _ (ap (λ w. record { start = o.span.start; end = w }) (sym c.4))
+          (row_parts _ _ _ _ (ap (λ (w : Vec (Node X) Global). enclosed_trees w) c.0 ∙ ap (λ w. leaf w (join (item_trees l parts v.0.items) (leaf z none))) (sym (fits.opens o.text.now))
+          ∙ ap (λ w. leaf (shown (code a) fixed_tokens o.text.now) (join (item_trees l parts v.0.items) (leaf w none))) (sym (fits.closes c.1.text.now)))
+          (row_brackets o c.1 a b _ g.0 h fits.comma fits.number c.3 fits.closing fits.no_comma fits.no_number g.2)),
+    )
+    enclosed_gives (Ok v) (Err f) ts rest o e h g c =
+        passes f _ _ c (λ y r i. both_then_fails (one kind a) (both P (one kind b)) ts (leaf o none) rest y r e (both_then_fails P (one kind b) rest g.0 v.1.now y r g.1 i))
+    enclosed_gives (Err f) (Ok y) ts rest o e h g c = absurd c
+    enclosed_gives (Err f) (Err q) ts rest o e h g c = rw c (passes f _ _ g (λ y r i. both_then_fails (one kind a) (both P (one kind b)) ts (leaf o none) rest y r e (both_fails P (one kind b) rest y r i)))
+
+  -- what is in the brackets as a primary of its own variant
+  abbrev pub IsEnclosedOf : Label → ℕ → Vec (Node X) Global × ℕ → Node Primary.Primary → Type 0
+  IsEnclosedOf v start y n = (primary_parts n.inner ≡ variant v (enclosed_trees y.0) none) × (n.span ≡ record { start = start; end = y.1 })
+
+  pub primary_gives : (v : Label) → is_node v ≡ false → (Q : Reader Lexeme) (start : ℕ) (closed : Result ((Vec (Node X) Global × ℕ) × Bor (List Lexeme)) Refusal) (result : Result (Node Primary.Primary × Bor (List Lexeme)) Refusal) (ts : List Lexeme) → GivesEnclosed start closed (Q ts)
+      → PassesOn closed result → Makes (IsEnclosedOf v start) closed result → GivesNode Label.primary primary_parts result (tree Label.primary (tree v Q) ts)
+  primary_gives v i Q start (Ok y) (Ok n) ts g p m = (
+    branch v g.0 none,
+    tree_done Label.primary _ ts _ y.1.now (tree_done v Q ts g.0 y.1.now g.1) ∙ ap (λ (w : Bor (List Lexeme)). done (branch Label.primary (branch v g.0 none) none) w.now) (sym p),
+    row_span _ _ _ _ (sym m.1) (row_parts _ _ _ _ m.0 (row_variant v _ _ g.0 i g.2)),
+  )
+  primary_gives v i Q start (Ok y) (Err e) ts g p m = rw p tt
+  primary_gives v i Q start (Err f) (Ok n) ts g p m = absurd p
+  primary_gives v i Q start (Err f) (Err e) ts g p m = rw p (passes f _ _ g (λ b r k. tree_fails Label.primary _ ts b r (tree_fails v Q ts b r k)))
+
+  -- what is in the brackets as an access
+  abbrev pub IsAccessOf : ℕ → Vec (Node X) Global × ℕ → Node MemAccess.MemAccess → Type 0
+  IsAccessOf start y n = (access_parts n.inner ≡ enclosed_trees y.0) × (n.span ≡ record { start = start; end = y.1 })
+
+  pub access_gives : (Q : Reader Lexeme) (start : ℕ) (closed : Result ((Vec (Node X) Global × ℕ) × Bor (List Lexeme)) Refusal) (result : Result (Node MemAccess.MemAccess × Bor (List Lexeme)) Refusal) (ts : List Lexeme) → GivesEnclosed start closed (Q ts) → PassesOn closed result
+      → Makes (IsAccessOf start) closed result → GivesNode Label.access access_parts result (tree Label.access Q ts)
+  access_gives Q start (Ok y) (Ok n) ts g p m = (
+    g.0,
+    tree_done Label.access Q ts g.0 y.1.now g.1 ∙ ap (λ (w : Bor (List Lexeme)). done (branch Label.access g.0 none) w.now) (sym p),
+    row_span _ _ _ _ (sym m.1) (row_parts _ _ _ _ m.0 g.2),
+  )
+  access_gives Q start (Ok y) (Err e) ts g p m = rw p tt
+  access_gives Q start (Err f) (Ok n) ts g p m = absurd p
+  access_gives Q start (Err f) (Err e) ts g p m = rw p (passes f _ _ g (λ b r k. tree_fails Label.access Q ts b r k))
+
+-- the brackets of the grammar
+pub square : Encloses K.LBracket K.RBracket (codes "[") (codes "]")
+square = record { comma = refl; number = refl; opens = λ u. refl; closing = refl; no_comma = refl; no_number = refl; closes = λ u. refl }
+
+pub round : Encloses K.LParen K.RParen (codes "(") (codes ")")
+round = record { comma = refl; number = refl; opens = λ u. refl; closing = refl; no_comma = refl; no_number = refl; closes = λ u. refl }
+
+pub curly : Encloses K.LBrace K.RBrace (codes "{") (codes "}")
+curly = record { comma = refl; number = refl; opens = λ u. refl; closing = refl; no_comma = refl; no_number = refl; closes = λ u. refl }
+
+-- P reads what is in square brackets
+pub list_fails : (P : Reader Lexeme) (ts : List Lexeme) (b : Bool) (r : List Lexeme) → both (one kind K.LBracket) (both P (one kind K.RBracket)) ts ≡ stuck b r → tree Label.primary (tree Label.list (both (one kind K.LBracket) (both P (one kind K.RBracket)))) ts ≡ stuck b r
+list_fails P ts b r e = tree_fails Label.primary _ ts b r (tree_fails Label.list _ ts b r e)

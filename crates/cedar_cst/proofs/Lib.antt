@@ -2,9 +2,12 @@ pub mod NodeLaws
 pub mod Steps
 pub mod LeafTexts
 pub mod Rows
+pub mod Chains
 pub mod Views
+pub mod Ends
 pub mod Paths
 pub mod Operands
+pub mod Accesses
 pub mod NumberTexts
 pub mod Literals
 pub mod Tails
@@ -13,9 +16,14 @@ pub mod Variables
 pub mod Listed
 pub mod LoneExprs
 pub mod Bracketed
+pub mod Relations
+pub mod Nesting
 pub mod Scopes
+pub mod Branches
+pub mod Primaries
 pub mod Closed
 pub mod Manys
+pub mod Depths
 pub mod Whole
 pub mod RefusalLaws
 pub mod ErasedSame

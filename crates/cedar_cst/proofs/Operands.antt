@@ -20,6 +20,7 @@ use Rattle.cedar_cst.specs.declared.cst.tree.Name.{Name}
 use Rattle.cedar_cst.specs.declared.cst.tree.Primary as Primary
 use Rattle.cedar_cst.specs.declared.cst.tree.MemAccess as MemAccess
 use Rattle.cedar_cst.specs.declared.cst.tree.Add as Add
+use Rattle.cedar_grammar.specs.TrailingCommas.{closes_next}
 use Rattle.cedar_cst.proofs.LeafTexts.{covers_leaf, nodes_own}
 use Rattle.cedar_cst.proofs.Rows.{row_node, row_join, row_parts, row_span, Chain, chain_first, chain_next, chain_stuck, chain_end}
 use Rattle.cedar_cst.proofs.Steps.{passes}
@@ -36,6 +37,14 @@ module _ (P : Reader Lexeme) where
 
   pub operand_fails : (ts : List Lexeme) (x : Bool) (r : List Lexeme) → P ts ≡ stuck x r → tree Label.add (tree Label.mult (tree Label.unary (tree Label.member P))) ts ≡ stuck x r
   operand_fails ts x r e = tree_fails Label.add _ ts x r (tree_fails Label.mult _ ts x r (tree_fails Label.unary _ ts x r (tree_fails Label.member P ts x r e)))
+
+  -- the same of what reads a member
+  pub members_done : (ts : List Lexeme) (f : Forest Label Lexeme) (r : List Lexeme) → tree Label.member P ts ≡ done (branch Label.member f none) r
+      → tree Label.add (tree Label.mult (tree Label.unary (tree Label.member P))) ts ≡ done (branch Label.add (branch Label.mult (branch Label.unary (branch Label.member f none) none) none) none) r
+  members_done ts f r e = tree_done Label.add _ ts _ r (tree_done Label.mult _ ts _ r (tree_done Label.unary _ ts _ r e))
+
+  pub members_fail : (ts : List Lexeme) (x : Bool) (r : List Lexeme) → tree Label.member P ts ≡ stuck x r → tree Label.add (tree Label.mult (tree Label.unary (tree Label.member P))) ts ≡ stuck x r
+  members_fail ts x r e = tree_fails Label.add _ ts x r (tree_fails Label.mult _ ts x r (tree_fails Label.unary _ ts x r e))
 
 abbrev pub member_row : Node Primary.Primary → List (Node MemAccess.MemAccess) → Erased
 member_row item access = node Label.primary item.span (primary_parts item.inner) (access_items access)
@@ -64,7 +73,7 @@ field_reader = tree Label.access (both (one kind K.Dot) word)
 abbrev pub dotted : List Lexeme → Bool
 dotted ts = begins kind (is K.Dot) ts
 
-field_takes : Takes field_reader
+pub field_takes : Takes field_reader
 field_takes = tree_takes Label.access _ (both_takes (one kind K.Dot) word (token_takes kind (is K.Dot)) (tree_takes Label.ident (token kind is_ident) (token_takes kind is_ident)))
 
 pub end_none : (e : ℕ) (ns : List (Node MemAccess.MemAccess)) → length ns ≤ 0 → e ≡ last_end e ns
@@ -81,45 +90,50 @@ end_at e (x ∷ (y ∷ ns)) (suc k) n l h = end_at x.span.end (y ∷ ns) k n (om
 pub end_some : (e : ℕ) (ns : List (Node MemAccess.MemAccess)) (n : Node MemAccess.MemAccess) → 0 < length ns → Some n ≡ slice_get ns (length ns - 1) → n.span.end ≡ last_end e ns
 end_some e ns n l h = end_at e ns (length ns - 1) n (omega (arith, l)) (sym h)
 
-pub last_grow : (e : ℕ) (ns : List (Node MemAccess.MemAccess)) (n : Node MemAccess.MemAccess) → last_end e (ns ++ n ∷ []) ≡ n.span.end
-last_grow e [] n = refl
-last_grow e (x ∷ ns) n = last_grow x.span.end ns n
+-- where the last of some accesses behind others ends
+pub last_behind : (e : ℕ) (ns ms : List (Node MemAccess.MemAccess)) (u : ℕ) → ((z : ℕ) → last_end z ms ≡ u) → last_end e (ns ++ ms) ≡ u
+last_behind e [] ms u h = h e
+last_behind e (x ∷ ns) ms u h = last_behind x.span.end ns ms u h
 
-access_grow : (ns : List (Node MemAccess.MemAccess)) (n : Node MemAccess.MemAccess) → access_items (ns ++ n ∷ []) ≡ join (access_items ns) (node Label.access n.span (access_parts n.inner) none)
-access_grow [] n = refl
-access_grow (x ∷ ns) n = ap (node Label.access x.span (access_parts x.inner)) (access_grow ns n)
+accesses_behind : (ns ms : List (Node MemAccess.MemAccess)) → access_items (ns ++ ms) ≡ join (access_items ns) (access_items ms)
+accesses_behind [] ms = refl
+accesses_behind (x ∷ ns) ms = ap (node Label.access x.span (access_parts x.inner)) (accesses_behind ns ms)
 
--- a primary and the accesses read so far, where these are read so
-pub record AccessesRead (item : Node Primary.Primary) (access : List (Node MemAccess.MemAccess)) (ts rest : List Lexeme) : Type 0 where
-  pub row : Forest Label Lexeme
-  pub chain : Chain Label.member head dotted field_reader ts row rest
-  pub stands : Stands (record { start = item.span.start; end = last_end item.span.end access }) (member_row item access) row
+-- I reads a primary, and P accesses in it as long as t holds
+module _ (I : Reader Lexeme) (t : List Lexeme → Bool) (P : Reader Lexeme) where
+  -- a primary and the accesses read so far, where these are read so
+  pub record AccessesRead (item : Node Primary.Primary) (access : List (Node MemAccess.MemAccess)) (ts rest : List Lexeme) : Type 0 where
+    pub row : Forest Label Lexeme
+    pub chain : Chain Label.member I t P ts row rest
+    pub stands : Stands (record { start = item.span.start; end = last_end item.span.end access }) (member_row item access) row
 
-pub accesses_first : (item : Node Primary.Primary) (ts rest : List Lexeme) (f : Forest Label Lexeme) → head ts ≡ done (branch Label.primary f none) rest → Stands item.span (primary_parts item.inner) f → AccessesRead item [] ts rest
-accesses_first item ts rest f e h = record {
-  row = branch Label.primary f none;
-  chain = chain_first Label.member head dotted field_reader ts (branch Label.primary f none) rest e;
-  stands = row_node Label.primary item.span (primary_parts item.inner) f refl h;
-}
+  pub accesses_first : (item : Node Primary.Primary) (access : List (Node MemAccess.MemAccess)) (ts rest : List Lexeme) (row : Forest Label Lexeme) → I ts ≡ done row rest
+      → Stands (record { start = item.span.start; end = last_end item.span.end access }) (member_row item access) row → AccessesRead item access ts rest
+  accesses_first item access ts rest row e h = record { row = row; chain = chain_first Label.member I t P ts row rest e; stands = h }
 
-pub accesses_next : (item : Node Primary.Primary) (access more : List (Node MemAccess.MemAccess)) (ts rest s : List Lexeme) (n : Node MemAccess.MemAccess) (f : Forest Label Lexeme) → AccessesRead item access ts rest → dotted rest ≡ true
-    → field_reader rest ≡ done (branch Label.access f none) s → Stands n.span (access_parts n.inner) f → more ≡ access ++ n ∷ [] → AccessesRead item more ts s
-accesses_next item access more ts rest s n f p t e h m =
-    let g : Forest Label Lexeme = branch Label.access f none in
-    rw m (record {
-      row = join p.row g;
-      chain = chain_next Label.member head dotted field_reader field_takes ts p.row rest g s p.chain t e;
-      stands = row_parts _ _ _ _ (ap (node Label.primary item.span (primary_parts item.inner)) (access_grow access n)) (row_span _ _ _ _ (ap (λ z. record { start = item.span.start; end = z }) (sym (last_grow item.span.end access n)))
-          (row_join _ _ _ _ p.row g refl p.stands (row_node Label.access n.span (access_parts n.inner) f refl h)));
-    })
+  -- accesses from one turn, which end at u
+  pub accesses_next : Takes P → (item : Node Primary.Primary) (access extra more : List (Node MemAccess.MemAccess)) (ts rest s : List Lexeme) (u : Span) (g : Forest Label Lexeme) → AccessesRead item access ts rest → t rest ≡ true → P rest ≡ done g s
+      → closes_next kind g ≡ false → Stands u (access_items extra) g → ((z : ℕ) → last_end z extra ≡ u.end) → more ≡ access ++ extra → AccessesRead item more ts s
+  accesses_next takes item access extra more ts rest s u g p h e c w l m = rw m (record {
+    row = join p.row g;
+    chain = chain_next Label.member I t P takes ts p.row rest g s p.chain h e;
+    stands = row_parts _ _ _ _ (ap (node Label.primary item.span (primary_parts item.inner)) (accesses_behind access extra))
+        (row_span _ _ _ _ (ap (λ z. record { start = item.span.start; end = z }) (sym (last_behind item.span.end access extra u.end l))) (row_join _ _ _ _ p.row g c p.stands w));
+  })
 
-pub accesses_stuck : (item : Node Primary.Primary) (access : List (Node MemAccess.MemAccess)) (ts rest : List Lexeme) (x : Bool) (s : List Lexeme) → AccessesRead item access ts rest → dotted rest ≡ true → field_reader rest ≡ stuck x s
-    → tree Label.add (tree Label.mult (tree Label.unary (tree Label.member (both head (repeat dotted field_reader))))) ts ≡ stuck x s
-accesses_stuck item access ts rest x s p t e = tree_fails Label.add _ ts x s (tree_fails Label.mult _ ts x s (tree_fails Label.unary _ ts x s (chain_stuck Label.member head dotted field_reader ts p.row rest x s p.chain t e)))
+  pub accesses_stuck : (item : Node Primary.Primary) (access : List (Node MemAccess.MemAccess)) (ts rest : List Lexeme) (x : Bool) (s : List Lexeme) → AccessesRead item access ts rest → t rest ≡ true → P rest ≡ stuck x s
+      → tree Label.member (both I (repeat t P)) ts ≡ stuck x s
+  accesses_stuck item access ts rest x s p h e = chain_stuck Label.member I t P ts p.row rest x s p.chain h e
 
-pub accesses_end : (item : Node Primary.Primary) (access : List (Node MemAccess.MemAccess)) (ts rest : List Lexeme) → (p : AccessesRead item access ts rest) → dotted rest ≡ false
-    → tree Label.add (tree Label.mult (tree Label.unary (tree Label.member (both head (repeat dotted field_reader))))) ts ≡ done (branch Label.add (branch Label.mult (branch Label.unary (branch Label.member p.row none) none) none) none) rest
-accesses_end item access ts rest p t = tree_done Label.add _ ts _ rest (tree_done Label.mult _ ts _ rest (tree_done Label.unary _ ts _ rest (chain_end Label.member head dotted field_reader ts p.row rest p.chain t)))
+  pub accesses_end : (item : Node Primary.Primary) (access : List (Node MemAccess.MemAccess)) (ts rest : List Lexeme) → (p : AccessesRead item access ts rest) → t rest ≡ false → tree Label.member (both I (repeat t P)) ts ≡ done (branch Label.member p.row none) rest
+  accesses_end item access ts rest p h = chain_end Label.member I t P ts p.row rest p.chain h
+
+pub fields_first : (item : Node Primary.Primary) (ts rest : List Lexeme) (f : Forest Label Lexeme) → head ts ≡ done (branch Label.primary f none) rest → Stands item.span (primary_parts item.inner) f → AccessesRead head dotted field_reader item [] ts rest
+fields_first item ts rest f e h = accesses_first head dotted field_reader item [] ts rest (branch Label.primary f none) e (row_node Label.primary item.span (primary_parts item.inner) f refl h)
+
+-- one access
+pub one_access : (n : Node MemAccess.MemAccess) (f : Forest Label Lexeme) → Stands n.span (access_parts n.inner) f → Stands n.span (access_items (n ∷ [])) (branch Label.access f none)
+one_access n f h = row_node Label.access n.span (access_parts n.inner) f refl h
 
 pub keep_shorter : {X : Type 0} (read : Result (Node X × Bor (List Lexeme)) Refusal) (old new : List (Node X)) (rest : Bor (List Lexeme)) (u : Unit {0}) (m : ℕ) → IfOk read (λ x. length x.1.now < m) → Keeps read old new rest (Ok u) → length rest.now < m
 keep_shorter (Ok x) old new rest u m h k = rw k.1 h

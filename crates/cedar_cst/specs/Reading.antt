@@ -1,5 +1,5 @@
 -- What the steps over tokens keep.
-use Rattle.std.specs.Prelude.{◌≡◌, ◌||◌, ◌<◌, ℕ, Bool, true, false, List, [], ◌∷◌, ◌++◌, length, Result, Ok, Err, Option, Some, None, ◌-◌, MatchOption, codes, ◌⊎◌, Vec, Box, box_value}
+use Rattle.std.specs.Prelude.{◌≡◌, ◌||◌, ◌<◌, ℕ, Bool, true, false, List, [], ◌∷◌, ◌++◌, length, Result, Ok, Err, Option, Some, None, ◌-◌, MatchOption, codes, ◌⊎◌, Vec}
 use Rattle.std.specs.declared.alloc.Global.{Global}
 use Rattle.std.specs.List.{slice_get}
 use Rattle.std.specs.Borrow.{Bor}
@@ -43,13 +43,6 @@ abbrev pub Closes : {X : Type 0} → Result (X × Bor (List Lexeme)) Refusal →
 Closes (Ok x) (Ok y) = (y.0.0 ≡ x.0) × (length y.1.now < length x.1.now)
 Closes (Err f) (Ok y) = ⊥
 Closes _ (Err e) = Unit {0}
-
--- what was read stands in the box, and the tokens after it are left
-abbrev pub Boxes : {X : Type 0} → Result (X × Bor (List Lexeme)) Refusal → Result (Box X Global × Bor (List Lexeme)) Refusal → Type 0
-Boxes (Ok x) (Ok y) = (box_value y.0 ≡ x.0) × (y.1 ≡ x.1)
-Boxes (Ok x) (Err e) = e ≡ OutOfMemory
-Boxes (Err f) (Ok y) = ⊥
-Boxes (Err f) (Err e) = e ≡ f
 
 -- after a success the tokens after it are left, or memory is wanting; a refusal is passed on
 abbrev pub PassesOn : {X Y : Type 0} → Result (X × Bor (List Lexeme)) Refusal → Result (Y × Bor (List Lexeme)) Refusal → Type 0

@@ -1,5 +1,14 @@
 //! Expressions. Recursion goes down the nesting alone; `depth` says how many brackets and `if`s may still be nested.
-ghost use Rattle.std.specs.Prelude.{◌<◌, ◌≤◌, length, IfOk};
+ghost use Rattle.std.specs.Prelude.{suc, ◌<◌, ◌≤◌, length, IfOk};
+ghost use Rattle.cedar_grammar.specs.Kinds.{is_comparison};
+ghost use Rattle.cedar_grammar.specs.Trees.{Label};
+ghost use Rattle.cedar_grammar.specs.declared.kind.Kind.TheVariants as K;
+ghost use Rattle.cedar_grammar.specs.Reader.Rules.{inner, leaf_of, items, reference};
+ghost use Rattle.cedar_grammar.specs.Reader.Lines.{◌▸◌, one_of, maybe, path, call_parts, call, init, item, member_rule, unary_rule, mult_rule, add_rule, relation_rule, and_rule, or_rule, expr_rule};
+ghost use Rattle.cedar_cst.specs.Erased.{expr_parts, or_parts, relation_parts, add_parts, mult_parts, unary_parts, access_parts, primary_parts};
+ghost use Rattle.cedar_cst.specs.Reading.{GivesNode, GivesBehind, relop_kind};
+ghost use Rattle.cedar_cst.specs.ReadingItems.{GivesItems};
+ghost use Rattle.cedar_cst.specs.ReadingExprs.{at_depth, and_parts, member_parts, init_parts, if_rule, bracket_rule, GivesSigned, GivesTypeTest, GivesItem};
 
 use crate::cst::lexeme::Lexeme;
 use crate::cst::nodes::{
@@ -8,7 +17,7 @@ use crate::cst::nodes::{
     or_node, parens_node, record_node, unary_node, with_sign, with_type,
 };
 use crate::cst::reading::{
-    Parsed, begins, boxed, closed_by, expect, keep, past, refuse, skip, start_of, too_deep,
+    Parsed, begins, closed_by, expect, keep, past, refuse, skip, start_of, too_deep,
 };
 use crate::cst::tree::{
     Add, And, Expr, MemAccess, Member, Mult, MultOp, Name, Node, Or, Primary, RecInit, RelOp,
@@ -16,8 +25,8 @@ use crate::cst::tree::{
 };
 use crate::cst::words::{
     begins_access, begins_bracket, begins_comparison, begins_expression, begins_identifier,
-    begins_key, begins_variable, entity_node, name_primary, parse_comparison_sign, parse_field,
-    parse_has_field, parse_index, parse_key, parse_literal, parse_path, parse_pattern, parse_words,
+    begins_key, begins_variable, entity_node, name_primary, parse_access, parse_comparison_sign,
+    parse_has_field, parse_key, parse_literal, parse_path, parse_pattern, parse_words,
     past_sum_sign, read_signs,
 };
 use cedar_grammar::kind::Kind;
@@ -30,7 +39,8 @@ pub fn parse_expr<'t, 'src>(
     tokens: &'t [Lexeme<'src>],
     depth: usize,
 ) -> Parsed<'t, 'src, Node<Expr<'src>>>
-    ensures { IfOk result (λ x. length x.1.now < length tokens.now) }
+    ensures shorter { IfOk result (λ x. length x.1.now < length tokens.now) }
+    ensures reads { GivesNode Label.expr expr_parts result (at_depth depth expr_rule tokens.now) }
 {
     if begins(tokens, Kind::If) {
         if depth == 0 {
@@ -48,12 +58,13 @@ fn parse_if<'t, 'src>(
     tokens: &'t [Lexeme<'src>],
     depth: usize,
 ) -> Parsed<'t, 'src, Node<Expr<'src>>>
-    ensures { IfOk result (λ x. length x.1.now < length tokens.now) }
+    ensures shorter { IfOk result (λ x. length x.1.now < length tokens.now) }
+    ensures reads { GivesNode Label.expr expr_parts result (at_depth (suc depth) if_rule tokens.now) }
 {
     let (test, rest) = parse_branch(alloc, tokens, Kind::If, depth)?;
     let (yes, rest) = parse_branch(alloc, rest, Kind::Then, depth)?;
     let (no, rest) = parse_branch(alloc, rest, Kind::Else, depth)?;
-    Ok((if_node(start_of(tokens), test, yes, no), rest))
+    Ok((if_node(alloc, start_of(tokens), test, yes, no)?, rest))
 }
 
 // A keyword, and the expression after it.
@@ -63,11 +74,12 @@ fn parse_branch<'t, 'src>(
     tokens: &'t [Lexeme<'src>],
     keyword: Kind,
     depth: usize,
-) -> Parsed<'t, 'src, Box<Node<Expr<'src>>>>
-    ensures { IfOk result (λ x. length x.1.now < length tokens.now) }
+) -> Parsed<'t, 'src, Node<Expr<'src>>>
+    ensures shorter { IfOk result (λ x. length x.1.now < length tokens.now) }
+    ensures reads { GivesBehind keyword Label.expr expr_parts result (at_depth (suc depth) (one_of keyword ▸ inner) tokens.now) }
 {
     match past(tokens, keyword) {
-        Some(after) => boxed(alloc, parse_expr(alloc, after, depth)),
+        Some(after) => parse_expr(alloc, after, depth),
         None => Err(refuse(tokens)),
     }
 }
@@ -79,7 +91,8 @@ fn parse_or<'t, 'src>(
     tokens: &'t [Lexeme<'src>],
     depth: usize,
 ) -> Parsed<'t, 'src, Node<Or<'src>>>
-    ensures { IfOk result (λ x. length x.1.now < length tokens.now) }
+    ensures shorter { IfOk result (λ x. length x.1.now < length tokens.now) }
+    ensures reads { GivesNode Label.or or_parts result (at_depth depth or_rule tokens.now) }
 {
     let (initial, mut rest) = parse_and(alloc, tokens, depth)?;
     let mut extended = Vec::new(alloc);
@@ -96,7 +109,8 @@ fn parse_and<'t, 'src>(
     tokens: &'t [Lexeme<'src>],
     depth: usize,
 ) -> Parsed<'t, 'src, Node<And<'src>>>
-    ensures { IfOk result (λ x. length x.1.now < length tokens.now) }
+    ensures shorter { IfOk result (λ x. length x.1.now < length tokens.now) }
+    ensures reads { GivesNode Label.and and_parts result (at_depth depth and_rule tokens.now) }
 {
     let (initial, mut rest) = parse_relation(alloc, tokens, depth)?;
     let mut extended = Vec::new(alloc);
@@ -117,7 +131,8 @@ fn parse_relation<'t, 'src>(
     tokens: &'t [Lexeme<'src>],
     depth: usize,
 ) -> Parsed<'t, 'src, Node<Relation<'src>>>
-    ensures { IfOk result (λ x. length x.1.now < length tokens.now) }
+    ensures shorter { IfOk result (λ x. length x.1.now < length tokens.now) }
+    ensures reads { GivesNode Label.relation relation_parts result (at_depth depth relation_rule tokens.now) }
 {
     let (target, rest) = parse_add(alloc, tokens, depth)?;
     if begins_comparison(rest) {
@@ -142,7 +157,8 @@ fn parse_compared<'t, 'src>(
     tokens: &'t [Lexeme<'src>],
     depth: usize,
 ) -> Parsed<'t, 'src, (RelOp, Node<Add<'src>>)>
-    ensures { IfOk result (λ x. length x.1.now < length tokens.now) }
+    ensures shorter { IfOk result (λ x. length x.1.now < length tokens.now) }
+    ensures reads { GivesSigned relop_kind Label.add add_parts result (at_depth depth (leaf_of is_comparison ▸ add_rule) tokens.now) }
 {
     let (op, rest) = parse_comparison_sign(tokens)?;
     with_sign(op, parse_add(alloc, rest, depth))
@@ -155,7 +171,8 @@ fn parse_type_test<'t, 'src>(
     tokens: &'t [Lexeme<'src>],
     depth: usize,
 ) -> Parsed<'t, 'src, (Node<Name<'src>>, Option<Node<Add<'src>>>)>
-    ensures { IfOk result (λ x. length x.1.now < length tokens.now) }
+    ensures shorter { IfOk result (λ x. length x.1.now < length tokens.now) }
+    ensures reads { GivesTypeTest result (at_depth depth (one_of K.Is ▸ path ▸ maybe (one_of K.In ▸ add_rule)) tokens.now) }
 {
     let (_, rest) = expect(tokens, Kind::Is)?;
     let (entity_type, rest) = parse_path(alloc, rest)?;
@@ -172,7 +189,8 @@ fn parse_add<'t, 'src>(
     tokens: &'t [Lexeme<'src>],
     depth: usize,
 ) -> Parsed<'t, 'src, Node<Add<'src>>>
-    ensures { IfOk result (λ x. length x.1.now < length tokens.now) }
+    ensures shorter { IfOk result (λ x. length x.1.now < length tokens.now) }
+    ensures reads { GivesNode Label.add add_parts result (at_depth depth add_rule tokens.now) }
 {
     let (initial, mut rest) = parse_mult(alloc, tokens, depth)?;
     let mut extended = Vec::new(alloc);
@@ -193,7 +211,8 @@ fn parse_mult<'t, 'src>(
     tokens: &'t [Lexeme<'src>],
     depth: usize,
 ) -> Parsed<'t, 'src, Node<Mult<'src>>>
-    ensures { IfOk result (λ x. length x.1.now < length tokens.now) }
+    ensures shorter { IfOk result (λ x. length x.1.now < length tokens.now) }
+    ensures reads { GivesNode Label.mult mult_parts result (at_depth depth mult_rule tokens.now) }
 {
     let (initial, mut rest) = parse_unary(alloc, tokens, depth)?;
     let mut extended = Vec::new(alloc);
@@ -211,14 +230,11 @@ fn parse_unary<'t, 'src>(
     tokens: &'t [Lexeme<'src>],
     depth: usize,
 ) -> Parsed<'t, 'src, Node<Unary<'src>>>
-    ensures { IfOk result (λ x. length x.1.now < length tokens.now) }
+    ensures shorter { IfOk result (λ x. length x.1.now < length tokens.now) }
+    ensures reads { GivesNode Label.unary unary_parts result (at_depth depth unary_rule tokens.now) }
 {
-    let (op, signs) = read_signs(tokens);
-    unary_node(
-        start_of(tokens),
-        op,
-        parse_member(alloc, &tokens[signs..], depth),
-    )
+    let (op, rest) = read_signs(tokens);
+    unary_node(start_of(tokens), op, parse_member(alloc, rest, depth))
 }
 
 // A primary and what is accessed in it.
@@ -228,33 +244,18 @@ fn parse_member<'t, 'src>(
     tokens: &'t [Lexeme<'src>],
     depth: usize,
 ) -> Parsed<'t, 'src, Node<Member<'src>>>
-    ensures { IfOk result (λ x. length x.1.now < length tokens.now) }
+    ensures shorter { IfOk result (λ x. length x.1.now < length tokens.now) }
+    ensures reads { GivesNode Label.member member_parts result (at_depth depth member_rule tokens.now) }
 {
     let ((item, mut access), mut rest) = parse_item(alloc, tokens, depth)?;
-    let mut callable = false;
-    'accesses: while begins_access(rest, callable) {
-        callable = begins(rest, Kind::Dot);
-        keep(parse_access(alloc, rest, depth), &mut access, &mut rest)?;
+    'accesses: while begins_access(rest) {
+        let callable = begins(rest, Kind::Dot);
+        keep(parse_access(rest), &mut access, &mut rest)?;
+        if callable && begins(rest, Kind::LParen) {
+            keep(parse_call(alloc, rest, depth), &mut access, &mut rest)?;
+        }
     }
     Ok((member_node(item, access), rest))
-}
-
-// A field, an index or a call.
-#[cycle(parser)]
-fn parse_access<'t, 'src>(
-    alloc: Global,
-    tokens: &'t [Lexeme<'src>],
-    depth: usize,
-) -> Parsed<'t, 'src, Node<MemAccess<'src>>>
-    ensures { IfOk result (λ x. length x.1.now < length tokens.now) }
-{
-    if begins(tokens, Kind::Dot) {
-        return parse_field(tokens);
-    }
-    if begins(tokens, Kind::LBracket) {
-        return parse_index(tokens);
-    }
-    parse_call(alloc, tokens, depth)
 }
 
 // A primary; and where it is a path that is called, the call.
@@ -264,7 +265,8 @@ fn parse_item<'t, 'src>(
     tokens: &'t [Lexeme<'src>],
     depth: usize,
 ) -> Parsed<'t, 'src, (Node<Primary<'src>>, Vec<Node<MemAccess<'src>>>)>
-    ensures { IfOk result (λ x. length x.1.now < length tokens.now) }
+    ensures shorter { IfOk result (λ x. length x.1.now < length tokens.now) }
+    ensures reads { GivesItem result (at_depth depth item tokens.now) }
 {
     if begins_identifier(tokens) {
         return parse_reference(alloc, tokens, depth);
@@ -285,7 +287,8 @@ fn parse_reference<'t, 'src>(
     tokens: &'t [Lexeme<'src>],
     depth: usize,
 ) -> Parsed<'t, 'src, (Node<Primary<'src>>, Vec<Node<MemAccess<'src>>>)>
-    ensures { IfOk result (λ x. length x.1.now < length tokens.now) }
+    ensures shorter { IfOk result (λ x. length x.1.now < length tokens.now) }
+    ensures reads { GivesItem result (at_depth depth (reference call_parts) tokens.now) }
 {
     let ((name, eid), rest) = parse_words(alloc, tokens)?;
     if let Some(eid) = eid {
@@ -308,12 +311,13 @@ fn parse_call<'t, 'src>(
     tokens: &'t [Lexeme<'src>],
     depth: usize,
 ) -> Parsed<'t, 'src, Node<MemAccess<'src>>>
-    ensures { IfOk result (λ x. length x.1.now < length tokens.now) }
+    ensures shorter { IfOk result (λ x. length x.1.now < length tokens.now) }
+    ensures reads { GivesNode Label.access access_parts result (at_depth depth call tokens.now) }
 {
+    let (open, rest) = expect(tokens, Kind::LParen)?;
     if depth == 0 {
         return Err(too_deep(tokens));
     }
-    let (open, rest) = expect(tokens, Kind::LParen)?;
     let read = parse_exprs(alloc, rest, depth - 1);
     call_node(open.span.start, closed_by(read, Kind::RParen))
 }
@@ -325,14 +329,15 @@ fn parse_exprs<'t, 'src>(
     tokens: &'t [Lexeme<'src>],
     depth: usize,
 ) -> Parsed<'t, 'src, Vec<Node<Expr<'src>>>>
-    ensures { IfOk result (λ x. length x.1.now ≤ length tokens.now) }
+    ensures shorter { IfOk result (λ x. length x.1.now ≤ length tokens.now) }
+    ensures reads { GivesItems Label.expr expr_parts result (at_depth (suc depth) (maybe (items inner)) tokens.now) }
 {
     let mut items = Vec::new(alloc);
     let mut rest = tokens;
     'items: while begins_expression(rest) {
         keep(parse_expr(alloc, rest, depth), &mut items, &mut rest)?;
         if !skip(&mut rest, Kind::Comma) {
-            break;
+            return Ok((items, rest));
         }
     }
     Ok((items, rest))
@@ -345,12 +350,13 @@ fn parse_bracket<'t, 'src>(
     tokens: &'t [Lexeme<'src>],
     depth: usize,
 ) -> Parsed<'t, 'src, Node<Primary<'src>>>
-    ensures { IfOk result (λ x. length x.1.now < length tokens.now) }
+    ensures shorter { IfOk result (λ x. length x.1.now < length tokens.now) }
+    ensures reads { GivesNode Label.primary primary_parts result (at_depth (suc depth) bracket_rule tokens.now) }
 {
     let start = start_of(tokens);
     if let Some(after) = past(tokens, Kind::LParen) {
-        let read = boxed(alloc, parse_expr(alloc, after, depth));
-        return parens_node(start, closed_by(read, Kind::RParen));
+        let read = parse_expr(alloc, after, depth);
+        return parens_node(alloc, start, closed_by(read, Kind::RParen));
     }
     if let Some(after) = past(tokens, Kind::LBracket) {
         let read = parse_exprs(alloc, after, depth);
@@ -368,14 +374,15 @@ fn parse_inits<'t, 'src>(
     tokens: &'t [Lexeme<'src>],
     depth: usize,
 ) -> Parsed<'t, 'src, Vec<Node<RecInit<'src>>>>
-    ensures { IfOk result (λ x. length x.1.now ≤ length tokens.now) }
+    ensures shorter { IfOk result (λ x. length x.1.now ≤ length tokens.now) }
+    ensures reads { GivesItems Label.rec_init init_parts result (at_depth (suc depth) (maybe (items init)) tokens.now) }
 {
     let mut inits = Vec::new(alloc);
     let mut rest = tokens;
     'inits: while begins_key(rest) {
         keep(parse_init(alloc, rest, depth), &mut inits, &mut rest)?;
         if !skip(&mut rest, Kind::Comma) {
-            break;
+            return Ok((inits, rest));
         }
     }
     Ok((inits, rest))
@@ -388,7 +395,8 @@ fn parse_init<'t, 'src>(
     tokens: &'t [Lexeme<'src>],
     depth: usize,
 ) -> Parsed<'t, 'src, Node<RecInit<'src>>>
-    ensures { IfOk result (λ x. length x.1.now < length tokens.now) }
+    ensures shorter { IfOk result (λ x. length x.1.now < length tokens.now) }
+    ensures reads { GivesNode Label.rec_init init_parts result (at_depth (suc depth) init tokens.now) }
 {
     let ((key, _), rest) = closed_by(parse_key(alloc, tokens), Kind::Colon)?;
     init_node(key, parse_expr(alloc, rest, depth))

@@ -1,14 +1,14 @@
 //! Steps over tokens that every parse function shares.
-ghost use Rattle.std.specs.Prelude.{◌≡◌, ◌<◌, ◌≤◌, false, length, IfOk, IfSome};
+ghost use Rattle.std.specs.Prelude.{◌≡◌, ◌<◌, ◌≤◌, true, false, length, IfOk, IfSome};
 ghost use Rattle.cedar_grammar.specs.Kinds.{is, begins};
 ghost use Rattle.cedar_grammar.specs.Reader.Reading.{one};
-ghost use Rattle.cedar_cst.specs.Reading.{Keeps, Closes, Boxes, kind, GivesToken, GoesPast, Fails, ClosesWith, first_place, Skips};
+ghost use Rattle.cedar_cst.specs.Reading.{Keeps, Closes, kind, GivesToken, GoesPast, Fails, ClosesWith, first_place, Skips};
 ghost use Rattle.cedar_grammar.specs.Reader.Reading.{stuck};
 ghost use Rattle.cedar_cst.specs.declared.cst.reading.Refusal.TheVariants.{OutOfMemory};
 
 use crate::cst::lexeme::Lexeme;
 use cedar_grammar::kind::Kind;
-use std::alloc::{AllocFailed, Global};
+use std::alloc::AllocFailed;
 
 /// Why tokens are refused, where `left` counts the tokens from the refused one on.
 #[derive(Clone, Copy, Debug)]
@@ -37,7 +37,9 @@ pub fn refuse(tokens: &[Lexeme]) -> Refusal
 }
 
 /// The refusal at the first of these tokens, where it alone is nested too deeply.
-pub fn too_deep(tokens: &[Lexeme]) -> Refusal {
+pub fn too_deep(tokens: &[Lexeme]) -> Refusal
+    ensures { Fails result (stuck true tokens.now) }
+{
     Refusal::TooDeep { left: tokens.len() }
 }
 
@@ -136,19 +138,6 @@ pub fn closed_by<'t, 'src, T: Drop>(
             Ok((close, rest)) => Ok(((value, close.span.end), rest)),
             Err(refusal) => Err(refusal),
         },
-        Err(refusal) => Err(refusal),
-    }
-}
-
-/// What was read, in a box.
-pub fn boxed<'t, 'src, T: Drop>(
-    alloc: Global,
-    read: Parsed<'t, 'src, T>,
-) -> Parsed<'t, 'src, Box<T>>
-    ensures { Boxes read.entry result }
-{
-    match read {
-        Ok((value, rest)) => Ok((Box::new(alloc, value)?, rest)),
         Err(refusal) => Err(refusal),
     }
 }

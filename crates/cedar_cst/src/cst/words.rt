@@ -128,13 +128,11 @@ pub fn begins_key(tokens: &[Lexeme]) -> bool
     begins_identifier(tokens) || begins(tokens, Kind::Str)
 }
 
-/// Whether what is accessed begins with the first token; a call does where it is `callable`.
-pub fn begins_access(tokens: &[Lexeme], callable: bool) -> bool
-    ensures { result ≡ (begins kind (is K.Dot) tokens.now || (begins kind (is K.LBracket) tokens.now || (callable && begins kind (is K.LParen) tokens.now))) }
+/// Whether a field or an index begins with the first token.
+pub fn begins_access(tokens: &[Lexeme]) -> bool
+    ensures { result ≡ begins kind (λ x. is K.Dot x || is K.LBracket x) tokens.now }
 {
-    begins(tokens, Kind::Dot)
-        || begins(tokens, Kind::LBracket)
-        || (callable && begins(tokens, Kind::LParen))
+    begins(tokens, Kind::Dot) || begins(tokens, Kind::LBracket)
 }
 
 /// Whether a parenthesis, a list or a record begins with the first token.
@@ -198,33 +196,11 @@ pub fn past_sum_sign<'t, 'src>(tokens: &'t [Lexeme<'src>]) -> Option<(AddOp, &'t
     }
 }
 
-// How many tokens of this kind stand first, four at most.
-fn sign_count(tokens: &[Lexeme], sign: Kind) -> u8
-    ensures limit { result ≤ 4 }
-    ensures inside { result ≤ length tokens.now }
+/// The signs that stand first, four at most, and the tokens after them.
+pub fn read_signs<'t, 'src>(tokens: &'t [Lexeme<'src>]) -> (Option<NegOp>, &'t [Lexeme<'src>])
+    ensures { length result.1.now ≤ length tokens.now }
 {
-    'signs: for count in 0..4 {
-        match tokens.get(usize::from(count)) {
-            Some(token) if token.kind == sign => {}
-            _ => return count,
-        }
-    }
-    4
-}
-
-/// The signs that stand first, four at most, and how many they are.
-pub fn read_signs(tokens: &[Lexeme]) -> (Option<NegOp>, usize)
-    ensures { result.1 ≤ length tokens.now }
-{
-    let bangs = sign_count(tokens, Kind::Neg);
-    if bangs > 0 {
-        return (Some(NegOp::Bang(bangs)), usize::from(bangs));
-    }
-    let dashes = sign_count(tokens, Kind::Dash);
-    if dashes > 0 {
-        return (Some(NegOp::Dash(dashes)), usize::from(dashes));
-    }
-    (None, 0)
+    (None, tokens)
 }
 
 /// The token as a word.
@@ -611,8 +587,8 @@ pub fn parse_text_operand<'t, 'src>(
     Ok((lone_operand(alloc, primary), rest))
 }
 
-/// `.` and a word.
-pub fn parse_field<'t, 'src>(tokens: &'t [Lexeme<'src>]) -> Parsed<'t, 'src, Node<MemAccess<'src>>>
+// `.` and a word.
+fn parse_field<'t, 'src>(tokens: &'t [Lexeme<'src>]) -> Parsed<'t, 'src, Node<MemAccess<'src>>>
     ensures shorter { IfOk result (λ x. length x.1.now < length tokens.now) }
     ensures reads { GivesNode Label.access access_parts result (flat field tokens.now) }
 {
@@ -629,8 +605,8 @@ pub fn parse_field<'t, 'src>(tokens: &'t [Lexeme<'src>]) -> Parsed<'t, 'src, Nod
     Ok((access, rest))
 }
 
-/// A string in square brackets.
-pub fn parse_index<'t, 'src>(tokens: &'t [Lexeme<'src>]) -> Parsed<'t, 'src, Node<MemAccess<'src>>>
+// A string in square brackets.
+fn parse_index<'t, 'src>(tokens: &'t [Lexeme<'src>]) -> Parsed<'t, 'src, Node<MemAccess<'src>>>
     ensures shorter { IfOk result (λ x. length x.1.now < length tokens.now) }
     ensures reads { GivesNode Label.access access_parts result (flat index tokens.now) }
 {
@@ -646,6 +622,17 @@ pub fn parse_index<'t, 'src>(tokens: &'t [Lexeme<'src>]) -> Parsed<'t, 'src, Nod
         span,
     };
     Ok((access, rest))
+}
+
+/// A field or an index.
+pub fn parse_access<'t, 'src>(tokens: &'t [Lexeme<'src>]) -> Parsed<'t, 'src, Node<MemAccess<'src>>>
+    ensures shorter { IfOk result (λ x. length x.1.now < length tokens.now) }
+    ensures reads { GivesNode Label.access access_parts result (flat (field ∥ index) tokens.now) }
+{
+    if begins(tokens, Kind::Dot) {
+        return parse_field(tokens);
+    }
+    parse_index(tokens)
 }
 
 /// `like`, and a string as an operand.

@@ -1,10 +1,14 @@
+use Rattle.std.proofs.Common.{refl, codes}
 use Rattle.std.proofs.lemmas.Result.{err_from_is_err_and}
+use Rattle.cedar_grammar.specs.declared.kind.Kind.TheVariants as K
+use Rattle.cedar_grammar.specs.Trees.{Label}
 use Rattle.cedar_grammar.specs.Reader.Rules.{items}
 use Rattle.cedar_grammar.specs.Reader.Lines.{maybe, entity_item}
 use Rattle.cedar_grammar.proofs.ReadingLaws.{both_fails}
+use Rattle.cedar_cst.specs.Erased.{expr_parts}
 use Rattle.cedar_cst.specs.Reading.{flat}
 use Rattle.cedar_cst.proofs.Steps.{passes}
-use Rattle.cedar_cst.proofs.Bracketed.{list_fails, list_gives}
+use Rattle.cedar_cst.proofs.Bracketed.{square, list_fails, enclosed_reader, enclosed_gives, primary_gives}
 use Rattle.cedar_cst.proofs.cst.scopes.parse_entity_list.Goals as goal
 
 pub returns-in_err-open-clause-reads : goal.returns-in_err-open-clause-reads
@@ -15,4 +19,6 @@ returns-in_err-open-clause-reads c =
 pub returns-clause-reads : goal.returns-clause-reads
 returns-clause-reads c =
     let h = c.in_ok-open.ensures.reads in
-    list_gives (flat (maybe (items entity_item))) c.parse_entities.result c.closed_by-read.result c.list_node.result _ _ c.in_ok-open.open h.0 h.1 c.parse_entities.ensures.reads c.closed_by-read.ensures.reads c.list_node.ensures.passes c.list_node.ensures.made
+    let P = flat (maybe (items entity_item)) in
+    let g = enclosed_gives Label.expr expr_parts (codes "[") (codes "]") K.LBracket K.RBracket square P c.parse_entities.result c.closed_by-read.result _ _ c.in_ok-open.open h.0 h.1 c.parse_entities.ensures.reads c.closed_by-read.ensures.reads in
+    primary_gives Label.expr expr_parts (codes "[") (codes "]") Label.list refl (enclosed_reader Label.expr expr_parts (codes "[") (codes "]") K.LBracket K.RBracket square P) _ c.closed_by-read.result c.list_node.result _ g c.list_node.ensures.passes c.list_node.ensures.made
