@@ -21,6 +21,8 @@ pub mod Nesting
 pub mod Scopes
 pub mod Branches
 pub mod Primaries
+pub mod Signs
+pub mod References
 pub mod Closed
 pub mod Manys
 pub mod Depths

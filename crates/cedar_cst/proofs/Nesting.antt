@@ -1,25 +1,21 @@
 -- What may nest: expressions with `if`, primaries in brackets, calls. How they are read with room for them, and without.
-use Rattle.std.specs.Prelude.{◌≡◌, ℕ, zero, suc, ◌<◌, ◌-◌, ◌&&◌, ◌||◌, not, Bool, true, false, IsTrue, List, [], ◌∷◌}
+use Rattle.std.specs.Prelude.{◌≡◌, ℕ, zero, suc, ◌<◌, ◌-◌, ◌||◌, Bool, true, false, IsTrue, List, [], ◌∷◌}
 use Rattle.std.proofs.Common.{refl, sym, ap, ◌∙◌, arith, subst}
 use Rattle.cedar_grammar.specs.declared.kind.Kind.{Kind}
 use Rattle.cedar_grammar.specs.declared.kind.Kind.TheVariants as K
-use Rattle.cedar_grammar.specs.Kinds.{is, is_ident, is_boolean, is_variable, begins}
-use Rattle.cedar_grammar.specs.Trees.{Label, none, branch}
-use Rattle.cedar_grammar.specs.Reader.Reading.{Answer, Reader, done, stuck, after, choice, both, tree, nest, one}
+use Rattle.cedar_grammar.specs.Kinds.{is, is_ident, is_boolean, begins}
+use Rattle.cedar_grammar.specs.Trees.{Label}
+use Rattle.cedar_grammar.specs.Reader.Reading.{Reader, stuck, choice, both, tree, nest, one}
 use Rattle.cedar_grammar.specs.Reader.Rules.{nested_at, reference, items, inner}
 use Rattle.cedar_grammar.specs.Reader.Lines.{call_parts, call, item, expr_rule, or_rule, maybe, init}
-use Rattle.cedar_grammar.proofs.KindSets.{apart, apart_at, within_at}
-use Rattle.cedar_grammar.proofs.ReadingLaws.{choice_yes, choice_no, both_fails, tree_fails}
-use Rattle.cedar_grammar.proofs.RuleLaws.{shaped_fails}
+use Rattle.cedar_grammar.proofs.KindSets.{apart, apart_at}
+use Rattle.cedar_grammar.proofs.ReadingLaws.{choice_yes, choice_no, tree_fails}
 use Rattle.cedar_cst.specs.Reading.{kind, flat}
 use Rattle.cedar_cst.specs.ReadingParts.{literal_rule}
 use Rattle.cedar_cst.specs.ReadingExprs.{at_depth, if_rule, bracket_rule}
 use Rattle.cedar_cst.specs.declared.cst.lexeme.Lexeme.{Lexeme}
 use Rattle.cedar_cst.proofs.Steps.{token_not}
-
-tree_same : (l : Label) (P Q : Reader Lexeme) (ts : List Lexeme) → P ts ≡ Q ts → tree l P ts ≡ tree l Q ts
-unfolding tree
-tree_same l P Q ts e = ap (λ a. after a (λ f r. done (branch l f none) r)) e
+use Rattle.cedar_cst.proofs.References.{tree_same, reference_none}
 
 nested_deep : (k : Kind) (P : Reader Lexeme) (ts : List Lexeme) → begins kind (is k) ts ≡ true → nested_at kind false k P ts ≡ stuck true ts
 unfolding nest
@@ -35,8 +31,7 @@ begins_apart p q a (t ∷ ts) h = apart_at p q a t.kind h
 
 -- one less and one more
 pub depth_back : (d : ℕ) → 0 < d → suc (d - 1) ≡ d
-depth_back zero h = absurd (omega (arith, h))
-depth_back (suc d) h = refl
+depth_back d h = omega (arith, h)
 
 -- Expressions.
 pub if_deep : (ts : List Lexeme) → begins kind (is K.If) ts ≡ true → at_depth 0 expr_rule ts ≡ stuck true ts
@@ -55,34 +50,11 @@ call_deep ts h = tree_fails Label.access _ ts true ts (nested_deep K.LParen _ ts
 pub call_reads : (d : ℕ) (ts : List Lexeme) → begins kind (is K.LParen) ts ≡ true → at_depth (suc d) call ts ≡ tree Label.access (both (one kind K.LParen) (both (at_depth (suc d) (maybe (items inner))) (one kind K.RParen))) ts
 call_reads d ts h = tree_same Label.access _ _ ts (nested_room K.LParen _ ts h)
 
-pub call_none : (d : ℕ) (ts : List Lexeme) → begins kind (is K.LParen) ts ≡ false → at_depth d call ts ≡ stuck false ts
-call_none d ts h = tree_fails Label.access _ ts false ts (choice_no _ _ _ ts h)
-
 -- Primaries.
 pub item_word : (d : ℕ) (ts : List Lexeme) → begins kind is_ident ts ≡ true → at_depth d item ts ≡ at_depth d (reference call_parts) ts
 item_word d ts h =
     choice_no _ _ _ ts (begins_apart is_ident is_boolean refl ts h) ∙ choice_no _ _ _ ts (begins_apart is_ident (is K.Number) refl ts h) ∙ choice_no _ _ _ ts (begins_apart is_ident (is K.Str) refl ts h)
     ∙ choice_no _ _ _ ts (begins_apart is_ident (is K.LParen) refl ts h) ∙ choice_no _ _ _ ts (begins_apart is_ident (is K.LBracket) refl ts h) ∙ choice_no _ _ _ ts (begins_apart is_ident (is K.LBrace) refl ts h)
-
--- without a word there is no reference
-no_variable : (ts : List Lexeme) → begins kind is_ident ts ≡ false → begins kind is_variable ts ≡ false
-no_variable ts h = go (begins kind is_variable ts) refl
-  where
-    go : (b : Bool) → begins kind is_variable ts ≡ b → begins kind is_variable ts ≡ false
-    go false e = e
-    go true e = absurd (let w = begins_within ts e in cc)
-      where
-        begins_within : (ts : List Lexeme) → begins kind is_variable ts ≡ true → begins kind is_ident ts ≡ true
-        begins_within [] i = i
-        begins_within (t ∷ ts) i = within_at is_variable is_ident refl t.kind i
-
-other_false : (p q : Kind → Bool) (ts : List Lexeme) → begins kind p ts ≡ false → begins kind (λ k. p k && q k) ts ≡ false
-other_false p q [] h = refl
-other_false p q (t ∷ ts) h = ap (λ b. b && q t.kind) h
-
-reference_none : (d : ℕ) (ts : List Lexeme) → begins kind is_ident ts ≡ false → at_depth d (reference call_parts) ts ≡ stuck false ts
-reference_none d ts h = shaped_fails _ ts false ts
-    (choice_no _ _ _ ts (no_variable ts h) ∙ both_fails _ _ ts false ts (tree_fails Label.ident _ ts false ts (token_not _ ts (other_false is_ident (λ k. not (is_variable k)) ts h))))
 
 pub item_literal : (d : ℕ) (ts : List Lexeme) → begins kind is_ident ts ≡ false → begins kind (is K.LParen) ts ≡ false → begins kind (is K.LBracket) ts ≡ false → begins kind (is K.LBrace) ts ≡ false → at_depth d item ts ≡ flat literal_rule ts
 item_literal d ts h i j k = boolean (begins kind is_boolean ts) refl

@@ -1,7 +1,7 @@
 -- Operands that a primary and what is accessed in it make, and the loop over fields.
 use Rattle.std.specs.Prelude.{◌≡◌, ℕ, Bool, true, false, List, [], ◌∷◌, ◌++◌, length, ◌<◌, ◌≤◌, ◌-◌, zero, suc, Result, Ok, Err, Some, IfOk}
 use Rattle.std.specs.List.{slice_get}
-use Rattle.std.proofs.Common.{refl, sym, ap, ◌∙◌, arith}
+use Rattle.std.proofs.Common.{refl, sym, ap, ◌∙◌, arith, append_assoc}
 use Rattle.std.specs.Borrow.{Bor}
 use Rattle.cedar_tokens.specs.declared.token.Span.{Span}
 use Rattle.cedar_grammar.specs.declared.kind.Kind.{Kind}
@@ -130,6 +130,10 @@ module _ (I : Reader Lexeme) (t : List Lexeme → Bool) (P : Reader Lexeme) wher
 
 pub fields_first : (item : Node Primary.Primary) (ts rest : List Lexeme) (f : Forest Label Lexeme) → head ts ≡ done (branch Label.primary f none) rest → Stands item.span (primary_parts item.inner) f → AccessesRead head dotted field_reader item [] ts rest
 fields_first item ts rest f e h = accesses_first head dotted field_reader item [] ts rest (branch Label.primary f none) e (row_node Label.primary item.span (primary_parts item.inner) f refl h)
+
+-- two more, one after the other
+pub grown : {X : Type 0} {xs ys zs : List X} {n m : X} → ys ≡ xs ++ n ∷ [] → zs ≡ ys ++ m ∷ [] → zs ≡ xs ++ n ∷ m ∷ []
+grown {xs = xs} {n = n} {m = m} e h = h ∙ ap (λ us. us ++ m ∷ []) e ∙ append_assoc xs (n ∷ []) (m ∷ [])
 
 -- one access
 pub one_access : (n : Node MemAccess.MemAccess) (f : Forest Label Lexeme) → Stands n.span (access_parts n.inner) f → Stands n.span (access_items (n ∷ [])) (branch Label.access f none)

@@ -26,7 +26,7 @@ use Rattle.cedar_cst.proofs.Steps.{passes, token_not, token_at}
 use Rattle.cedar_cst.proofs.Rows.{row_node, row_parts, row_span}
 use Rattle.cedar_cst.proofs.Chains.{Between}
 use Rattle.cedar_cst.proofs.Depths.{depth_takes}
-use Rattle.cedar_cst.proofs.Nesting.{call_none}
+use Rattle.cedar_cst.proofs.References.{call_refuses}
 
 -- readers at a depth
 abbrev pub add_at : ℕ → Reader Lexeme
@@ -74,8 +74,8 @@ call_stuck d ts b r e = go (begins kind (is K.LParen) ts) refl
     first (t ∷ us) i h = absurd (let w : done (leaf t none) us ≡ stuck b r = sym (token_at (is K.LParen) (t ∷ us) t us refl h) ∙ i in cc)
 
     go : (x : Bool) → begins kind (is K.LParen) ts ≡ x → at_depth d call ts ≡ stuck b r
-    go true h = call_none d ts (first ts e h) ∙ sym (token_not (is K.LParen) ts (first ts e h)) ∙ e
-    go false h = call_none d ts h ∙ sym (token_not (is K.LParen) ts h) ∙ e
+    go true h = call_refuses d ts (first ts e h) ∙ sym (token_not (is K.LParen) ts (first ts e h)) ∙ e
+    go false h = call_refuses d ts h ∙ sym (token_not (is K.LParen) ts h) ∙ e
 
 pub brackets_none : (ts : List Lexeme) → (begins kind (is K.LParen) ts || (begins kind (is K.LBracket) ts || begins kind (is K.LBrace) ts)) ≡ false
     → (begins kind (is K.LParen) ts ≡ false) × (begins kind (is K.LBracket) ts ≡ false) × (begins kind (is K.LBrace) ts ≡ false)

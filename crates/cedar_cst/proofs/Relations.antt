@@ -81,16 +81,16 @@ module _ (A C H L T : Reader Lexeme) where
   compare_reads ts h = choice_yes _ _ _ ts (relates_split ts ∙ ap (λ z. z || (begins kind (is K.Has) ts || (begins kind (is K.Like) ts || begins kind (is K.Is) ts))) h) ∙ choice_yes _ _ _ ts h
 
   pub has_reads : (ts : List Lexeme) → begins kind is_comparison ts ≡ false → begins kind (is K.Has) ts ≡ true → behind_reader ts ≡ tree Label.has_or_like H ts
-  has_reads ts h i = choice_yes _ _ _ ts (relates_split ts ∙ at_second _ _ _ i) ∙ choice_no _ _ _ ts h ∙ choice_yes _ _ _ ts i
+  has_reads ts h i = choice_yes _ _ _ ts (relates_split ts ∙ at_second (begins kind is_comparison ts) (begins kind (is K.Has) ts) (begins kind (is K.Like) ts || begins kind (is K.Is) ts) i) ∙ choice_no _ _ _ ts h ∙ choice_yes _ _ _ ts i
 
   pub like_reads : (ts : List Lexeme) → begins kind is_comparison ts ≡ false → begins kind (is K.Has) ts ≡ false → begins kind (is K.Like) ts ≡ true → behind_reader ts ≡ tree Label.has_or_like L ts
-  like_reads ts h i j = choice_yes _ _ _ ts (relates_split ts ∙ at_third _ _ _ _ j) ∙ choice_no _ _ _ ts h ∙ choice_no _ _ _ ts i ∙ choice_yes _ _ _ ts j
+  like_reads ts h i j = choice_yes _ _ _ ts (relates_split ts ∙ at_third (begins kind is_comparison ts) (begins kind (is K.Has) ts) (begins kind (is K.Like) ts) (begins kind (is K.Is) ts) j) ∙ choice_no _ _ _ ts h ∙ choice_no _ _ _ ts i ∙ choice_yes _ _ _ ts j
 
   pub is_reads : (ts : List Lexeme) → begins kind is_comparison ts ≡ false → begins kind (is K.Has) ts ≡ false → begins kind (is K.Like) ts ≡ false → begins kind (is K.Is) ts ≡ true → behind_reader ts ≡ tree Label.is_type T ts
-  is_reads ts h i j k = choice_yes _ _ _ ts (relates_split ts ∙ at_last _ _ _ _ k) ∙ choice_no _ _ _ ts h ∙ choice_no _ _ _ ts i ∙ choice_no _ _ _ ts j
+  is_reads ts h i j k = choice_yes _ _ _ ts (relates_split ts ∙ at_last (begins kind is_comparison ts) (begins kind (is K.Has) ts) (begins kind (is K.Like) ts) (begins kind (is K.Is) ts) k) ∙ choice_no _ _ _ ts h ∙ choice_no _ _ _ ts i ∙ choice_no _ _ _ ts j
 
   pub none_reads : (ts : List Lexeme) → begins kind is_comparison ts ≡ false → begins kind (is K.Has) ts ≡ false → begins kind (is K.Like) ts ≡ false → begins kind (is K.Is) ts ≡ false → behind_reader ts ≡ done none ts
-  none_reads ts h i j k = choice_no _ _ _ ts (relates_split ts ∙ at_none _ _ _ _ h i j k)
+  none_reads ts h i j k = choice_no _ _ _ ts (relates_split ts ∙ at_none (begins kind is_comparison ts) (begins kind (is K.Has) ts) (begins kind (is K.Like) ts) (begins kind (is K.Is) ts) h i j k)
 
   pub relation_fails : (ts : List Lexeme) (b : Bool) (r : List Lexeme) → A ts ≡ stuck b r → relation_reader ts ≡ stuck b r
   relation_fails ts b r e = tree_fails Label.relation _ ts b r (both_fails A behind_reader ts b r e)

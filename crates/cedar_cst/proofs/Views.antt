@@ -1,17 +1,18 @@
 -- What nodes of the recursive types are made of.
-use Rattle.std.specs.Prelude.{◌≡◌, List, [], ◌∷◌, Vec, None, codes}
+use Rattle.std.specs.Prelude.{◌≡◌, List, [], Vec, Option, None, codes}
 use Rattle.std.specs.declared.alloc.Global.{Global}
 use Rattle.std.proofs.Common.{rules}
 use mathlib.Core.Former.{Count}
 use Rattle.cedar_tokens.specs.declared.token.Span.{Span}
 use Rattle.cedar_grammar.specs.Trees.{Label, none, leaf, join}
-use Rattle.cedar_cst.specs.Erased.{Erased, node, addop_text, access_parts, access_trees, unary_parts, mult_parts, mult_rest, add_parts, add_rest, relation_parts, and_rest, or_parts, or_rest, expr_parts, primary_parts, expr_items, more_items, init_items, more_inits, variant}
+use Rattle.cedar_cst.specs.Erased.{Erased, node, addop_text, signs, access_parts, access_trees, unary_parts, mult_parts, mult_rest, add_parts, add_rest, relation_parts, and_rest, or_parts, or_rest, expr_parts, primary_parts, expr_items, more_items, init_items, more_inits, variant}
 use Rattle.cedar_cst.specs.ReadingItems.{more_trees, item_trees}
 use Rattle.cedar_cst.specs.Reading.{access_items, operand_parts}
-use Rattle.cedar_cst.specs.ReadingExprs.{operand_trees, and_parts, init_parts}
+use Rattle.cedar_cst.specs.ReadingExprs.{operand_trees, and_parts, member_parts, init_parts}
 use Rattle.cedar_cst.specs.declared.cst.tree.Node.{Node}
 use Rattle.cedar_cst.specs.declared.cst.tree.AddOp.{AddOp}
 use Rattle.cedar_cst.specs.declared.cst.tree.MultOp.{MultOp}
+use Rattle.cedar_cst.specs.declared.cst.tree.NegOp.{NegOp}
 use Rattle.cedar_cst.specs.declared.cst.tree.Primary as Primary
 use Rattle.cedar_cst.specs.declared.cst.tree.MemAccess as MemAccess
 use Rattle.cedar_cst.specs.declared.cst.tree.Member as Member
@@ -107,3 +108,7 @@ view_add first more = search (rules, Or.the_lemmas, add_row)
 
 pub view_mult : (first : Node Unary.Unary) (more : Vec (MultOp × Node Unary.Unary) Global) → mult_parts (Mult.roll-Mult record { initial = first; extended = more }) ≡ node Label.unary first.span (unary_parts first.inner) (mult_items more.items)
 view_mult first more = search (rules, Or.the_lemmas, mult_row)
+
+-- a member behind its signs
+pub view_unary : (op : Option NegOp) (m : Node Member.Member) → unary_parts (Unary.roll-Unary record { op = op; item = m }) ≡ signs op (node Label.member m.span (member_parts m.inner) none)
+view_unary op m = search (rules, Or.the_lemmas, access_row)

@@ -24,10 +24,10 @@ use crate::cst::tree::{
     Relation, Unary,
 };
 use crate::cst::words::{
-    begins_access, begins_bracket, begins_comparison, begins_expression, begins_identifier,
-    begins_key, begins_variable, entity_node, name_primary, parse_access, parse_comparison_sign,
+    begins_access, begins_bracket, begins_call, begins_comparison, begins_expression,
+    begins_identifier, begins_key, begins_variable, entity_node, name_primary, parse_access, parse_comparison_sign,
     parse_has_field, parse_key, parse_literal, parse_path, parse_pattern, parse_words,
-    past_sum_sign, read_signs,
+    past_sum_sign, read_signs, signed_start,
 };
 use cedar_grammar::kind::Kind;
 use std::alloc::Global;
@@ -94,12 +94,12 @@ fn parse_or<'t, 'src>(
     ensures shorter { IfOk result (λ x. length x.1.now < length tokens.now) }
     ensures reads { GivesNode Label.or or_parts result (at_depth depth or_rule tokens.now) }
 {
-    let (initial, mut rest) = parse_and(alloc, tokens, depth)?;
+    let (first, mut rest) = parse_and(alloc, tokens, depth)?;
     let mut extended = Vec::new(alloc);
     'operands: while let Some(after) = past(rest, Kind::Or) {
         keep(parse_and(alloc, after, depth), &mut extended, &mut rest)?;
     }
-    Ok((or_node(initial, extended), rest))
+    Ok((or_node(first, extended), rest))
 }
 
 // Operands of `&&`.
@@ -112,7 +112,7 @@ fn parse_and<'t, 'src>(
     ensures shorter { IfOk result (λ x. length x.1.now < length tokens.now) }
     ensures reads { GivesNode Label.and and_parts result (at_depth depth and_rule tokens.now) }
 {
-    let (initial, mut rest) = parse_relation(alloc, tokens, depth)?;
+    let (first, mut rest) = parse_relation(alloc, tokens, depth)?;
     let mut extended = Vec::new(alloc);
     'operands: while let Some(after) = past(rest, Kind::And) {
         keep(
@@ -121,7 +121,7 @@ fn parse_and<'t, 'src>(
             &mut rest,
         )?;
     }
-    Ok((and_node(initial, extended), rest))
+    Ok((and_node(first, extended), rest))
 }
 
 // One operand; or two with a comparison, `has`, `like` or `is` between them.
@@ -192,7 +192,7 @@ fn parse_add<'t, 'src>(
     ensures shorter { IfOk result (λ x. length x.1.now < length tokens.now) }
     ensures reads { GivesNode Label.add add_parts result (at_depth depth add_rule tokens.now) }
 {
-    let (initial, mut rest) = parse_mult(alloc, tokens, depth)?;
+    let (first, mut rest) = parse_mult(alloc, tokens, depth)?;
     let mut extended = Vec::new(alloc);
     'operands: while let Some((op, after)) = past_sum_sign(rest) {
         keep(
@@ -201,7 +201,7 @@ fn parse_add<'t, 'src>(
             &mut rest,
         )?;
     }
-    Ok((add_node(initial, extended), rest))
+    Ok((add_node(first, extended), rest))
 }
 
 // Operands of `*`.
@@ -214,13 +214,13 @@ fn parse_mult<'t, 'src>(
     ensures shorter { IfOk result (λ x. length x.1.now < length tokens.now) }
     ensures reads { GivesNode Label.mult mult_parts result (at_depth depth mult_rule tokens.now) }
 {
-    let (initial, mut rest) = parse_unary(alloc, tokens, depth)?;
+    let (first, mut rest) = parse_unary(alloc, tokens, depth)?;
     let mut extended = Vec::new(alloc);
     'operands: while let Some(after) = past(rest, Kind::Mul) {
         let read = with_sign(MultOp::Times, parse_unary(alloc, after, depth));
         keep(read, &mut extended, &mut rest)?;
     }
-    Ok((mult_node(initial, extended), rest))
+    Ok((mult_node(first, extended), rest))
 }
 
 // A member behind at most four `!` or at most four `-`.
@@ -234,7 +234,8 @@ fn parse_unary<'t, 'src>(
     ensures reads { GivesNode Label.unary unary_parts result (at_depth depth unary_rule tokens.now) }
 {
     let (op, rest) = read_signs(tokens);
-    unary_node(start_of(tokens), op, parse_member(alloc, rest, depth))
+    let read = parse_member(alloc, rest, depth);
+    unary_node(signed_start(tokens, op, &read), op, read)
 }
 
 // A primary and what is accessed in it.
@@ -251,7 +252,7 @@ fn parse_member<'t, 'src>(
     'accesses: while begins_access(rest) {
         let callable = begins(rest, Kind::Dot);
         keep(parse_access(rest), &mut access, &mut rest)?;
-        if callable && begins(rest, Kind::LParen) {
+        if begins_call(rest, callable) {
             keep(parse_call(alloc, rest, depth), &mut access, &mut rest)?;
         }
     }

@@ -10,10 +10,11 @@ ghost use Rattle.cedar_grammar.specs.Reader.Lines.{◌▸◌, ◌∥◌, one_of,
 ghost use Rattle.cedar_grammar.specs.Reader.Rules.{entity};
 ghost use Rattle.cedar_cst.specs.Erased.{access_parts, add_parts, primary_parts};
 ghost use Rattle.cedar_cst.specs.ReadingParts.{is_effect, is_cond_word, literal_rule, text_primary, key_rule, HasLiteral, GivesWords, IsEntityOf, slot_kind, IsSlotOf, slot_or_entity};
+ghost use Rattle.cedar_cst.specs.ReadingSigns.{GoesPastSigns, GivesSigns, signs_start};
 ghost use Rattle.cedar_cst.specs.Reading.{kind, flat, GivesNode, ident_parts, str_parts, IsIdentOf, IsStrOf, first_start, name_parts, IsNameOf, IsOperandOf, IsLiteralOf, IsNamePrimaryOf, GivesBehind, last_end, relop_kind, GoesPastSign, GivesSign};
 
 use crate::cst::lexeme::Lexeme;
-use crate::cst::reading::{Parsed, begins, expect, keep, past, refuse};
+use crate::cst::reading::{Parsed, begins, expect, keep, past, refuse, skip, start_of};
 use crate::cst::tree::{
     Add, AddOp, Ident, Literal, MemAccess, Member, Mult, Name, NegOp, Node, Primary, Ref, RelOp,
     Slot, Str, Unary,
@@ -135,6 +136,13 @@ pub fn begins_access(tokens: &[Lexeme]) -> bool
     begins(tokens, Kind::Dot) || begins(tokens, Kind::LBracket)
 }
 
+/// Whether a call begins with the first token, where what stands before it is `callable`.
+pub fn begins_call(tokens: &[Lexeme], callable: bool) -> bool
+    ensures { result ≡ (callable && begins kind (is K.LParen) tokens.now) }
+{
+    callable && begins(tokens, Kind::LParen)
+}
+
 /// Whether a parenthesis, a list or a record begins with the first token.
 pub fn begins_bracket(tokens: &[Lexeme]) -> bool
     ensures { result ≡ (begins kind (is K.LParen) tokens.now || (begins kind (is K.LBracket) tokens.now || begins kind (is K.LBrace) tokens.now)) }
@@ -196,11 +204,50 @@ pub fn past_sum_sign<'t, 'src>(tokens: &'t [Lexeme<'src>]) -> Option<(AddOp, &'t
     }
 }
 
+// How many tokens of this kind stand first, four at most, and the tokens after them.
+fn past_signs<'t, 'src>(tokens: &'t [Lexeme<'src>], sign: Kind) -> (u8, &'t [Lexeme<'src>])
+    ensures shorter { length result.1.now ≤ length tokens.now }
+    ensures signs { GoesPastSigns sign tokens.now result }
+{
+    let mut rest = tokens;
+    let mut count = 0;
+    'signs: while count < 4 {
+        if !skip(&mut rest, sign) {
+            break;
+        }
+        count += 1;
+    }
+    (count, rest)
+}
+
 /// The signs that stand first, four at most, and the tokens after them.
 pub fn read_signs<'t, 'src>(tokens: &'t [Lexeme<'src>]) -> (Option<NegOp>, &'t [Lexeme<'src>])
-    ensures { length result.1.now ≤ length tokens.now }
+    ensures shorter { length result.1.now ≤ length tokens.now }
+    ensures reads { GivesSigns tokens.now result }
 {
+    let (bangs, rest) = past_signs(tokens, Kind::Neg);
+    if bangs > 0 {
+        return (Some(NegOp::Bang(bangs)), rest);
+    }
+    let (dashes, rest) = past_signs(tokens, Kind::Dash);
+    if dashes > 0 {
+        return (Some(NegOp::Dash(dashes)), rest);
+    }
     (None, tokens)
+}
+
+/// Where a member starts together with its signs, which stand first in the tokens.
+pub fn signed_start(
+    tokens: &[Lexeme],
+    op: Option<NegOp>,
+    read: &Parsed<'_, '_, Node<Member<'_>>>,
+) -> usize
+    ensures { IfOk read.now (λ x. result ≡ signs_start op tokens.now x.0.span.start) }
+{
+    match (op, read) {
+        (None, Ok((member, _))) => member.span.start,
+        _ => start_of(tokens),
+    }
 }
 
 /// The token as a word.
@@ -582,8 +629,7 @@ pub fn parse_text_operand<'t, 'src>(
     ensures shorter { IfOk result (λ x. length x.1.now < length tokens.now) }
     ensures reads { GivesNode Label.add add_parts result (flat text_operand tokens.now) }
 {
-    let (string, rest) = expect(tokens, Kind::Str)?;
-    let primary = literal_primary(Literal::Str(string.text), string.span);
+    let (primary, rest) = parse_text(tokens)?;
     Ok((lone_operand(alloc, primary), rest))
 }
 

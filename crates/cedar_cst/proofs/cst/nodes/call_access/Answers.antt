@@ -1,0 +1,6 @@
+use Rattle.std.proofs.Common.{refl}
+use Rattle.cedar_cst.proofs.Views.{view_call}
+use Rattle.cedar_cst.proofs.cst.nodes.call_access.Goals as goal
+
+pub returns : goal.returns
+returns c = (view_call c.args.arguments, refl)
