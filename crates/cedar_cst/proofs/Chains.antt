@@ -130,7 +130,6 @@ module _ {X Y : Type 0} (l : Label) (parts : X → Erased) (sign : Y → List �
         chain_stuck whole A (begins kind p) more_reader ts q.row rest x r q.chain (first_begins p rest d after e ∙ c)
         (both_then_fails (token kind p) A rest (leaf d none) after x r (token_at p rest d after e c) a)
 
-    pub operands_done : {Z : Type 0} (made : Z → Erased) (initial : Node X) (more : List Y) (n : Node Z) (ts : List Lexeme) (rest : Bor (List Lexeme)) → OperandsRead initial more ts rest.now → begins kind p rest.now ≡ false
-        → IsChainOf l parts sign operand made initial more n → GivesNode whole made (Ok (n, rest)) (chain_reader ts)
-    operands_done made initial more n ts rest q t h =
-        (q.row, chain_end whole A (begins kind p) more_reader ts q.row rest.now q.chain t, row_span _ _ _ _ (sym h.1) (row_parts _ _ _ _ h.0 q.stands))
+    pub operands_done : {Z : Type 0} (made : Z → Erased) (initial : Node X) (more : List Y) (n : Node Z) (ts rest : List Lexeme) → OperandsRead initial more ts rest → begins kind p rest ≡ false → IsChainOf l parts sign operand made initial more n
+        → (f : Forest Label Lexeme) × (chain_reader ts ≡ done (branch whole f none) rest) × Stands n.span (made n.inner) f
+    operands_done made initial more n ts rest q t h = (q.row, chain_end whole A (begins kind p) more_reader ts q.row rest q.chain t, row_span _ _ _ _ (sym h.1) (row_parts _ _ _ _ h.0 q.stands))

@@ -26,6 +26,7 @@ pub mod References
 pub mod Closed
 pub mod Manys
 pub mod Depths
+pub mod Members
 pub mod Whole
 pub mod RefusalLaws
 pub mod ErasedSame

@@ -132,8 +132,8 @@ pub fields_first : (item : Node Primary.Primary) (ts rest : List Lexeme) (f : Fo
 fields_first item ts rest f e h = accesses_first head dotted field_reader item [] ts rest (branch Label.primary f none) e (row_node Label.primary item.span (primary_parts item.inner) f refl h)
 
 -- two more, one after the other
-pub grown : {X : Type 0} {xs ys zs : List X} {n m : X} → ys ≡ xs ++ n ∷ [] → zs ≡ ys ++ m ∷ [] → zs ≡ xs ++ n ∷ m ∷ []
-grown {xs = xs} {n = n} {m = m} e h = h ∙ ap (λ us. us ++ m ∷ []) e ∙ append_assoc xs (n ∷ []) (m ∷ [])
+pub grown : {X : Type 0} (xs ys zs : List X) (n m : X) → ys ≡ xs ++ n ∷ [] → zs ≡ ys ++ m ∷ [] → zs ≡ xs ++ n ∷ m ∷ []
+grown xs ys zs n m e h = h ∙ ap (λ us. us ++ m ∷ []) e ∙ append_assoc xs (n ∷ []) (m ∷ [])
 
 -- one access
 pub one_access : (n : Node MemAccess.MemAccess) (f : Forest Label Lexeme) → Stands n.span (access_parts n.inner) f → Stands n.span (access_items (n ∷ [])) (branch Label.access f none)

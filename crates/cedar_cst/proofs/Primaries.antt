@@ -12,7 +12,7 @@ use Rattle.cedar_grammar.specs.Reader.Rules.{leaf_of}
 use Rattle.cedar_grammar.specs.Reader.Lines.{◌▸◌, ◌∥◌, one_of, maybe, path, add_rule, text_operand, has_field, expr_to, expr_rule, call}
 use Rattle.cedar_grammar.proofs.ReadingLaws.{Takes, both_done, both_then_fails, tree_done, tree_fails}
 use Rattle.cedar_cst.specs.Erased.{Erased, or_parts, expr_parts, primary_parts}
-use Rattle.cedar_cst.specs.Reading.{kind, flat, Fails, Stands, PassesOn, GivesNode}
+use Rattle.cedar_cst.specs.Reading.{kind, flat, Fails, Stands, PassesOn, GivesNode, first_place}
 use Rattle.cedar_cst.specs.ReadingParts.{Makes, IsOrExprOf}
 use Rattle.cedar_cst.specs.ReadingExprs.{at_depth, GivesItem, GivesSigned, IsSigned, IsUncalled}
 use Rattle.cedar_cst.specs.declared.cst.lexeme.Lexeme.{Lexeme}
@@ -64,6 +64,13 @@ one_begins k ts o rest e = go (begins kind (is k) ts) refl
     go : (b : Bool) → begins kind (is k) ts ≡ b → begins kind (is k) ts ≡ true
     go true h = h
     go false h = absurd (let w : stuck false ts ≡ done (leaf o none) rest = sym (token_not (is k) ts h) ∙ e in cc)
+
+pub one_first : (k : Kind) (ts : List Lexeme) (o : Lexeme) (rest : List Lexeme) → one kind k ts ≡ done (leaf o none) rest → first_place ts ≡ o.span.start
+one_first k [] o rest e = absurd (let w : stuck false [] ≡ done (leaf o none) rest = sym (token_not (is k) [] refl) ∙ e in cc)
+one_first k (t ∷ ts) o rest e =
+    let w : done (leaf t none) ts ≡ done (leaf o none) rest = sym (token_at (is k) (t ∷ ts) t ts refl (one_begins k (t ∷ ts) o rest e)) ∙ e in
+    let i : t ≡ o = cc in
+    ap (λ (z : Lexeme). z.span.start) i
 
 -- a call without its bracket
 pub call_stuck : (d : ℕ) (ts : List Lexeme) (b : Bool) (r : List Lexeme) → one kind K.LParen ts ≡ stuck b r → at_depth d call ts ≡ stuck b r

@@ -4,27 +4,27 @@ use Rattle.std.proofs.lemmas.Result.{err_from_is_err_and}
 use Rattle.cedar_grammar.specs.declared.kind.Kind.TheVariants as K
 use Rattle.cedar_grammar.specs.Kinds.{is, is_ident, is_comparison}
 use Rattle.cedar_grammar.specs.Trees.{Label, none, branch, join}
-use Rattle.cedar_grammar.specs.Reader.Reading.{done, both, tree, token, one}
+use Rattle.cedar_grammar.specs.Reader.Reading.{done, stuck, both, tree, token, one}
 use Rattle.cedar_grammar.specs.Reader.Rules.{expr_first, items, inner}
 use Rattle.cedar_grammar.specs.Reader.Lines.{maybe, path, field, index, init, item, call, access_rule, member_rule, unary_rule, mult_rule, relation_rule, and_rule, or_rule, expr_rule, expr_to}
 use Rattle.cedar_grammar.proofs.ReadingLaws.{tree_fails, both_fails}
 use Rattle.cedar_cst.specs.Erased.{addop_text, expr_parts, or_parts, relation_parts, add_parts, mult_parts, unary_parts, access_parts, primary_parts}
-use Rattle.cedar_cst.specs.Reading.{kind, flat, addop_kind, relop_kind}
-use Rattle.cedar_cst.specs.ReadingParts.{literal_rule, key_rule}
-use Rattle.cedar_cst.specs.ReadingItems.{item_trees, StandsItems}
-use Rattle.cedar_cst.specs.ReadingExprs.{at_depth, and_parts, init_parts, if_rule, bracket_rule}
+use Rattle.cedar_cst.specs.Reading.{kind, flat, addop_kind, relop_kind, first_place}
+use Rattle.cedar_cst.specs.ReadingParts.{literal_rule, key_rule, Makes}
+use Rattle.cedar_cst.specs.ReadingItems.{item_trees, StandsItems, IsListOf}
+use Rattle.cedar_cst.specs.ReadingExprs.{at_depth, and_parts, init_parts, if_rule, bracket_rule, IsParensOf, IsRecordOf, TellsVariable}
 use Rattle.cedar_cst.specs.declared.cst.tree.MultOp.{MultOp}
 use Rattle.cedar_cst.proofs.Steps.{passes, fails_as, gives_as, is_itself, first_begins, token_at, token_not}
 use Rattle.cedar_cst.proofs.Rows.{row_parts, row_span}
 use Rattle.cedar_cst.proofs.Chains.{plain_operand, signed_operand, signed_shorter, addop_between, addop_begins, operand_kept, operand_fails, operands_first, operands_next, operands_stuck, operands_done}
-use Rattle.cedar_cst.proofs.Operands.{keep_done, keep_fails, keep_shorter, gives_behind, accesses_first, accesses_next, accesses_stuck, accesses_end, one_access, grown}
-use Rattle.cedar_cst.proofs.Accesses.{turn_fails, turn_plain, turn_called, turn_called_fails, two_accesses}
+use Rattle.cedar_cst.proofs.Operands.{keep_done, keep_fails, keep_shorter, gives_behind, accesses_first, accesses_end}
+use Rattle.cedar_cst.proofs.Members.{member_plain, member_called, member_fails, member_call_fails}
 use Rattle.cedar_cst.proofs.Listed.{items_first, items_next, items_last_read, items_stuck, items_end, last_item}
 use Rattle.cedar_cst.proofs.Bracketed.{square, round, curly, enclosed_reader, enclosed_gives, primary_gives, access_gives}
 use Rattle.cedar_cst.proofs.Relations.{relation_fails, compared_gives, word_gives, type_gives, lone_gives, has_reads, like_reads, is_reads, none_reads}
 use Rattle.cedar_cst.proofs.Nesting.{depth_back, if_deep, if_reads, or_reads, call_deep, call_reads, item_word, item_literal, bracket_deep, bracket_reads, round_reads, square_reads, curly_reads}
 use Rattle.cedar_cst.proofs.Branches.{if_test_fails, if_yes_fails, if_no_fails, if_gives, parens_gives, init_fails, init_gives, type_fails, type_alone, type_in}
-use Rattle.cedar_cst.proofs.Primaries.{add_at, compared_at, has_at, like_at, type_at, begins_turn, has_between, like_between, expr_takes, one_begins, call_stuck, brackets_none, or_gives, signed_gives, item_as, lone_item}
+use Rattle.cedar_cst.proofs.Primaries.{add_at, compared_at, has_at, like_at, type_at, begins_turn, has_between, like_between, expr_takes, one_begins, one_first, call_stuck, brackets_none, or_gives, signed_gives, item_as, lone_item}
 use Rattle.cedar_cst.proofs.Signs.{unary_gives}
 use Rattle.cedar_cst.proofs.References.{reference_fails, reference_entity, reference_called, reference_variable, reference_stops, call_refuses}
 use Rattle.cedar_cst.proofs.Closed.{closed_fails, closed_done}
@@ -45,9 +45,9 @@ pub parse_or-operands-preserved : goal.parse_or-operands-preserved
 parse_or-operands-preserved _ c =
     let i = c.operands.invariant in
     let d = c.in-Some.ensures.token in
-    let g = plain_operand Label.and and_parts c.parse_and-2.result _ c.parse_and-2.ensures.reads in
-    let y = operand_kept Label.and and_parts (λ _. codes "||") (λ n. n) (λ n. Unit {0}) c.parse_and-2.result _ _ c.keep.new.rest c.in_ok-keep.field-0 _ g c.in_ok-keep.ensures in
-    let s = keep_shorter c.parse_and-2.result _ _ c.keep.new.rest c.in_ok-keep.field-0 _ c.parse_and-2.ensures.shorter c.in_ok-keep.ensures in
+    let g = plain_operand Label.and and_parts c.parse_and-in-Some.result _ c.parse_and-in-Some.ensures.reads in
+    let y = operand_kept Label.and and_parts (λ _. codes "||") (λ n. n) (λ n. Unit {0}) c.parse_and-in-Some.result _ _ c.keep.new.rest c.in_ok-keep.field-0 _ g c.in_ok-keep.ensures in
+    let s = keep_shorter c.parse_and-in-Some.result _ _ c.keep.new.rest c.in_ok-keep.field-0 _ c.parse_and-in-Some.ensures.shorter c.in_ok-keep.ensures in
     let b = c.in-Some.ensures.shorter in
     (omega (arith, s, b, i.0), operands_next Label.and and_parts (λ _. codes "||") (λ n. n) Label.or (is K.Or) (at_depth c.args.depth and_rule) refl (depth_takes c.args.depth and_rule refl refl) _ _ _ _ _ _ _ d.0 K.Or y.0 y.1 i.1 d.1 d.2 refl (record { comma = refl; number = refl; closing = refl; shows = λ u. refl }) y.2 y.3 y.5)
 
@@ -55,8 +55,8 @@ pub parse_or-returns-in_err-keep-clause-reads : goal.parse_or-returns-in_err-kee
 parse_or-returns-in_err-keep-clause-reads _ c =
     let p = err_from_is_err_and c.from_residual-in_err-keep.result c.from_residual-in_err-keep.ensures.1 in
     let d = c.in-Some.ensures.token in
-    let g = plain_operand Label.and and_parts c.parse_and-2.result _ c.parse_and-2.ensures.reads in
-    rw (p.1, p.2) (passes _ _ _ (operand_fails Label.and and_parts (λ _. codes "||") (λ n. n) (λ n. Unit {0}) c.parse_and-2.result _ _ _ _ _ g c.in_err-keep.ensures)
+    let g = plain_operand Label.and and_parts c.parse_and-in-Some.result _ c.parse_and-in-Some.ensures.reads in
+    rw (p.1, p.2) (passes _ _ _ (operand_fails Label.and and_parts (λ _. codes "||") (λ n. n) (λ n. Unit {0}) c.parse_and-in-Some.result _ _ _ _ _ g c.in_err-keep.ensures)
     (λ x r e. operands_stuck Label.and and_parts (λ _. codes "||") (λ n. n) Label.or (is K.Or) (at_depth c.args.depth and_rule) _ _ _ _ _ d.0 K.Or x r c.operands.invariant.1 d.1 d.2 refl e))
 
 pub parse_or-returns-clause-reads : goal.parse_or-returns-clause-reads
@@ -76,9 +76,9 @@ pub parse_and-operands-preserved : goal.parse_and-operands-preserved
 parse_and-operands-preserved _ c =
     let i = c.operands.invariant in
     let d = c.in-Some.ensures.token in
-    let g = plain_operand Label.relation relation_parts c.parse_relation-2.result _ c.parse_relation-2.ensures.reads in
-    let y = operand_kept Label.relation relation_parts (λ _. codes "&&") (λ n. n) (λ n. Unit {0}) c.parse_relation-2.result _ _ c.keep.new.rest c.in_ok-keep.field-0 _ g c.in_ok-keep.ensures in
-    let s = keep_shorter c.parse_relation-2.result _ _ c.keep.new.rest c.in_ok-keep.field-0 _ c.parse_relation-2.ensures.shorter c.in_ok-keep.ensures in
+    let g = plain_operand Label.relation relation_parts c.parse_relation-in-Some.result _ c.parse_relation-in-Some.ensures.reads in
+    let y = operand_kept Label.relation relation_parts (λ _. codes "&&") (λ n. n) (λ n. Unit {0}) c.parse_relation-in-Some.result _ _ c.keep.new.rest c.in_ok-keep.field-0 _ g c.in_ok-keep.ensures in
+    let s = keep_shorter c.parse_relation-in-Some.result _ _ c.keep.new.rest c.in_ok-keep.field-0 _ c.parse_relation-in-Some.ensures.shorter c.in_ok-keep.ensures in
     let b = c.in-Some.ensures.shorter in
     (omega (arith, s, b, i.0), operands_next Label.relation relation_parts (λ _. codes "&&") (λ n. n) Label.and (is K.And) (at_depth c.args.depth relation_rule) refl (depth_takes c.args.depth relation_rule refl refl) _ _ _ _ _ _ _ d.0 K.And y.0 y.1 i.1 d.1 d.2 refl (record { comma = refl; number = refl; closing = refl; shows = λ u. refl }) y.2 y.3 y.5)
 
@@ -86,8 +86,8 @@ pub parse_and-returns-in_err-keep-clause-reads : goal.parse_and-returns-in_err-k
 parse_and-returns-in_err-keep-clause-reads _ c =
     let p = err_from_is_err_and c.from_residual-in_err-keep.result c.from_residual-in_err-keep.ensures.1 in
     let d = c.in-Some.ensures.token in
-    let g = plain_operand Label.relation relation_parts c.parse_relation-2.result _ c.parse_relation-2.ensures.reads in
-    rw (p.1, p.2) (passes _ _ _ (operand_fails Label.relation relation_parts (λ _. codes "&&") (λ n. n) (λ n. Unit {0}) c.parse_relation-2.result _ _ _ _ _ g c.in_err-keep.ensures)
+    let g = plain_operand Label.relation relation_parts c.parse_relation-in-Some.result _ c.parse_relation-in-Some.ensures.reads in
+    rw (p.1, p.2) (passes _ _ _ (operand_fails Label.relation relation_parts (λ _. codes "&&") (λ n. n) (λ n. Unit {0}) c.parse_relation-in-Some.result _ _ _ _ _ g c.in_err-keep.ensures)
     (λ x r e. operands_stuck Label.relation relation_parts (λ _. codes "&&") (λ n. n) Label.and (is K.And) (at_depth c.args.depth relation_rule) _ _ _ _ _ d.0 K.And x r c.operands.invariant.1 d.1 d.2 refl e))
 
 pub parse_and-returns-clause-reads : goal.parse_and-returns-clause-reads
@@ -107,9 +107,9 @@ pub parse_mult-operands-preserved : goal.parse_mult-operands-preserved
 parse_mult-operands-preserved _ c =
     let i = c.operands.invariant in
     let d = c.in-Some.ensures.token in
-    let g = signed_operand MultOp.Times Label.unary unary_parts c.parse_unary-2.result c.with_sign-read.result _ c.parse_unary-2.ensures.reads c.with_sign-read.ensures.passes c.with_sign-read.ensures.made in
+    let g = signed_operand MultOp.Times Label.unary unary_parts c.parse_unary-in-Some.result c.with_sign-read.result _ c.parse_unary-in-Some.ensures.reads c.with_sign-read.ensures.passes c.with_sign-read.ensures.made in
     let y = operand_kept Label.unary unary_parts (λ _. codes "*") (λ x. x.1) (λ y. y.0 ≡ MultOp.Times) c.with_sign-read.result _ _ c.keep.new.rest c.in_ok-keep.field-0 _ g c.in_ok-keep.ensures in
-    let s = signed_shorter c.parse_unary-2.result c.with_sign-read.result _ _ c.keep.new.rest c.in_ok-keep.field-0 _ c.parse_unary-2.ensures.shorter c.with_sign-read.ensures.passes c.in_ok-keep.ensures in
+    let s = signed_shorter c.parse_unary-in-Some.result c.with_sign-read.result _ _ c.keep.new.rest c.in_ok-keep.field-0 _ c.parse_unary-in-Some.ensures.shorter c.with_sign-read.ensures.passes c.in_ok-keep.ensures in
     let b = c.in-Some.ensures.shorter in
     (omega (arith, s, b, i.0), operands_next Label.unary unary_parts (λ _. codes "*") (λ x. x.1) Label.mult (is K.Mul) (at_depth c.args.depth unary_rule) refl (depth_takes c.args.depth unary_rule refl refl) _ _ _ _ _ _ _ d.0 K.Mul y.0 y.1 i.1 d.1 d.2 refl (record { comma = refl; number = refl; closing = refl; shows = λ u. refl }) y.2 y.3 y.5)
 
@@ -117,7 +117,7 @@ pub parse_mult-returns-in_err-keep-clause-reads : goal.parse_mult-returns-in_err
 parse_mult-returns-in_err-keep-clause-reads _ c =
     let p = err_from_is_err_and c.from_residual-in_err-keep.result c.from_residual-in_err-keep.ensures.1 in
     let d = c.in-Some.ensures.token in
-    let g = signed_operand MultOp.Times Label.unary unary_parts c.parse_unary-2.result c.with_sign-read.result _ c.parse_unary-2.ensures.reads c.with_sign-read.ensures.passes c.with_sign-read.ensures.made in
+    let g = signed_operand MultOp.Times Label.unary unary_parts c.parse_unary-in-Some.result c.with_sign-read.result _ c.parse_unary-in-Some.ensures.reads c.with_sign-read.ensures.passes c.with_sign-read.ensures.made in
     rw (p.1, p.2) (passes _ _ _ (operand_fails Label.unary unary_parts (λ _. codes "*") (λ x. x.1) (λ y. y.0 ≡ MultOp.Times) c.with_sign-read.result _ _ _ _ _ g c.in_err-keep.ensures)
     (λ x r e. operands_stuck Label.unary unary_parts (λ _. codes "*") (λ x. x.1) Label.mult (is K.Mul) (at_depth c.args.depth unary_rule) _ _ _ _ _ d.0 K.Mul x r c.operands.invariant.1 d.1 d.2 refl e))
 
@@ -138,9 +138,9 @@ pub parse_add-operands-preserved : goal.parse_add-operands-preserved
 parse_add-operands-preserved _ c =
     let i = c.operands.invariant in
     let d = c.in-Some.ensures.reads in
-    let g = signed_operand c.in-Some.op Label.mult mult_parts c.parse_mult-2.result c.with_sign.result _ c.parse_mult-2.ensures.reads c.with_sign.ensures.passes c.with_sign.ensures.made in
+    let g = signed_operand c.in-Some.op Label.mult mult_parts c.parse_mult-in-Some.result c.with_sign.result _ c.parse_mult-in-Some.ensures.reads c.with_sign.ensures.passes c.with_sign.ensures.made in
     let y = operand_kept Label.mult mult_parts (λ x. addop_text x.0) (λ x. x.1) (λ y. y.0 ≡ c.in-Some.op) c.with_sign.result _ _ c.keep.new.rest c.in_ok-keep.field-0 _ g c.in_ok-keep.ensures in
-    let s = signed_shorter c.parse_mult-2.result c.with_sign.result _ _ c.keep.new.rest c.in_ok-keep.field-0 _ c.parse_mult-2.ensures.shorter c.with_sign.ensures.passes c.in_ok-keep.ensures in
+    let s = signed_shorter c.parse_mult-in-Some.result c.with_sign.result _ _ c.keep.new.rest c.in_ok-keep.field-0 _ c.parse_mult-in-Some.ensures.shorter c.with_sign.ensures.passes c.in_ok-keep.ensures in
     let b = c.in-Some.ensures.shorter in
     (omega (arith, s, b, i.0), operands_next Label.mult mult_parts (λ x. addop_text x.0) (λ x. x.1) Label.add (λ x. is K.Add x || is K.Dash x) (at_depth c.args.depth mult_rule) refl (depth_takes c.args.depth mult_rule refl refl) _ _ _ _ _ _ _ d.0 (addop_kind c.in-Some.op) y.0 y.1 i.1 d.1 d.2 (addop_begins c.in-Some.op) (rw y.4 (addop_between c.in-Some.op)) y.2 y.3 y.5)
 
@@ -148,7 +148,7 @@ pub parse_add-returns-in_err-keep-clause-reads : goal.parse_add-returns-in_err-k
 parse_add-returns-in_err-keep-clause-reads _ c =
     let p = err_from_is_err_and c.from_residual-in_err-keep.result c.from_residual-in_err-keep.ensures.1 in
     let d = c.in-Some.ensures.reads in
-    let g = signed_operand c.in-Some.op Label.mult mult_parts c.parse_mult-2.result c.with_sign.result _ c.parse_mult-2.ensures.reads c.with_sign.ensures.passes c.with_sign.ensures.made in
+    let g = signed_operand c.in-Some.op Label.mult mult_parts c.parse_mult-in-Some.result c.with_sign.result _ c.parse_mult-in-Some.ensures.reads c.with_sign.ensures.passes c.with_sign.ensures.made in
     rw (p.1, p.2) (passes _ _ _ (operand_fails Label.mult mult_parts (λ x. addop_text x.0) (λ x. x.1) (λ y. y.0 ≡ c.in-Some.op) c.with_sign.result _ _ _ _ _ g c.in_err-keep.ensures)
     (λ x r e. operands_stuck Label.mult mult_parts (λ x. addop_text x.0) (λ x. x.1) Label.add (λ x. is K.Add x || is K.Dash x) (at_depth c.args.depth mult_rule) _ _ _ _ _ d.0 (addop_kind c.in-Some.op) x r c.operands.invariant.1 d.1 d.2 (addop_begins c.in-Some.op) e))
 
@@ -158,7 +158,7 @@ parse_add-returns-clause-reads _ c = operands_done Label.mult mult_parts (λ x. 
 -- Expressions.
 pub parse_expr-returns-then-begins-clause-reads : goal.parse_expr-returns-then-begins-clause-reads
 parse_expr-returns-then-begins-clause-reads _ c =
-    let e = depth_back c.args.depth (omega (arith, c.if-eq.false)) in
+    let e = depth_back c.args.depth (omega (arith, c.if-depth-eq0.false)) in
     gives_as Label.expr expr_parts c.parse_if.result _ _ c.parse_if.ensures.reads (subst (λ d. at_depth d expr_rule c.args.tokens.now ≡ at_depth (suc (c.args.depth - 1)) if_rule c.args.tokens.now) e (if_reads (c.args.depth - 1) _ (sym c.begins.ensures ∙ c.if-begins.true)))
 
 pub parse_expr-returns-clause-reads : goal.parse_expr-returns-clause-reads
@@ -292,7 +292,7 @@ parse_call-returns-in_err-open-clause-reads _ c =
 pub parse_call-returns-clause-reads : goal.parse_call-returns-clause-reads
 parse_call-returns-clause-reads _ c =
     let h = c.in_ok-open.ensures.reads in
-    let e = depth_back c.args.depth (omega (arith, c.if-eq.false)) in
+    let e = depth_back c.args.depth (omega (arith, c.if-depth-eq0.false)) in
     let P = at_depth (suc (c.args.depth - 1)) (maybe (items inner)) in
     let g = enclosed_gives Label.expr expr_parts (codes "(") (codes ")") K.LParen K.RParen round P c.parse_exprs-read.result c.closed_by.result _ _ c.in_ok-open.open h.0 h.1 c.parse_exprs-read.ensures.reads c.closed_by.ensures.reads in
     gives_as Label.access access_parts c.call_node.result _ _ (access_gives Label.expr expr_parts (codes "(") (codes ")") (enclosed_reader Label.expr expr_parts (codes "(") (codes ")") K.LParen K.RParen round P) _ c.closed_by.result c.call_node.result _ g c.call_node.ensures.passes c.call_node.ensures.made)
@@ -301,19 +301,19 @@ parse_call-returns-clause-reads _ c =
 -- Items.
 pub parse_item-returns-then-begins_identifier-clause-reads : goal.parse_item-returns-then-begins_identifier-clause-reads
 parse_item-returns-then-begins_identifier-clause-reads _ c =
-    item_as c.parse_reference.result _ _ c.parse_reference.ensures.reads (item_word c.args.depth _ (sym c.begins_identifier.ensures ∙ c.if-begins_identifier.true))
+    item_as c.parse_reference.result _ _ c.parse_reference.ensures.reads (item_word c.args.depth c.args.tokens.now (sym c.begins_identifier.ensures ∙ c.if-begins_identifier.true))
 
 pub parse_item-returns-then-not-begins_bracket-clause-reads : goal.parse_item-returns-then-not-begins_bracket-clause-reads
 parse_item-returns-then-not-begins_bracket-clause-reads _ c =
-    let h = brackets_none _ (sym c.begins_bracket.ensures ∙ c.if-not-begins_bracket.true) in
-    item_as c.lone_primary.result _ _ (lone_item (flat literal_rule) c.parse_literal.result c.lone_primary.result _ c.parse_literal.ensures.reads c.lone_primary.ensures.passes c.lone_primary.ensures.made)
-    (item_literal c.args.depth _ (sym c.begins_identifier.ensures ∙ c.if-begins_identifier.false) h.0 h.1 h.2)
+    let h = brackets_none c.args.tokens.now (sym c.begins_bracket.ensures ∙ c.if-not-begins_bracket.true) in
+    item_as c.lone_primary.result _ _ (lone_item (flat literal_rule) c.parse_literal.result c.lone_primary.result c.args.tokens.now c.parse_literal.ensures.reads c.lone_primary.ensures.passes c.lone_primary.ensures.made)
+    (item_literal c.args.depth c.args.tokens.now (sym c.begins_identifier.ensures ∙ c.if-begins_identifier.false) h.0 h.1 h.2)
 
 pub parse_item-returns-clause-reads : goal.parse_item-returns-clause-reads
 parse_item-returns-clause-reads _ c =
-    let e = depth_back c.args.depth (omega (arith, c.if-eq.false)) in
-    item_as c.lone_primary-2.result _ _ (lone_item (at_depth (suc (c.args.depth - 1)) bracket_rule) c.parse_bracket.result c.lone_primary-2.result _ c.parse_bracket.ensures.reads c.lone_primary-2.ensures.passes c.lone_primary-2.ensures.made)
-    (subst (λ d. at_depth d item c.args.tokens.now ≡ at_depth (suc (c.args.depth - 1)) bracket_rule c.args.tokens.now) e (bracket_reads (c.args.depth - 1) _ (sym c.begins_bracket.ensures ∙ c.if-not-begins_bracket.false)))
+    let e = depth_back c.args.depth (omega (arith, c.if-depth-eq0.false)) in
+    item_as c.lone_primary-2.result _ _ (lone_item (at_depth (suc (c.args.depth - 1)) bracket_rule) c.parse_bracket.result c.lone_primary-2.result c.args.tokens.now c.parse_bracket.ensures.reads c.lone_primary-2.ensures.passes c.lone_primary-2.ensures.made)
+    (subst (λ d. at_depth d item c.args.tokens.now ≡ at_depth (suc (c.args.depth - 1)) bracket_rule c.args.tokens.now) e (bracket_reads (c.args.depth - 1) c.args.tokens.now (sym c.begins_bracket.ensures ∙ c.if-not-begins_bracket.false)))
 
 -- Brackets.
 pub parse_bracket-returns-in-Some-clause-reads : goal.parse_bracket-returns-in-Some-clause-reads
@@ -321,7 +321,7 @@ parse_bracket-returns-in-Some-clause-reads _ c =
     let d = c.in-Some.ensures.token in
     let t = is_itself K.LParen d.0.kind (sym d.2) in
     gives_as Label.primary primary_parts c.parens_node.result _ _ (parens_gives (expr_to kind c.args.depth) c.parse_expr-read.result c.closed_by.result c.parens_node.result _ _ d.0 (token_at (is K.LParen) _ d.0 _ d.1 t) d.2
-    (gives_as Label.expr expr_parts c.parse_expr-read.result _ _ c.parse_expr-read.ensures.reads (expr_at c.args.depth _)) c.closed_by.ensures.reads c.parens_node.ensures.passes c.parens_node.ensures.made)
+    (gives_as Label.expr expr_parts c.parse_expr-read.result _ _ c.parse_expr-read.ensures.reads (expr_at c.args.depth _)) c.closed_by.ensures.reads c.parens_node.ensures.passes (subst (λ z. Makes (IsParensOf z) c.closed_by.result c.parens_node.result) (c.start_of-start.ensures ∙ ap first_place d.1) c.parens_node.ensures.made))
     (round_reads c.args.depth _ (first_begins (is K.LParen) _ d.0 _ d.1 ∙ t))
 
 pub parse_bracket-returns-in-Some-past-clause-reads : goal.parse_bracket-returns-in-Some-past-clause-reads
@@ -331,7 +331,7 @@ parse_bracket-returns-in-Some-past-clause-reads _ c =
     let P = at_depth (suc c.args.depth) (maybe (items inner)) in
     let Q = enclosed_reader Label.expr expr_parts (codes "[") (codes "]") K.LBracket K.RBracket square P in
     let g = enclosed_gives Label.expr expr_parts (codes "[") (codes "]") K.LBracket K.RBracket square P c.parse_exprs-read.result c.closed_by-in-Some-past.result _ _ d.0 (token_at (is K.LBracket) _ d.0 _ d.1 t) d.2 c.parse_exprs-read.ensures.reads c.closed_by-in-Some-past.ensures.reads in
-    gives_as Label.primary primary_parts c.list_node.result _ _ (primary_gives Label.expr expr_parts (codes "[") (codes "]") Label.list refl Q _ c.closed_by-in-Some-past.result c.list_node.result _ g c.list_node.ensures.passes c.list_node.ensures.made)
+    gives_as Label.primary primary_parts c.list_node.result _ _ (primary_gives Label.expr expr_parts (codes "[") (codes "]") Label.list refl Q _ c.closed_by-in-Some-past.result c.list_node.result _ g c.list_node.ensures.passes (subst (λ z. Makes (IsListOf z) c.closed_by-in-Some-past.result c.list_node.result) (c.start_of-start.ensures ∙ ap first_place d.1) c.list_node.ensures.made))
     (square_reads c.args.depth _ c.in_default.ensures.token (first_begins (is K.LBracket) _ d.0 _ d.1 ∙ t))
 
 pub parse_bracket-returns-in_err-rest-clause-reads : goal.parse_bracket-returns-in_err-rest-clause-reads
@@ -344,8 +344,8 @@ parse_bracket-returns-clause-reads _ c =
     let h = c.in_ok-rest.ensures.reads in
     let P = at_depth (suc c.args.depth) (maybe (items init)) in
     let Q = enclosed_reader Label.rec_init init_parts (codes "{") (codes "}") K.LBrace K.RBrace curly P in
-    let g = enclosed_gives Label.rec_init init_parts (codes "{") (codes "}") K.LBrace K.RBrace curly P c.parse_inits-read.result c.closed_by-2.result _ _ h.0 h.1 h.2 c.parse_inits-read.ensures.reads c.closed_by-2.ensures.reads in
-    gives_as Label.primary primary_parts c.record_node.result _ _ (primary_gives Label.rec_init init_parts (codes "{") (codes "}") Label.fields refl Q _ c.closed_by-2.result c.record_node.result _ g c.record_node.ensures.passes c.record_node.ensures.made)
+    let g = enclosed_gives Label.rec_init init_parts (codes "{") (codes "}") K.LBrace K.RBrace curly P c.parse_inits-read.result c.closed_by-2.result _ _ c.in_ok-rest.field-0-0 h.0 h.1 c.parse_inits-read.ensures.reads c.closed_by-2.ensures.reads in
+    gives_as Label.primary primary_parts c.record_node.result _ _ (primary_gives Label.rec_init init_parts (codes "{") (codes "}") Label.fields refl Q _ c.closed_by-2.result c.record_node.result _ g c.record_node.ensures.passes (subst (λ z. Makes (IsRecordOf z) c.closed_by-2.result c.record_node.result) (c.start_of-start.ensures ∙ one_first K.LBrace _ _ _ h.0) c.record_node.ensures.made))
     (curly_reads c.args.depth _ c.in_default.ensures.token c.in_default-past.ensures.token)
 
 -- Entries of records.
@@ -437,7 +437,7 @@ parse_inits-returns-clause-reads _ c =
 -- Members behind signs.
 pub parse_unary-returns-clause-reads : goal.parse_unary-returns-clause-reads
 parse_unary-returns-clause-reads _ c =
-    unary_gives (at_depth c.args.depth member_rule) _ c.op c.rest _ c.parse_member-read.result c.unary_node.result c.read_signs.ensures.reads c.parse_member-read.ensures.reads c.signed_start.ensures c.unary_node.ensures.passes c.unary_node.ensures.made
+    unary_gives (at_depth c.args.depth member_rule) _ c.read_signs-op.result.0 c.read_signs-op.result.1 _ c.parse_member-read.result c.unary_node.result c.read_signs-op.ensures.reads c.parse_member-read.ensures.reads c.signed_start.ensures c.unary_node.ensures.passes c.unary_node.ensures.made
 
 -- References.
 pub parse_reference-returns-in_err-name-clause-reads : goal.parse_reference-returns-in_err-name-clause-reads
@@ -450,32 +450,29 @@ parse_member-accesses-preserved _ c =
     let i = c.accesses.invariant in
     let k = keep_done Label.access access_parts c.parse_access.result _ _ c.keep.new.rest c.in_ok-keep.field-0 _ c.parse_access.ensures.reads c.in_ok-keep.ensures in
     let s = keep_shorter c.parse_access.result _ _ c.keep.new.rest c.in_ok-keep.field-0 _ c.parse_access.ensures.shorter c.in_ok-keep.ensures in
-    (omega (arith, s, i.0), accesses_next (at_depth c.args.depth item) begins_turn (at_depth c.args.depth access_rule) (depth_takes c.args.depth access_rule refl refl) _ _ (k.0 ∷ []) _ _ _ _ _ _ i.1 (sym c.begins_access.ensures ∙ c.accesses-test.true)
-        (turn_plain (flat field) (flat index) (at_depth c.args.depth call) _ _ k.1 _ c.begins-callable.ensures k.2 (sym c.begins_call.ensures ∙ c.if-begins_call.false)) refl (one_access k.0 k.1 k.3) (λ z. refl) k.4)
+    (omega (arith, s, i.0), member_plain c.args.depth _ _ _ _ _ _ _ k.0 k.1 i.1 (sym c.begins_access.ensures ∙ c.accesses-test.true) c.begins-callable.ensures k.2 k.3 k.4 (sym c.begins_call.ensures ∙ c.if-begins_call.false))
 
-pub parse_member-accesses-preserved-then-begins_call : goal.parse_member-accesses-preserved-then-begins_call
-parse_member-accesses-preserved-then-begins_call _ c =
+pub parse_member-accesses-preserved-in-Continue-branch-3 : goal.parse_member-accesses-preserved-in-Continue-branch-3
+parse_member-accesses-preserved-in-Continue-branch-3 _ c =
     let i = c.accesses.invariant in
     let k = keep_done Label.access access_parts c.parse_access.result _ _ c.keep.new.rest c.in_ok-keep.field-0 _ c.parse_access.ensures.reads c.in_ok-keep.ensures in
     let s = keep_shorter c.parse_access.result _ _ c.keep.new.rest c.in_ok-keep.field-0 _ c.parse_access.ensures.shorter c.in_ok-keep.ensures in
-    let m = keep_done Label.access access_parts c.parse_call.result _ _ c.keep-2.new.rest c.in_ok-keep-2.field-0 _ c.parse_call.ensures.reads c.in_ok-keep-2.ensures in
-    let u = keep_shorter c.parse_call.result _ _ c.keep-2.new.rest c.in_ok-keep-2.field-0 _ c.parse_call.ensures.shorter c.in_ok-keep-2.ensures in
-    (omega (arith, s, u, i.0), accesses_next (at_depth c.args.depth item) begins_turn (at_depth c.args.depth access_rule) (depth_takes c.args.depth access_rule refl refl) _ _ (k.0 ∷ m.0 ∷ []) _ _ _ _ _ _ i.1 (sym c.begins_access.ensures ∙ c.accesses-test.true)
-        (turn_called (flat field) (flat index) (at_depth c.args.depth call) _ _ k.1 _ m.1 _ c.begins-callable.ensures k.2 (sym c.begins_call.ensures ∙ c.if-begins_call.true) m.2) refl (two_accesses k.0 m.0 k.1 m.1 k.3 m.3) (λ z. refl) (grown k.4 m.4))
+    let m = keep_done Label.access access_parts c.parse_call.result _ _ c.keep-then-begins_call.new.rest c.in_ok-keep-2.field-0 _ c.parse_call.ensures.reads c.in_ok-keep-2.ensures in
+    let u = keep_shorter c.parse_call.result _ _ c.keep-then-begins_call.new.rest c.in_ok-keep-2.field-0 _ c.parse_call.ensures.shorter c.in_ok-keep-2.ensures in
+    (omega (arith, s, u, i.0), member_called c.args.depth _ _ _ _ _ _ _ _ _ k.0 m.0 k.1 m.1 i.1 (sym c.begins_access.ensures ∙ c.accesses-test.true) c.begins-callable.ensures k.2 k.3 k.4 (sym c.begins_call.ensures ∙ c.if-begins_call.true) m.2 m.3 m.4)
 
 pub parse_member-returns-in_err-keep-clause-reads : goal.parse_member-returns-in_err-keep-clause-reads
 parse_member-returns-in_err-keep-clause-reads _ c =
     let p = err_from_is_err_and c.from_residual-in_err-keep.result c.from_residual-in_err-keep.ensures.1 in
     rw (p.1, p.2) (passes _ _ _ (keep_fails Label.access access_parts c.parse_access.result _ _ _ _ _ c.parse_access.ensures.reads c.in_err-keep.ensures)
-    (λ x r e. accesses_stuck (at_depth c.args.depth item) begins_turn (at_depth c.args.depth access_rule) _ _ _ _ x r c.accesses.invariant.1 (sym c.begins_access.ensures ∙ c.accesses-test.true) (turn_fails (flat field) (flat index) (at_depth c.args.depth call) _ x r e)))
+    (λ x r e. member_fails c.args.depth _ _ _ _ x r c.accesses.invariant.1 (sym c.begins_access.ensures ∙ c.accesses-test.true) e))
 
-pub parse_member-returns-in_err-keep-then-begins_call-clause-reads : goal.parse_member-returns-in_err-keep-then-begins_call-clause-reads
-parse_member-returns-in_err-keep-then-begins_call-clause-reads _ c =
+pub parse_member-returns-in_err-keep-2-clause-reads : goal.parse_member-returns-in_err-keep-2-clause-reads
+parse_member-returns-in_err-keep-2-clause-reads _ c =
     let p = err_from_is_err_and c.from_residual-in_err-keep-2.result c.from_residual-in_err-keep-2.ensures.1 in
     let k = keep_done Label.access access_parts c.parse_access.result _ _ c.keep.new.rest c.in_ok-keep.field-0 _ c.parse_access.ensures.reads c.in_ok-keep.ensures in
     rw (p.1, p.2) (passes _ _ _ (keep_fails Label.access access_parts c.parse_call.result _ _ _ _ _ c.parse_call.ensures.reads c.in_err-keep-2.ensures)
-    (λ x r e. accesses_stuck (at_depth c.args.depth item) begins_turn (at_depth c.args.depth access_rule) _ _ _ _ x r c.accesses.invariant.1 (sym c.begins_access.ensures ∙ c.accesses-test.true)
-    (turn_called_fails (flat field) (flat index) (at_depth c.args.depth call) _ _ k.1 _ x r c.begins-callable.ensures k.2 (sym c.begins_call.ensures ∙ c.if-begins_call.true) e)))
+    (λ x r e. member_call_fails c.args.depth _ _ _ _ _ _ k.1 x r c.accesses.invariant.1 (sym c.begins_access.ensures ∙ c.accesses-test.true) c.begins-callable.ensures k.2 (sym c.begins_call.ensures ∙ c.if-begins_call.true) e))
 
 pub parse_member-returns-clause-reads : goal.parse_member-returns-clause-reads
 parse_member-returns-clause-reads _ c =
@@ -491,3 +488,27 @@ pub parse_reference-returns-then-begins-clause-reads : goal.parse_reference-retu
 parse_reference-returns-then-begins-clause-reads _ c =
     reference_called (at_depth c.args.depth call) c.in_ok-name.name _ c.name_primary-primary.result c.in_ok-name.rest c.parse_call.result c.called_primary.result _ c.in_ok-name.ensures.reads c.in_default.is c.name_primary-primary.ensures
     (sym c.begins.ensures ∙ c.if-begins.true) c.parse_call.ensures.reads c.called_primary.ensures.passes c.called_primary.ensures.made
+
+pub parse_reference-returns-then-is_lone_variable-clause-reads : goal.parse_reference-returns-then-is_lone_variable-clause-reads
+parse_reference-returns-then-is_lone_variable-clause-reads _ c =
+    let t = subst (TellsVariable c.args.tokens.now c.in_ok-name.name) c.if-is_lone_variable.true c.is_lone_variable.ensures in
+    reference_variable (at_depth c.args.depth call) c.in_ok-name.name _ c.name_primary.result c.new-2.result c.in_ok-name.rest _ c.in_ok-name.ensures.reads c.in_default.is c.name_primary.ensures t.0 t.1 (sym c.begins.ensures ∙ c.if-begins.false) c.new-2.ensures.items
+
+pub parse_reference-returns-clause-reads : goal.parse_reference-returns-clause-reads
+parse_reference-returns-clause-reads _ c =
+    let t = subst (TellsVariable c.args.tokens.now c.in_ok-name.name) c.if-is_lone_variable.false c.is_lone_variable.ensures in
+    reference_stops (at_depth c.args.depth call) (call_refuses c.args.depth) _ c.in_ok-name.name _ c.in_ok-name.rest _ c.in_ok-name.ensures.reads c.in_default.is (sym c.begins.ensures ∙ c.if-begins.false) t c.refuse.ensures
+
+-- Without room.
+pub parse_expr-returns-then-depth-eq0-clause-reads : goal.parse_expr-returns-then-depth-eq0-clause-reads
+parse_expr-returns-then-depth-eq0-clause-reads _ c =
+    fails_as c.too_deep.result _ _ c.too_deep.ensures (subst (λ d. at_depth d expr_rule c.args.tokens.now ≡ stuck true c.args.tokens.now) (sym c.if-depth-eq0.true) (if_deep c.args.tokens.now (sym c.begins.ensures ∙ c.if-begins.true)))
+
+pub parse_call-returns-then-depth-eq0-clause-reads : goal.parse_call-returns-then-depth-eq0-clause-reads
+parse_call-returns-then-depth-eq0-clause-reads _ c =
+    let h = c.in_ok-open.ensures.reads in
+    fails_as c.too_deep.result _ _ c.too_deep.ensures (subst (λ d. at_depth d call c.args.tokens.now ≡ stuck true c.args.tokens.now) (sym c.if-depth-eq0.true) (call_deep c.args.tokens.now (one_begins K.LParen _ _ _ h.0)))
+
+pub parse_item-returns-then-depth-eq0-clause-reads : goal.parse_item-returns-then-depth-eq0-clause-reads
+parse_item-returns-then-depth-eq0-clause-reads _ c =
+    fails_as c.too_deep.result _ _ c.too_deep.ensures (subst (λ d. at_depth d item c.args.tokens.now ≡ stuck true c.args.tokens.now) (sym c.if-depth-eq0.true) (bracket_deep c.args.tokens.now (sym c.begins_bracket.ensures ∙ c.if-not-begins_bracket.false)))
