@@ -27,7 +27,7 @@ use Rattle.cedar_cst.specs.declared.cst.tree.Member as Member
 use Rattle.cedar_cst.specs.declared.cst.tree.MemAccess as MemAccess
 use Rattle.cedar_cst.specs.declared.cst.tree.Primary as Primary
 use Rattle.cedar_cst.specs.declared.cst.tree.RecInit as RecInit
-use Rattle.cedar_cst.specs.Erased.{Erased, node, variant, name_tree, relop_text, addop_text, signs, expr_parts, or_parts, relation_parts, and_rest, add_parts, mult_parts, unary_parts, access_trees, access_parts, primary_parts}
+use Rattle.cedar_cst.specs.Erased.{Erased, node, variant, name_tree, relop_text, addop_text, signs, expr_parts, or_parts, relation_parts, add_parts, mult_parts, unary_parts, access_parts, primary_parts}
 use Rattle.cedar_cst.specs.Reading.{kind, Fails, Stands, access_items, last_end}
 use Rattle.cedar_cst.specs.ReadingItems.{item_trees}
 
@@ -43,15 +43,10 @@ inside (suc d) = expr_to kind d
 abbrev pub at_depth : ℕ → Rule → Reader Lexeme
 at_depth d R = read kind (has_room d) (inside d) (core R)
 
--- The parts of nodes that other nodes hold.
-abbrev pub and_parts : And.And → Erased
-and_parts (And.And' r s v row) = node Label.relation s (relation_parts r) (and_rest row)
-
-abbrev pub member_parts : Member.Member → Erased
-member_parts (Member.Member' p s v row) = node Label.primary s (primary_parts p) (access_trees row)
-
-abbrev pub init_parts : RecInit.RecInit → Erased
-init_parts (RecInit.RecInit' p s e t) = node Label.primary s (primary_parts p) (leaf (codes ":") (node Label.expr t (expr_parts e) none))
+-- where the last operand ends
+abbrev pub end_of_last : {X Y : Type 0} → (Y → Node X) → ℕ → List Y → ℕ
+end_of_last operand e [] = e
+end_of_last operand e (y ∷ ys) = end_of_last operand (operand y).span.end ys
 
 -- A first operand, and further ones behind their signs.
 module _ {X Y : Type 0} (l : Label) (parts : X → Erased) (sign : Y → List ℕ) (operand : Y → Node X) where
@@ -61,12 +56,21 @@ module _ {X Y : Type 0} (l : Label) (parts : X → Erased) (sign : Y → List �
 
   -- where the last operand ends
   abbrev pub operands_end : ℕ → List Y → ℕ
-  operands_end e [] = e
-  operands_end e (y ∷ ys) = operands_end (operand y).span.end ys
+  operands_end = end_of_last operand
 
   abbrev pub IsChainOf : {Z : Type 0} → (Z → Erased) → Node X → List Y → Node Z → Type 0
   IsChainOf whole first more n =
       (whole n.inner ≡ node l first.span (parts first.inner) (operand_trees more)) × (n.span ≡ record { start = first.span.start; end = operands_end first.span.end more })
+
+-- The parts of nodes that other nodes hold.
+abbrev pub and_parts : And.And → Erased
+and_parts a = node Label.relation a.initial.span (relation_parts a.initial.inner) (operand_trees Label.relation relation_parts (λ _. codes "&&") (λ n. n) a.extended.items)
+
+abbrev pub member_parts : Member.Member → Erased
+member_parts m = node Label.primary m.item.span (primary_parts m.item.inner) (access_items m.access.items)
+
+abbrev pub init_parts : RecInit.RecInit → Erased
+init_parts r = node Label.primary r.key.span (primary_parts r.key.inner) (leaf (codes ":") (node Label.expr r.value.span (expr_parts r.value.inner) none))
 
 abbrev pub IsOrOf : Node And.And → List (Node And.And) → Node Or.Or → Type 0
 IsOrOf = IsChainOf Label.and and_parts (λ _. codes "||") (λ n. n) or_parts
@@ -142,6 +146,23 @@ abbrev pub IsIfOf : ℕ → Node Expr.Expr → Node Expr.Expr → Node Expr.Expr
 IsIfOf start a b c n =
     (expr_parts n.inner ≡ leaf (codes "if") (node Label.expr a.span (expr_parts a.inner) (leaf (codes "then") (node Label.expr b.span (expr_parts b.inner) (leaf (codes "else") (node Label.expr c.span (expr_parts c.inner) none))))))
     × (n.span ≡ record { start = start; end = c.span.end })
+
+-- What is kept beside a node.
+-- a sign and what was read behind it
+abbrev pub IsSigned : {S X : Type 0} → S → X → S × X → Type 0
+IsSigned sign x y = y ≡ (sign, x)
+
+-- a type and the operand that was read behind it
+abbrev pub IsTyped : Node Name → Node Add.Add → Node Name × Option (Node Add.Add) → Type 0
+IsTyped name x y = y ≡ (name, Some x)
+
+-- the primary that was read, without any access
+abbrev pub IsUncalled : Node Primary.Primary → Node Primary.Primary × Vec (Node MemAccess.MemAccess) Global → Type 0
+IsUncalled x y = (y.0 ≡ x) × (y.1.items ≡ [])
+
+-- a primary and the call that was read behind it
+abbrev pub IsCalled : Node Primary.Primary → Node MemAccess.MemAccess → Node Primary.Primary × Vec (Node MemAccess.MemAccess) Global → Type 0
+IsCalled primary x y = (y.0 ≡ primary) × (y.1.items ≡ x ∷ [])
 
 -- What is read beside nodes.
 -- a sign of this kind and a tree of this label, for which the node stands; or the refusal is the reader's
