@@ -17,6 +17,10 @@ pub mod Scopes
 pub mod Closed
 pub mod Manys
 pub mod Depths
+pub mod Starts
+pub mod Conds
+pub mod Policies
+pub mod Sets
 pub mod Whole
 pub mod RefusalLaws
 pub mod ErasedSame

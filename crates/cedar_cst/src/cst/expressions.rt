@@ -1,5 +1,10 @@
 //! Expressions. Recursion goes down the nesting alone; `depth` says how many brackets and `if`s may still be nested.
 ghost use Rattle.std.specs.Prelude.{◌<◌, ◌≤◌, length, IfOk};
+ghost use Rattle.cedar_grammar.specs.Trees.{Label};
+ghost use Rattle.cedar_grammar.specs.Reader.Lines.{expr_rule};
+ghost use Rattle.cedar_cst.specs.Erased.{expr_parts};
+ghost use Rattle.cedar_cst.specs.Reading.{GivesNode};
+ghost use Rattle.cedar_cst.specs.ReadingExprs.{at_depth};
 
 use crate::cst::lexeme::Lexeme;
 use crate::cst::nodes::{
@@ -30,7 +35,8 @@ pub fn parse_expr<'t, 'src>(
     tokens: &'t [Lexeme<'src>],
     depth: usize,
 ) -> Parsed<'t, 'src, Node<Expr<'src>>>
-    ensures { IfOk result (λ x. length x.1.now < length tokens.now) }
+    ensures shorter { IfOk result (λ x. length x.1.now < length tokens.now) }
+    ensures reads { GivesNode Label.expr expr_parts result (at_depth depth expr_rule tokens.now) }
 {
     if begins(tokens, Kind::If) {
         if depth == 0 {
