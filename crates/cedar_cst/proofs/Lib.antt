@@ -16,6 +16,7 @@ pub mod Bracketed
 pub mod Scopes
 pub mod Closed
 pub mod Manys
+pub mod Signs
 pub mod Whole
 pub mod RefusalLaws
 pub mod ErasedSame

@@ -9,3 +9,4 @@ pub mod ReadingSet
 pub mod ReadingParts
 pub mod ReadingItems
 pub mod ReadingExprs
+pub mod ReadingSigns

@@ -18,7 +18,7 @@ use crate::cst::words::{
     begins_access, begins_bracket, begins_comparison, begins_expression, begins_identifier,
     begins_key, begins_variable, entity_node, name_primary, parse_comparison_sign, parse_field,
     parse_has_field, parse_index, parse_key, parse_literal, parse_path, parse_pattern, parse_words,
-    past_sum_sign, read_signs,
+    past_sum_sign, read_signs, signed_start,
 };
 use cedar_grammar::kind::Kind;
 use std::alloc::Global;
@@ -213,12 +213,9 @@ fn parse_unary<'t, 'src>(
 ) -> Parsed<'t, 'src, Node<Unary<'src>>>
     ensures { IfOk result (λ x. length x.1.now < length tokens.now) }
 {
-    let (op, signs) = read_signs(tokens);
-    unary_node(
-        start_of(tokens),
-        op,
-        parse_member(alloc, &tokens[signs..], depth),
-    )
+    let (op, rest) = read_signs(tokens);
+    let read = parse_member(alloc, rest, depth);
+    unary_node(signed_start(tokens, op, &read), op, read)
 }
 
 // A primary and what is accessed in it.

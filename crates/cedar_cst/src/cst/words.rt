@@ -11,9 +11,10 @@ ghost use Rattle.cedar_grammar.specs.Reader.Rules.{entity};
 ghost use Rattle.cedar_cst.specs.Erased.{access_parts, add_parts, primary_parts};
 ghost use Rattle.cedar_cst.specs.ReadingParts.{is_effect, is_cond_word, literal_rule, text_primary, key_rule, HasLiteral, GivesWords, IsEntityOf, slot_kind, IsSlotOf, slot_or_entity};
 ghost use Rattle.cedar_cst.specs.Reading.{kind, flat, GivesNode, ident_parts, str_parts, IsIdentOf, IsStrOf, first_start, name_parts, IsNameOf, IsOperandOf, IsLiteralOf, IsNamePrimaryOf, GivesBehind, last_end, relop_kind, GoesPastSign, GivesSign};
+ghost use Rattle.cedar_cst.specs.ReadingSigns.{GoesPastSigns, GivesSigns, signs_start};
 
 use crate::cst::lexeme::Lexeme;
-use crate::cst::reading::{Parsed, begins, expect, keep, past, refuse};
+use crate::cst::reading::{Parsed, begins, expect, keep, past, refuse, skip, start_of};
 use crate::cst::tree::{
     Add, AddOp, Ident, Literal, MemAccess, Member, Mult, Name, NegOp, Node, Primary, Ref, RelOp,
     Slot, Str, Unary,
@@ -198,33 +199,50 @@ pub fn past_sum_sign<'t, 'src>(tokens: &'t [Lexeme<'src>]) -> Option<(AddOp, &'t
     }
 }
 
-// How many tokens of this kind stand first, four at most.
-fn sign_count(tokens: &[Lexeme], sign: Kind) -> u8
-    ensures limit { result ≤ 4 }
-    ensures inside { result ≤ length tokens.now }
+// How many tokens of this kind stand first, four at most, and the tokens after them.
+fn past_signs<'t, 'src>(tokens: &'t [Lexeme<'src>], sign: Kind) -> (u8, &'t [Lexeme<'src>])
+    ensures shorter { length result.1.now ≤ length tokens.now }
+    ensures signs { GoesPastSigns sign tokens.now result }
 {
-    'signs: for count in 0..4 {
-        match tokens.get(usize::from(count)) {
-            Some(token) if token.kind == sign => {}
-            _ => return count,
+    let mut rest = tokens;
+    let mut count = 0;
+    'signs: while count < 4 {
+        if !skip(&mut rest, sign) {
+            break;
         }
+        count += 1;
     }
-    4
+    (count, rest)
 }
 
-/// The signs that stand first, four at most, and how many they are.
-pub fn read_signs(tokens: &[Lexeme]) -> (Option<NegOp>, usize)
-    ensures { result.1 ≤ length tokens.now }
+/// The signs that stand first, four at most, and the tokens after them.
+pub fn read_signs<'t, 'src>(tokens: &'t [Lexeme<'src>]) -> (Option<NegOp>, &'t [Lexeme<'src>])
+    ensures shorter { length result.1.now ≤ length tokens.now }
+    ensures reads { GivesSigns tokens.now result }
 {
-    let bangs = sign_count(tokens, Kind::Neg);
+    let (bangs, rest) = past_signs(tokens, Kind::Neg);
     if bangs > 0 {
-        return (Some(NegOp::Bang(bangs)), usize::from(bangs));
+        return (Some(NegOp::Bang(bangs)), rest);
     }
-    let dashes = sign_count(tokens, Kind::Dash);
+    let (dashes, rest) = past_signs(tokens, Kind::Dash);
     if dashes > 0 {
-        return (Some(NegOp::Dash(dashes)), usize::from(dashes));
+        return (Some(NegOp::Dash(dashes)), rest);
     }
-    (None, 0)
+    (None, tokens)
+}
+
+/// Where a member starts together with its signs, which stand first in the tokens.
+pub fn signed_start(
+    tokens: &[Lexeme],
+    op: Option<NegOp>,
+    read: &Parsed<'_, '_, Node<Member<'_>>>,
+) -> usize
+    ensures { IfOk read.now (λ x. result ≡ signs_start op tokens.now x.0.span.start) }
+{
+    match (op, read) {
+        (None, Ok((member, _))) => member.span.start,
+        _ => start_of(tokens),
+    }
 }
 
 /// The token as a word.
