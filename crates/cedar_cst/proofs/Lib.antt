@@ -17,6 +17,7 @@ pub mod Scopes
 pub mod Closed
 pub mod Manys
 pub mod Signs
+pub mod References
 pub mod Whole
 pub mod RefusalLaws
 pub mod ErasedSame
