@@ -624,8 +624,7 @@ pub fn parse_text_operand<'t, 'src>(
     ensures shorter { IfOk result (λ x. length x.1.now < length tokens.now) }
     ensures reads { GivesNode Label.add add_parts result (flat text_operand tokens.now) }
 {
-    let (string, rest) = expect(tokens, Kind::Str)?;
-    let primary = literal_primary(Literal::Str(string.text), string.span);
+    let (primary, rest) = parse_text(tokens)?;
     Ok((lone_operand(alloc, primary), rest))
 }
 

@@ -1,25 +1,17 @@
-use Rattle.std.proofs.Common.{refl, sym, []}
+use Rattle.std.proofs.Common.{refl, []}
 use Rattle.std.proofs.lemmas.Result.{err_from_is_err_and}
-use Rattle.cedar_grammar.specs.declared.kind.Kind.TheVariants as K
 use Rattle.cedar_grammar.specs.Trees.{Label}
-use Rattle.cedar_grammar.proofs.ReadingLaws.{tree_done, tree_fails}
 use Rattle.cedar_cst.proofs.Steps.{passes}
-use Rattle.cedar_cst.proofs.Rows.{row_node, row_parts, row_span}
-use Rattle.cedar_cst.proofs.Operands.{row_own, operand_done, operand_fails, operand_stands}
+use Rattle.cedar_cst.proofs.Rows.{row_node}
+use Rattle.cedar_cst.proofs.Operands.{operand_done, operand_fails, operand_stands}
 use Rattle.cedar_cst.proofs.cst.words.parse_text_operand.Goals as goal
 
-pub returns-in_err-string-clause-reads : goal.returns-in_err-string-clause-reads
-returns-in_err-string-clause-reads c =
+pub returns-in_err-primary-clause-reads : goal.returns-in_err-primary-clause-reads
+returns-in_err-primary-clause-reads c =
     let p = err_from_is_err_and c.from_residual.result c.from_residual.ensures.1 in
-    rw (p.1, p.2) (passes _ _ _ c.in_err-string.ensures.reads (λ x r e. operand_fails _ _ x r (tree_fails Label.primary _ _ x r (tree_fails Label.string _ _ x r e))))
+    rw (p.1, p.2) (passes _ _ _ c.in_err-primary.ensures.reads (λ x r e. operand_fails _ _ x r e))
 
 pub returns-clause-reads : goal.returns-clause-reads
 returns-clause-reads c =
-    let s = c.in_ok-string.string in
-    let h = c.in_ok-string.ensures.reads in
-    let l = c.literal_primary-primary.ensures in (
-      _,
-      operand_done _ _ _ _ (tree_done Label.primary _ _ _ _ (tree_done Label.string _ _ _ _ h.0)),
-      operand_stands _ [] _ c.lone_operand.result _ c.lone_operand.ensures
-          (row_node Label.primary _ _ _ refl (row_span _ _ _ _ (sym l.1) (row_parts _ _ _ _ l.0 (row_node Label.string _ _ _ refl (row_own s K.Str h.1 refl refl))))),
-    )
+    let h = c.in_ok-primary.ensures.reads in
+    (_, operand_done _ _ _ _ h.1, operand_stands _ [] _ c.lone_operand.result _ c.lone_operand.ensures (row_node Label.primary _ _ _ refl h.2))
