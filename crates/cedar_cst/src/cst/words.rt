@@ -12,7 +12,6 @@ ghost use Rattle.cedar_cst.specs.Erased.{access_parts, add_parts, primary_parts}
 ghost use Rattle.cedar_cst.specs.ReadingParts.{is_effect, is_cond_word, literal_rule, text_primary, key_rule, HasLiteral, GivesWords, IsEntityOf, slot_kind, IsSlotOf, slot_or_entity};
 ghost use Rattle.cedar_cst.specs.ReadingSigns.{GoesPastSigns, GivesSigns, signs_start};
 ghost use Rattle.cedar_cst.specs.Reading.{kind, flat, GivesNode, ident_parts, str_parts, IsIdentOf, IsStrOf, first_start, name_parts, IsNameOf, IsOperandOf, IsLiteralOf, IsNamePrimaryOf, GivesBehind, last_end, relop_kind, GoesPastSign, GivesSign};
-ghost use Rattle.cedar_cst.specs.ReadingSigns.{GoesPastSigns, GivesSigns, signs_start};
 
 use crate::cst::lexeme::Lexeme;
 use crate::cst::reading::{Parsed, begins, expect, keep, past, refuse, skip, start_of};
