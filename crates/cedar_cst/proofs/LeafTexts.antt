@@ -1,9 +1,8 @@
 -- The tree of nodes of a row that begins with a token or with a node, and the span of the row.
 use Rattle.std.specs.Prelude.{◌≡◌, ◌==◌, ℕ, ◌&&◌, ◌||◌, not, Bool, true, false, List, [], ◌∷◌, ◌++◌, nat_eq, Option, Some, None, if◌then◌else◌}
-use Rattle.std.specs.List.{list_all}
 use Rattle.std.specs.Char.{is_ascii_digit}
 use Rattle.std.specs.Str.{bytes_eq}
-use Rattle.std.proofs.Common.{refl, sym, ap, ◌∙◌, arith, append-nil, cond}
+use Rattle.std.proofs.Common.{refl, sym, ap, ◌∙◌, arith, append-nil}
 use Rattle.std.proofs.lemmas.Bool.Decides.{nat_tests}
 use Rattle.std.proofs.lemmas.Slice.Eq.{bytes_eq-Decides}
 use Rattle.cedar_tokens.specs.Units.{is_number}
@@ -15,6 +14,7 @@ use Rattle.cedar_grammar.specs.Kinds.{code, is}
 use Rattle.cedar_grammar.specs.TokenKinds.{Fixed, fixed_tokens, other_kind, kind_among, kind_of}
 use Rattle.cedar_grammar.specs.Trees.{Label, Forest, none, leaf, branch, yield}
 use Rattle.cedar_grammar.specs.TrailingCommas.{without_trailing, drop_if, closes_next}
+use Rattle.cedar_grammar.proofs.TextKinds.{number_kind}
 use Rattle.cedar_cst.specs.Erased.{Erased}
 use Rattle.cedar_cst.specs.Lexemes.{nodes_of}
 use Rattle.cedar_cst.specs.NodeTrees.{is_node, span_of, end_of, spanned}
@@ -89,30 +89,6 @@ shown_same (f ∷ fs) u h =
 
 text_shown : (u : List ℕ) (k : Kind) → k ≡ kind_of u → shown (code k) fixed_tokens u ≡ u
 text_shown u k e = ap (λ x. shown (code x) fixed_tokens u) e ∙ shown_same fixed_tokens u refl
-
--- a number's kind
-abbrev all_named : List Fixed → Bool
-all_named [] = true
-all_named (f ∷ fs) = if is_number f.text then false else all_named fs
-
-number_among : (fs : List Fixed) (u : List ℕ) → all_named fs ≡ true → is_number u ≡ true → kind_among fs u ≡ other_kind u
-number_among [] u a h = refl
-number_among (f ∷ fs) u a h = go (bytes_eq f.text u) refl (is_number f.text) refl a (number_among fs u)
-  where
-    go : (b : Bool) → bytes_eq f.text u ≡ b → (n : Bool) → is_number f.text ≡ n → cond n false (all_named fs) ≡ true → (all_named fs ≡ true → is_number u ≡ true → kind_among fs u ≡ other_kind u)
-        → cond b f.kind (kind_among fs u) ≡ other_kind u
-    go b e true i k ih = absurd cc
-    go false e false i k ih = ih k h
-    go true e false i k ih = absurd (let g : f.text ≡ u = (bytes_eq-Decides f.text u).0 e in let j : is_number u ≡ false = ap is_number (sym g) ∙ i in cc)
-
-number_kind : (u : List ℕ) → is_number u ≡ true → kind_of u ≡ K.Number
-number_kind [] h = absurd cc
-number_kind (b ∷ u) h =
-    let d = (and_parts (is_ascii_digit b) (list_all is_ascii_digit u) h).0 in
-    number_among fixed_tokens (b ∷ u) refl h ∙ rw (no_quote b d, d) refl
-  where
-    no_quote : (b : ℕ) → is_ascii_digit b ≡ true → (b == 34) ≡ false
-    no_quote b d = grind (arith, nat_tests)
 
 value_same : (u : List ℕ) (k : Kind) → k ≡ kind_of u → is K.Number k ≡ false → token_value u ≡ u
 value_same u k e h = go (is_number u) refl

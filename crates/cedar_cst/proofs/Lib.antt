@@ -27,6 +27,10 @@ pub mod Closed
 pub mod Manys
 pub mod Depths
 pub mod Members
+pub mod Conds
+pub mod Starts
+pub mod Policies
+pub mod Sets
 pub mod Whole
 pub mod RefusalLaws
 pub mod ErasedSame

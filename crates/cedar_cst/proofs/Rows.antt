@@ -46,7 +46,7 @@ pub row_parts : (s : Span) (p q : Erased) (f : Forest Label Lexeme) → q ≡ p 
 row_parts s p q f e g = record { same = λ r. e ∙ g.same r; place = g.place }
 
 -- One row behind another, where no closing bracket begins the second.
-closes_join : (f g : Forest Label Lexeme) → closes_next kind g ≡ false → closes_next kind (join f g) ≡ closes_next kind f
+pub closes_join : (f g : Forest Label Lexeme) → closes_next kind g ≡ false → closes_next kind (join f g) ≡ closes_next kind f
 closes_join none g h = h
 closes_join (leaf t f) g h = refl
 closes_join (branch l f i) g h = refl

@@ -4,6 +4,7 @@ use Rattle.std.specs.declared.alloc.Global.{Global}
 use Rattle.std.specs.Borrow.{Bor}
 use Rattle.cedar_tokens.specs.declared.token.Span.{Span}
 use Rattle.cedar_grammar.specs.declared.kind.Kind.{Kind}
+use Rattle.cedar_grammar.specs.Kinds.{is_variable, begins}
 use Rattle.cedar_grammar.specs.Trees.{Label, Forest, none, leaf, branch, join}
 use Rattle.cedar_grammar.specs.Reader.Reading.{Reader, Answer, done, too_deep}
 use Rattle.cedar_grammar.specs.declared.kind.Kind.TheVariants as K
@@ -192,3 +193,8 @@ abbrev pub GivesItem : Result ((Node Primary.Primary × Vec (Node MemAccess.MemA
 GivesItem (Ok x) a = (f : Forest Label Lexeme) × (a ≡ done f x.1.now)
     × Stands (record { start = x.0.0.span.start; end = last_end x.0.0.span.end x.0.1.items }) (node Label.primary x.0.0.span (primary_parts x.0.0.inner) (access_items x.0.1.items)) f
 GivesItem (Err e) a = Fails e a
+
+-- whether the name, with which the tokens begin, is a variable alone
+abbrev pub TellsVariable : List Lexeme → Node Name → Bool → Type 0
+TellsVariable ts name true = (begins kind is_variable ts ≡ true) × (name.inner.path.items ≡ [])
+TellsVariable ts name false = begins kind is_variable ts ≡ true → name.inner.path.items ≡ [] → ⊥

@@ -1,14 +1,19 @@
--- What parsing all policies gives, in terms of the reader.
-use Rattle.std.specs.Prelude.{◌≡◌, true, false, List, [], ◌∷◌, ◌⊎◌, length, Result, Ok, Err}
-use Rattle.cedar_grammar.specs.Trees.{Label, Forest}
+-- What parsing conditions and all policies gives, in terms of the reader.
+use Rattle.std.specs.Prelude.{◌≡◌, true, false, List, [], ◌∷◌, ◌⊎◌, length, Result, Ok, Err, codes}
+use Rattle.cedar_grammar.specs.Trees.{Label, Forest, none, leaf}
 use Rattle.cedar_grammar.specs.Reader.Reading.{Answer, done, stuck}
 use Rattle.cedar_cst.specs.declared.cst.lexeme.Lexeme.{Lexeme}
 use Rattle.cedar_cst.specs.declared.cst.reading.Refusal.{Refusal}
 use Rattle.cedar_cst.specs.declared.cst.reading.Refusal.TheVariants.{Grammar, TooDeep, OutOfMemory}
+use Rattle.cedar_cst.specs.declared.cst.tree.Cond.{Cond}
 use Rattle.cedar_cst.specs.declared.cst.tree.Policies.{Policies}
-use Rattle.cedar_cst.specs.Erased.{erase}
+use Rattle.cedar_cst.specs.Erased.{Erased, node, ident_tree, expr_parts, erase}
 use Rattle.cedar_cst.specs.Lexemes.{nodes_of}
 use Rattle.cedar_cst.specs.Reading.{AreRight}
+
+-- `when` or `unless`, and an expression in braces
+abbrev pub cond_parts : Cond → Erased
+cond_parts c = ident_tree c.cond (leaf (codes "{") (node Label.expr c.expr.span (expr_parts c.expr.inner) (leaf (codes "}") none)))
 
 -- the reader reads all tokens, and the policies stand for its tree; or the refusal is the reader's, or at the first token that it leaves
 abbrev pub GivesSet : Result Policies Refusal → Answer Lexeme → Type 0

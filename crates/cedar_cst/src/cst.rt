@@ -1,7 +1,7 @@
 //! Trees of policies, and the parser.
-ghost use Rattle.std.specs.Prelude.{◌≡◌, MatchResult};
-ghost use Rattle.cedar_grammar.specs.Numbers.{HasFittingNumbers};
-ghost use Rattle.cedar_cst.specs.Refusals.{RefusesInOrder};
+ghost use Rattle.std.specs.Prelude.{◌≡◌, IfOk, IfErr};
+ghost use Rattle.cedar_cst.specs.NodeTrees.{IsTreeOf};
+ghost use Rattle.cedar_cst.specs.Refusals.{Refuses};
 ghost use Rattle.cedar_cst.specs.Reading.{place_of};
 
 mod compare;
@@ -27,11 +27,16 @@ pub use tree::{
     VariableDef,
 };
 
-/// The policies of a text. Refuses what does not split into blanks, comments and tokens, at the first place where none begins; then
-/// the first number above 18446744073709551615; then what is not in the grammar, at the first token such that no policies begin
-/// with the tokens through it, or at the text's length where a token is missing.
+/// The policies of a text, node by node: the tree that the grammar gives the text's tokens, without trailing commas, and each node
+/// with its place. A text is refused only where it is not in the grammar with at most 128 nested brackets and `if`s, or where memory
+/// is wanting. The refusal says why and where, by the first of these that fits:
+/// the text does not split into blanks, comments and tokens, at the first place where none begins;
+/// its first number above 18446744073709551615;
+/// the first token such that no policies begin with the tokens through it, as too deep where only the nesting is at fault;
+/// a token is missing, at the text's length.
 pub fn parse_policies<'src>(alloc: Global, text: &'src str) -> Result<Policies<'src>, FormatError>
-    ensures { MatchResult result (λ _. HasFittingNumbers text.now) (RefusesInOrder text.now) }
+    ensures tree { IfOk result (λ p. IsTreeOf text.now p) }
+    ensures refusal { IfErr result (λ e. Refuses text.now e) }
 {
     let lexemes = read_lexemes(alloc, text)?;
     match parse_set(alloc, &lexemes) {

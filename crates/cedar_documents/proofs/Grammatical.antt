@@ -1,19 +1,13 @@
 -- The trees of the written grammar with decorated leaves: one to a list, kept by the values of numbers, and there for every accepted text.
-use Rattle.std.proofs.Common.{◌≡◌, ℕ, suc, ◌≤◌, Bool, true, false, cond, ◌&&◌, ◌==◌, List, [], ◌∷◌, length, map, refl, ap, arith, sym, ◌∙◌, subst, append-nil}
-use Rattle.std.specs.List.{list_all}
-use Rattle.std.specs.Str.{bytes_eq}
-use Rattle.std.specs.Char.{is_ascii_digit}
-use Rattle.std.proofs.lemmas.Slice.Eq.{bytes_eq-Decides}
-use Rattle.std.proofs.lemmas.Bool.Decides.{nat_tests}
+use Rattle.std.proofs.Common.{◌≡◌, ℕ, suc, ◌≤◌, Bool, true, false, cond, ◌&&◌, List, [], ◌∷◌, length, map, refl, ap, arith, sym, ◌∙◌, subst, append-nil}
 use Rattle.cedar_tokens.specs.Units.{is_number}
 use Rattle.cedar_tokens.specs.Listing.{Decorated, Listing, token_value, without_zeros}
 use Rattle.cedar_tokens.specs.PlainList.{plain_list, plain_from}
-use Rattle.cedar_tokens.proofs.Prefixes.{and_parts}
 use Rattle.cedar_tokens.proofs.Scanning.{split_unique}
 use Rattle.cedar_grammar.specs.declared.kind.Kind.{Kind}
 use Rattle.cedar_grammar.specs.declared.kind.Kind.TheVariants as K
 use Rattle.cedar_grammar.specs.Kinds.{is, is_closing, begins}
-use Rattle.cedar_grammar.specs.TokenKinds.{Fixed, fixed_tokens, other_kind, kind_among, kind_of}
+use Rattle.cedar_grammar.specs.TokenKinds.{kind_of}
 use Rattle.cedar_grammar.specs.Trees.{Label, Forest, yield}
 use Rattle.cedar_grammar.specs.Grammar.{G, PolicySet}
 use Rattle.cedar_grammar.specs.Laws.{kind_of_decorated}
@@ -25,7 +19,7 @@ use Rattle.cedar_grammar.specs.Reader.Lines.{set_to}
 use Rattle.cedar_grammar.proofs.RuleMaps.{each, relabel, answer_of, set_agrees}
 use Rattle.cedar_grammar.proofs.WholeLaws.{set_sound, set_complete}
 use Rattle.cedar_grammar.proofs.TreeLaws.{list_has_one_tree, leaves_are_plain, every_tree_is_typed, typed_tree_is_unique, typed_leaves_agree}
-use Rattle.cedar_grammar.proofs.TextKinds.{trailing_agrees, plain_texts_agree}
+use Rattle.cedar_grammar.proofs.TextKinds.{number_kind, trailing_agrees, plain_texts_agree}
 use Rattle.cedar_grammar.proofs.Relabelling.{relabelled, plain_each, each_map}
 use Rattle.cedar_grammar.proofs.ListingTexts.{listing_texts}
 use Rattle.cedar_documents.specs.Leaves.{part_map}
@@ -44,34 +38,6 @@ use Rattle.cedar_grammar.proofs.CommaPairs.{plain_is_plain}
 use Rattle.cedar_documents.proofs.Relabelled.{set_tree_map, without_map}
 
 -- ---- kinds of values
-
-all_named : List Fixed → Bool
-all_named [] = true
-all_named (f ∷ fs) = cond (is_number f.text) false (all_named fs)
-
-none_numbers : all_named fixed_tokens ≡ true
-unfolding all_named
-none_numbers = refl
-
-number_among : (fs : List Fixed) (u : List ℕ) → all_named fs ≡ true → is_number u ≡ true → kind_among fs u ≡ other_kind u
-unfolding all_named
-number_among [] u a h = refl
-number_among (f ∷ fs) u a h = go (bytes_eq f.text u) refl (is_number f.text) refl a (number_among fs u)
-  where
-    go : (b : Bool) → bytes_eq f.text u ≡ b → (n : Bool) → is_number f.text ≡ n → cond n false (all_named fs) ≡ true → (all_named fs ≡ true → is_number u ≡ true → kind_among fs u ≡ other_kind u)
-        → cond b f.kind (kind_among fs u) ≡ other_kind u
-    go b e true i k ih = absurd cc
-    go false e false i k ih = ih k h
-    go true e false i k ih = absurd (let g : f.text ≡ u = (bytes_eq-Decides f.text u).0 e in let j : is_number u ≡ false = ap is_number (sym g) ∙ i in cc)
-
-number_kind : (u : List ℕ) → is_number u ≡ true → kind_of u ≡ K.Number
-number_kind [] h = absurd cc
-number_kind (b ∷ u) h =
-    let d = (and_parts (is_ascii_digit b) (list_all is_ascii_digit u) h).0 in
-    number_among fixed_tokens (b ∷ u) none_numbers h ∙ rw (no_quote b d, d) refl
-  where
-    no_quote : (b : ℕ) → is_ascii_digit b ≡ true → (b == 34) ≡ false
-    no_quote b d = grind (arith, nat_tests)
 
 value_kind : (u : List ℕ) → kind_of (token_value u) ≡ kind_of u
 value_kind u = go (is_number u) refl

@@ -1,11 +1,15 @@
 -- Kinds of texts: a text of each kind, and tests of a kind as tests of the text.
 use Rattle.std.specs.Prelude.{◌≡◌, ◌≢◌, ◌==◌, ℕ, Bool, true, false, ◌&&◌, IsTrue, List, [], ◌∷◌, if◌then◌else◌, codes, map}
+use Rattle.std.specs.List.{list_all}
 use Rattle.std.specs.Char.{is_ascii_digit}
 use Rattle.std.specs.Str.{bytes_eq}
-use Rattle.std.proofs.Common.{refl, sym, ap, ◌∙◌}
+use Rattle.std.proofs.Common.{refl, sym, ap, ◌∙◌, arith, cond}
+use Rattle.std.proofs.lemmas.Bool.Decides.{nat_tests}
 use Rattle.std.proofs.lemmas.Slice.Eq.{bytes_eq-Decides}
+use Rattle.cedar_tokens.specs.Units.{is_number}
 use Rattle.cedar_tokens.specs.Listing.{Decorated}
 use Rattle.cedar_tokens.specs.PlainList.{is_comma, is_closing_bracket, is_trailing_comma, touches, with_trailing_of, with_lines_of, plain_from}
+use Rattle.cedar_tokens.proofs.Prefixes.{and_parts}
 use Rattle.cedar_grammar.specs.declared.kind.Kind.{Kind}
 use Rattle.cedar_grammar.specs.declared.kind.Kind.TheVariants as K
 use Rattle.cedar_grammar.specs.Kinds.{is, is_closing, begins}
@@ -81,6 +85,30 @@ kind_among-none (f ∷ fs) text (d, n) = ap (λ b. if b then f.kind else kind_am
     differ : (x : Bool) → bytes_eq f.text text ≡ x → x ≡ false
     differ true e = absurd (d (sym ((bytes_eq-Decides f.text text).0 e)))
     differ false e = refl
+
+-- a number's kind
+abbrev none_numbers : List Fixed → Bool
+none_numbers [] = true
+none_numbers (f ∷ fs) = cond (is_number f.text) false (none_numbers fs)
+
+number_among : (fs : List Fixed) (text : List ℕ) → none_numbers fs ≡ true → is_number text ≡ true → kind_among fs text ≡ other_kind text
+number_among [] text a h = refl
+number_among (f ∷ fs) text a h = go (bytes_eq f.text text) refl (is_number f.text) refl a (number_among fs text)
+  where
+    go : (b : Bool) → bytes_eq f.text text ≡ b → (n : Bool) → is_number f.text ≡ n → cond n false (none_numbers fs) ≡ true → (none_numbers fs ≡ true → is_number text ≡ true → kind_among fs text ≡ other_kind text)
+        → cond b f.kind (kind_among fs text) ≡ other_kind text
+    go b e true i k again = absurd cc
+    go false e false i k again = again k h
+    go true e false i k again = absurd (let g : f.text ≡ text = (bytes_eq-Decides f.text text).0 e in let j : is_number text ≡ false = ap is_number (sym g) ∙ i in cc)
+
+pub number_kind : (text : List ℕ) → is_number text ≡ true → kind_of text ≡ K.Number
+number_kind [] h = absurd cc
+number_kind (b ∷ text) h =
+    let d = (and_parts (is_ascii_digit b) (list_all is_ascii_digit text) h).0 in
+    number_among fixed_tokens (b ∷ text) refl h ∙ rw (no_quote b d, d) refl
+  where
+    no_quote : (b : ℕ) → is_ascii_digit b ≡ true → (b == 34) ≡ false
+    no_quote b d = grind (arith, nat_tests)
 
 -- Where a test of kinds agrees with a test of texts on the table and on all other texts, it does on every text.
 module _ (P : Kind → Bool) (Q : List ℕ → Bool) where

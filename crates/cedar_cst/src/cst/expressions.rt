@@ -25,7 +25,7 @@ use crate::cst::tree::{
 };
 use crate::cst::words::{
     begins_access, begins_bracket, begins_call, begins_comparison, begins_expression,
-    begins_identifier, begins_key, begins_variable, entity_node, name_primary, parse_access, parse_comparison_sign,
+    begins_identifier, begins_key, entity_node, is_lone_variable, name_primary, parse_access, parse_comparison_sign,
     parse_has_field, parse_key, parse_literal, parse_path, parse_pattern, parse_words,
     past_sum_sign, read_signs, signed_start,
 };
@@ -299,7 +299,7 @@ fn parse_reference<'t, 'src>(
         let primary = name_primary(name);
         return called_primary(alloc, primary, parse_call(alloc, rest, depth));
     }
-    if begins_variable(tokens) && name.inner.path.is_empty() {
+    if is_lone_variable(tokens, &name) {
         return Ok(((name_primary(name), Vec::new(alloc)), rest));
     }
     Err(refuse(rest))

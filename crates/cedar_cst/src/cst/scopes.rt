@@ -1,14 +1,17 @@
 //! Policies: annotations, scopes and conditions.
-ghost use Rattle.std.specs.Prelude.{◌≡◌, ◌<◌, ◌≤◌, length, IfOk};
+ghost use Rattle.std.specs.Prelude.{◌≡◌, ◌<◌, ◌≤◌, ◌||◌, suc, length, IfOk};
 ghost use Rattle.cedar_grammar.specs.Trees.{Label};
-ghost use Rattle.cedar_grammar.specs.Kinds.{is};
+ghost use Rattle.cedar_grammar.specs.Kinds.{is, begins};
+ghost use Rattle.cedar_grammar.specs.Texts.{greatest_depth};
 ghost use Rattle.cedar_grammar.specs.declared.kind.Kind.TheVariants as K;
 ghost use Rattle.cedar_grammar.specs.Reader.Rules.{star, entity, items, word_of};
-ghost use Rattle.cedar_grammar.specs.Reader.Lines.{◌∥◌, annotation_rule, operand, entity_or, scoped, maybe, entity_item, action};
-ghost use Rattle.cedar_cst.specs.Erased.{add_parts, expr_parts, primary_parts};
-ghost use Rattle.cedar_cst.specs.ReadingParts.{slot_kind, variable_kind, variable_parts, IsVariableOf, IsLoneOrOf, entity_list, scope_rule};
+ghost use Rattle.cedar_grammar.specs.Reader.Lines.{◌∥◌, annotation_rule, operand, entity_or, scoped, maybe, entity_item, action, cond_rule, policy_rule, set_to};
+ghost use Rattle.cedar_cst.specs.Erased.{add_parts, expr_parts, primary_parts, policy_parts};
+ghost use Rattle.cedar_cst.specs.ReadingParts.{is_effect, is_cond_word, slot_kind, variable_kind, variable_parts, IsVariableOf, IsLoneOrOf, entity_list, scope_rule};
 ghost use Rattle.cedar_cst.specs.ReadingItems.{GivesItems, GivesScope};
-ghost use Rattle.cedar_cst.specs.Reading.{flat, GivesNode, GivesMany, annotation_parts, ident_parts};
+ghost use Rattle.cedar_cst.specs.ReadingExprs.{at_depth};
+ghost use Rattle.cedar_cst.specs.ReadingSet.{cond_parts, GivesSet};
+ghost use Rattle.cedar_cst.specs.Reading.{kind, flat, GivesNode, GivesMany, annotation_parts, ident_parts};
 
 use crate::cst::expressions::parse_expr;
 use crate::cst::lexeme::Lexeme;
@@ -32,7 +35,9 @@ use std::alloc::Global;
 const MAX_NESTING: usize = 128;
 
 /// The policies that the tokens are.
-pub fn parse_set<'src>(alloc: Global, tokens: &[Lexeme<'src>]) -> Result<Policies<'src>, Refusal> {
+pub fn parse_set<'src>(alloc: Global, tokens: &[Lexeme<'src>]) -> Result<Policies<'src>, Refusal>
+    ensures { GivesSet result (set_to kind greatest_depth tokens.now) }
+{
     let mut policies = Vec::new(alloc);
     let mut rest = tokens;
     'policies: while begins_policy(rest) {
@@ -46,7 +51,9 @@ pub fn parse_set<'src>(alloc: Global, tokens: &[Lexeme<'src>]) -> Result<Policie
 }
 
 // Whether a policy begins with the first token.
-fn begins_policy(tokens: &[Lexeme]) -> bool {
+fn begins_policy(tokens: &[Lexeme]) -> bool
+    ensures { result ≡ begins kind (λ x. is K.At x || is_effect x) tokens.now }
+{
     begins(tokens, Kind::At) || begins(tokens, Kind::Permit) || begins(tokens, Kind::Forbid)
 }
 
@@ -55,7 +62,8 @@ fn parse_policy<'t, 'src>(
     alloc: Global,
     tokens: &'t [Lexeme<'src>],
 ) -> Parsed<'t, 'src, Node<Policy<'src>>>
-    ensures { IfOk result (λ x. length x.1.now < length tokens.now) }
+    ensures shorter { IfOk result (λ x. length x.1.now < length tokens.now) }
+    ensures reads { GivesNode Label.policy policy_parts result (at_depth (suc greatest_depth) policy_rule tokens.now) }
 {
     let (annotations, rest) = parse_annotations(alloc, tokens)?;
     let (effect, rest) = parse_effect(rest)?;
@@ -375,16 +383,24 @@ fn parse_scope<'t, 'src>(
     Ok(((principal, action, resource), rest))
 }
 
+// Whether a condition begins with the first token.
+fn begins_cond(tokens: &[Lexeme]) -> bool
+    ensures { result ≡ begins kind is_cond_word tokens.now }
+{
+    begins(tokens, Kind::When) || begins(tokens, Kind::Unless)
+}
+
 // Conditions, or none.
 fn parse_conds<'t, 'src>(
     alloc: Global,
     tokens: &'t [Lexeme<'src>],
 ) -> Parsed<'t, 'src, Vec<Node<Cond<'src>>>>
-    ensures { IfOk result (λ x. length x.1.now ≤ length tokens.now) }
+    ensures shorter { IfOk result (λ x. length x.1.now ≤ length tokens.now) }
+    ensures reads { GivesMany Label.condition cond_parts result (at_depth (suc greatest_depth) (star cond_rule) tokens.now) }
 {
     let mut conds = Vec::new(alloc);
     let mut rest = tokens;
-    'conds: while begins(rest, Kind::When) || begins(rest, Kind::Unless) {
+    'conds: while begins_cond(rest) {
         keep(parse_cond(alloc, rest), &mut conds, &mut rest)?;
     }
     Ok((conds, rest))
@@ -395,7 +411,8 @@ fn parse_cond<'t, 'src>(
     alloc: Global,
     tokens: &'t [Lexeme<'src>],
 ) -> Parsed<'t, 'src, Node<Cond<'src>>>
-    ensures { IfOk result (λ x. length x.1.now < length tokens.now) }
+    ensures shorter { IfOk result (λ x. length x.1.now < length tokens.now) }
+    ensures reads { GivesNode Label.condition cond_parts result (at_depth (suc greatest_depth) cond_rule tokens.now) }
 {
     let (cond, rest) = parse_cond_word(tokens)?;
     let (_, rest) = expect(rest, Kind::LBrace)?;

@@ -10,6 +10,7 @@ ghost use Rattle.cedar_grammar.specs.Reader.Lines.{◌▸◌, ◌∥◌, one_of,
 ghost use Rattle.cedar_grammar.specs.Reader.Rules.{entity};
 ghost use Rattle.cedar_cst.specs.Erased.{access_parts, add_parts, primary_parts};
 ghost use Rattle.cedar_cst.specs.ReadingParts.{is_effect, is_cond_word, literal_rule, text_primary, key_rule, HasLiteral, GivesWords, IsEntityOf, slot_kind, IsSlotOf, slot_or_entity};
+ghost use Rattle.cedar_cst.specs.ReadingExprs.{TellsVariable};
 ghost use Rattle.cedar_cst.specs.ReadingSigns.{GoesPastSigns, GivesSigns, signs_start};
 ghost use Rattle.cedar_cst.specs.Reading.{kind, flat, GivesNode, ident_parts, str_parts, IsIdentOf, IsStrOf, first_start, name_parts, IsNameOf, IsOperandOf, IsLiteralOf, IsNamePrimaryOf, GivesBehind, last_end, relop_kind, GoesPastSign, GivesSign};
 
@@ -112,14 +113,21 @@ pub fn begins_expression(tokens: &[Lexeme]) -> bool
     }
 }
 
-/// Whether a variable stands first.
-pub fn begins_variable(tokens: &[Lexeme]) -> bool
+// Whether a variable stands first.
+fn begins_variable(tokens: &[Lexeme]) -> bool
     ensures { result ≡ begins kind is_variable tokens.now }
 {
     match tokens.split_first() {
         Some((first, _)) => is_variable(first.kind),
         None => false,
     }
+}
+
+/// Whether the name, with which the tokens begin, is a variable alone.
+pub fn is_lone_variable(tokens: &[Lexeme], name: &Node<Name<'_>>) -> bool
+    ensures { TellsVariable tokens.now name.now result }
+{
+    begins_variable(tokens) && name.inner.path.is_empty()
 }
 
 /// Whether a key of a record begins with the first token.
