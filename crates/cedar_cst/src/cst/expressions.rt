@@ -25,9 +25,9 @@ use crate::cst::tree::{
 };
 use crate::cst::words::{
     begins_access, begins_bracket, begins_call, begins_comparison, begins_expression,
-    begins_identifier, begins_key, entity_node, is_lone_variable, name_primary, parse_access, parse_comparison_sign,
-    parse_has_field, parse_key, parse_literal, parse_path, parse_pattern, parse_words,
-    past_sum_sign, read_signs, signed_start,
+    begins_identifier, begins_key, entity_node, is_lone_variable, name_primary, parse_access,
+    parse_comparison_sign, parse_has_field, parse_key, parse_literal, parse_path, parse_pattern,
+    parse_words, past_sum_sign, read_signs, signed_start,
 };
 use cedar_grammar::kind::Kind;
 use std::alloc::Global;

@@ -1,4 +1,4 @@
-use Rattle.std.specs.Prelude.{◌≡◌, ◌||◌, ◌-◌, suc, [], ◌∷◌, codes}
+use Rattle.std.specs.Prelude.{◌≡◌, ◌||◌, ◌-◌, suc, true, [], ◌∷◌, codes}
 use Rattle.std.proofs.Common.{refl, sym, ap, ◌∙◌, arith, subst}
 use Rattle.std.proofs.lemmas.Result.{err_from_is_err_and}
 use Rattle.cedar_grammar.specs.declared.kind.Kind.TheVariants as K
@@ -492,7 +492,7 @@ parse_reference-returns-then-begins-clause-reads _ c =
 pub parse_reference-returns-then-is_lone_variable-clause-reads : goal.parse_reference-returns-then-is_lone_variable-clause-reads
 parse_reference-returns-then-is_lone_variable-clause-reads _ c =
     let t = subst (TellsVariable c.args.tokens.now c.in_ok-name.name) c.if-is_lone_variable.true c.is_lone_variable.ensures in
-    reference_variable (at_depth c.args.depth call) c.in_ok-name.name _ c.name_primary.result c.new-2.result c.in_ok-name.rest _ c.in_ok-name.ensures.reads c.in_default.is c.name_primary.ensures t.0 t.1 (sym c.begins.ensures ∙ c.if-begins.false) c.new-2.ensures.items
+    reference_variable (at_depth c.args.depth call) c.in_ok-name.name _ c.name_primary.result c.new-then-is_lone_variable.result c.in_ok-name.rest _ c.in_ok-name.ensures.reads c.in_default.is c.name_primary.ensures t.0 t.1 (sym c.begins.ensures ∙ c.if-begins.false) c.new-then-is_lone_variable.ensures.items
 
 pub parse_reference-returns-clause-reads : goal.parse_reference-returns-clause-reads
 parse_reference-returns-clause-reads _ c =
