@@ -14,9 +14,10 @@ use Rattle.cedar_grammar.specs.Texts.{greatest_depth, tokens}
 use Rattle.cedar_grammar.specs.Placed.{Placed, with_places, placed, kind_of_placed}
 use Rattle.cedar_cst.specs.Erased.{erase}
 use Rattle.cedar_cst.specs.NodeTrees.{spanned}
-use Rattle.cedar_cst.specs.Laws.{TreeIsOfAccepted, NodesHaveThePlainTexts}
+use Rattle.cedar_cst.specs.Laws.{TreeIsOfAccepted, TreeOfNodesIsUnique, NodesHaveThePlainTexts}
 use Rattle.cedar_grammar.proofs.RuleMaps.{each, relabel}
 use Rattle.cedar_grammar.proofs.PlainLaws.{plain_leaves}
+use Rattle.cedar_grammar.proofs.TreeLaws.{list_has_one_tree}
 use Rattle.cedar_grammar.proofs.TextKinds.{plain_texts_agree}
 use Rattle.cedar_grammar.proofs.Relabelling.{relabelled, plain_each, each_map, map_map}
 use Rattle.cedar_grammar.proofs.ListingTexts.{listing_texts}
@@ -39,6 +40,14 @@ tree_is_of_accepted text p t =
       relabel (λ (t : Placed). t.text) t.tree,
       record { units = t.units; split = t.split; fitting = t.fitting; grammar = subst (λ z. G kind_of greatest_depth (relabel (λ (t : Placed). t.text) t.tree) z) (placed_texts t.units 0) g },
     )
+
+-- the units are the same, so the tree is, and so are the nodes with their spans
+pub tree_of_nodes_is_unique : SplitIsUnique → TreeOfNodesIsUnique
+tree_of_nodes_is_unique unique text p q x y =
+    let units : x.units ≡ y.units = unique text x.units y.units x.split y.split in
+    let moved : G kind_of_placed greatest_depth x.tree (placed y.units) = subst (λ z. G kind_of_placed greatest_depth x.tree (placed z)) units x.grammar in
+    let tree : x.tree ≡ y.tree = list_has_one_tree kind_of_placed greatest_depth greatest_depth (placed y.units) x.tree y.tree moved y.grammar in
+    x.nodes ∙ ap (λ z. spanned (λ t. t.text) (λ t. t.span) (without_trailing kind_of_placed z)) tree ∙ sym y.nodes
 
 -- the leaves of the tree with spans
 map_append : {A B : Type 0} → (h : A → B) (xs ys : List A) → map h (xs ++ ys) ≡ map h xs ++ map h ys

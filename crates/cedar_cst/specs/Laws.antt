@@ -29,6 +29,10 @@ RefusalIsUnique = (text : List ℕ) (d e : FormatError) → d ≢ OutOfMemory �
 abbrev pub TreeIsOfAccepted : Type 0
 TreeIsOfAccepted = (text : List ℕ) (p : Policies) → IsTreeOf text p → Accepted text
 
+-- a text has one tree of nodes at most, spans and all
+abbrev pub TreeOfNodesIsUnique : Type 0
+TreeOfNodesIsUnique = (text : List ℕ) (p q : Policies) → IsTreeOf text p → IsTreeOf text q → erase p ≡ erase q
+
 -- the leaves of the tree of nodes are the texts of the plain list, numbers without leading zeros
 abbrev pub NodesHaveThePlainTexts : Type 0
 NodesHaveThePlainTexts = (text : List ℕ) (p : Policies) (l : Listing) → IsTreeOf text p → IsListing text l → yield (erase p) ≡ map (λ t. token_value t.text) (plain_list l.tokens)

@@ -1,5 +1,5 @@
 //! Laws of accepted and refused texts, and of trees of nodes. They speak of the definitions alone, so their bodies do nothing.
-ghost use Rattle.cedar_cst.specs.Laws.{TextIsJudged, AcceptedIsNotRefused, RefusalIsUnique, TreeIsOfAccepted, NodesHaveThePlainTexts, SameTreeIsByFields};
+ghost use Rattle.cedar_cst.specs.Laws.{TextIsJudged, AcceptedIsNotRefused, RefusalIsUnique, TreeIsOfAccepted, TreeOfNodesIsUnique, NodesHaveThePlainTexts, SameTreeIsByFields};
 
 use cedar_tokens::lexer::{fault_is_unique, fault_prevents_split, split_is_unique};
 
@@ -30,6 +30,13 @@ pub fn refusal_is_unique()
 pub fn tree_is_of_accepted()
     ensures { TreeIsOfAccepted }
 {}
+
+/// A text has one tree of nodes at most, spans and all.
+pub fn tree_of_nodes_is_unique()
+    ensures { TreeOfNodesIsUnique }
+{
+    split_is_unique();
+}
 
 /// The leaves of the tree of nodes are the texts of the plain list, numbers without leading zeros.
 pub fn nodes_have_the_plain_texts()
