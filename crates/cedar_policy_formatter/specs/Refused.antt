@@ -1,7 +1,7 @@
 -- Why a text is refused by the formatter.
 use Rattle.std.specs.Prelude.{ℕ, List, ⊤, ◌⊎◌}
-use Rattle.cedar_grammar.specs.Numbers.{HasFittingNumbers}
-use Rattle.cedar_cst.specs.Refusals.{RefusesInOrder}
+use Rattle.cedar_grammar.specs.Texts.{Accepted}
+use Rattle.cedar_cst.specs.Refusals.{Refuses}
 use Rattle.cedar_cst.specs.declared.cst.error.FormatError.{FormatError}
 use Rattle.cedar_cst.specs.declared.cst.error.FormatError.TheVariants.{NoDocument, Unsound, OutOfMemory}
 
@@ -12,18 +12,12 @@ IsOwn Unsound = ⊤
 IsOwn OutOfMemory = ⊤
 IsOwn e = ⊥
 
--- the check of a result fails
-abbrev pub IsOfCheck : FormatError → Type 0
-IsOfCheck Unsound = ⊤
-IsOfCheck OutOfMemory = ⊤
-IsOfCheck e = ⊥
-
--- as the parser refuses it; or, where its tokens are not refused, for a reason of the formatter's own
+-- exactly as the parser refuses it; or, for a reason of the formatter's own, though it is accepted
 abbrev pub RefusesText : List ℕ → FormatError → Type 0
-RefusesText text NoDocument = HasFittingNumbers text
-RefusesText text Unsound = HasFittingNumbers text
-RefusesText text e = RefusesInOrder text e
+RefusesText text NoDocument = Accepted text
+RefusesText text Unsound = Accepted text
+RefusesText text e = Refuses text e
 
--- of two texts, the first is refused; or the first is not, and the second is
+-- of two texts, the first is refused; or the first is accepted, and the second is refused
 abbrev pub RefusesOne : List ℕ → List ℕ → FormatError → Type 0
-RefusesOne a b e = RefusesText a e ⊎ (HasFittingNumbers a × RefusesText b e)
+RefusesOne a b e = RefusesText a e ⊎ (Accepted a × RefusesText b e)

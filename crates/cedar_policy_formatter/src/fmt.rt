@@ -1,12 +1,17 @@
 //! Formatting of whole texts.
-ghost use Rattle.std.specs.Prelude.{◌≡◌, IfOk, MatchResult};
-ghost use Rattle.cedar_grammar.specs.Numbers.{HasFittingNumbers};
+ghost use Rattle.std.specs.Prelude.{◌≡◌, IfOk, MatchResult, string_bytes};
+ghost use Rattle.cedar_grammar.specs.Texts.{Accepted};
 ghost use Rattle.cedar_layout.specs.Lookups.{AreInOrder};
 ghost use Rattle.cedar_policy_formatter.specs.Kept.{KeepsTokens};
-ghost use Rattle.cedar_policy_formatter.specs.Refused.{IsOwn, IsOfCheck, RefusesText, RefusesOne};
+ghost use Rattle.cedar_policy_formatter.specs.Refused.{IsOwn, RefusesText, RefusesOne};
+ghost use Rattle.cedar_policy_formatter.specs.Texts.{IsTextOf, KeepsPolicies, FailsCheck, KeptPoliciesHaveTheSameTokens};
 
 use crate::config::{Config, Context};
 use crate::doc::{Doc, NoDocument};
+use cedar_cst::cst::laws::{
+    accepted_is_not_refused, nodes_have_the_plain_texts, tree_is_of_accepted,
+    tree_of_nodes_is_unique,
+};
 use cedar_cst::cst::{FormatError, Node, Policies, Policy, parse_policies, same_tree};
 pub use cedar_documents::{
     accepted_texts_have_trees, cleaning_is_unique, cleaning_keeps_the_list, cleaning_takes_blanks,
@@ -36,25 +41,33 @@ impl From<NoDocument> for FormatError {
 
 /// The policies `ps`, laid out.
 ///
-/// Trailing commas are dropped, leading zeros of numbers too; every comment is kept in its place. A text that isn't
-/// accepted is refused as `cst::parse_policies` refuses it.
+/// Trailing commas are dropped, leading zeros of numbers too; every comment is kept in its place. The result is a text of
+/// the same policies: it is accepted, and its tree is that of `ps` but for spans. A text that isn't accepted is refused as
+/// `cst::parse_policies` refuses it, with the same reason at the same place; only an accepted one could be refused
+/// otherwise, and then as `NoDocument` or `Unsound`.
 pub fn policies_str_to_pretty(
     alloc: Global,
     ps: &str,
     config: &Config,
 ) -> Result<String, FormatError>
-    ensures { MatchResult result (λ _. HasFittingNumbers ps.now) (RefusesText ps.now) }
+    ensures answer { MatchResult result (λ _. Accepted ps.now) (RefusesText ps.now) }
+    ensures kept { IfOk result (λ out. KeepsPolicies ps.now (string_bytes out)) }
 {
+    tree_is_of_accepted();
     let tree = parse_policies(alloc, ps)?;
     let text = lay_out(alloc, ps, &tree, config)?;
     soundness_check(alloc, text.as_str(), &tree)?;
     Ok(text)
 }
 
-/// Whether `ps` is a text of these policies: `Unsound` exactly where it isn't accepted or its tree is another one.
+/// Whether `ps` is a text of these policies: it is accepted, and its tree is this one but for spans. `Unsound` is answered
+/// only where it is not, and else there is only want of memory.
 pub fn soundness_check(alloc: Global, ps: &str, tree: &Policies<'_>) -> Result<(), FormatError>
-    ensures { MatchResult result (λ _. HasFittingNumbers ps.now) IsOfCheck }
+    ensures { MatchResult result (λ _. IsTextOf ps.now tree.now) (FailsCheck ps.now tree.now) }
 {
+    tree_of_nodes_is_unique();
+    accepted_is_not_refused();
+    tree_is_of_accepted();
     match parse_policies(alloc, ps) {
         Ok(other) => {
             if same_tree(&other, tree) {
@@ -68,21 +81,31 @@ pub fn soundness_check(alloc: Global, ps: &str, tree: &Policies<'_>) -> Result<(
     }
 }
 
-/// Whether `ps` is as `policies_str_to_pretty` lays it out.
+/// Whether `ps` is as `policies_str_to_pretty` lays it out. Only an accepted text gets an answer; every other is refused as
+/// there.
 pub fn is_formatted(alloc: Global, ps: &str, config: &Config) -> Result<bool, FormatError>
-    ensures { MatchResult result (λ _. HasFittingNumbers ps.now) (RefusesText ps.now) }
+    ensures { MatchResult result (λ _. Accepted ps.now) (RefusesText ps.now) }
 {
     let text = policies_str_to_pretty(alloc, ps, config)?;
     Ok(text.as_str() == ps)
 }
 
-/// Whether `a` and `b` are laid out alike. A refusal of `a` is answered before one of `b`.
+/// Whether `a` and `b` are laid out alike. Only accepted texts get an answer. A refusal of `a` is answered before one of
+/// `b`.
 pub fn same_layout(alloc: Global, a: &str, b: &str, config: &Config) -> Result<bool, FormatError>
-    ensures { MatchResult result (λ _. HasFittingNumbers a.now × HasFittingNumbers b.now) (RefusesOne a.now b.now) }
+    ensures { MatchResult result (λ _. Accepted a.now × Accepted b.now) (RefusesOne a.now b.now) }
 {
     let first = policies_str_to_pretty(alloc, a, config)?;
     let second = policies_str_to_pretty(alloc, b, config)?;
     Ok(first.as_str() == second.as_str())
+}
+
+/// Texts of the same policies have the same tokens, but for trailing commas and leading zeros of numbers. A law: its body
+/// does nothing.
+pub fn kept_policies_have_the_same_tokens()
+    ensures { KeptPoliciesHaveTheSameTokens }
+{
+    nodes_have_the_plain_texts();
 }
 
 // The layout of a text with this tree.

@@ -15,5 +15,5 @@ pub use cedar_tokens::{lexer, token};
 pub use config::{Config, Context};
 pub use fmt::{
     RunFault, Watched, every_layout_reads_back, format_stream, is_formatted,
-    policies_str_to_pretty, same_layout, soundness_check,
+    kept_policies_have_the_same_tokens, policies_str_to_pretty, same_layout, soundness_check,
 };

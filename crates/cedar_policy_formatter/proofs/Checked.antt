@@ -1,0 +1,32 @@
+-- What the check of a result tells, and what texts of the same policies have in common.
+use Rattle.std.specs.Prelude.{◌≡◌, ◌≢◌, ℕ, List, ◌∷◌, ◌++◌}
+use Rattle.std.proofs.Common.{refl, sym, ap, ◌∙◌}
+use Rattle.cedar_tokens.specs.Listing.{Listing}
+use Rattle.cedar_grammar.specs.Trees.{none, leaf, branch, yield}
+use Rattle.cedar_cst.specs.Erased.{Erased, erase, without_spans, SameTree}
+use Rattle.cedar_cst.specs.Laws.{AcceptedIsNotRefused, TreeIsOfAccepted, TreeOfNodesIsUnique, NodesHaveThePlainTexts}
+use Rattle.cedar_cst.specs.NodeTrees.{IsTreeOf}
+use Rattle.cedar_cst.specs.Refusals.{Refuses}
+use Rattle.cedar_cst.specs.declared.cst.error.FormatError.{FormatError}
+use Rattle.cedar_cst.specs.declared.cst.error.FormatError.TheVariants.{OutOfMemory}
+use Rattle.cedar_cst.specs.declared.cst.tree.Policies.{Policies}
+use Rattle.cedar_policy_formatter.specs.Texts.{IsTextOf, KeptPoliciesHaveTheSameTokens}
+
+-- a text has one tree of nodes, so what another tree says of it this one says
+pub same_as_any : TreeOfNodesIsUnique → (text : List ℕ) (p tree : Policies) → IsTreeOf text p → IsTextOf text tree → SameTree p tree
+same_as_any unique text p tree t (q, u, same) = ap without_spans (unique text p q t u) ∙ same
+
+-- a text that is refused is one of no policies
+pub refused_is_of_none : AcceptedIsNotRefused → TreeIsOfAccepted → (text : List ℕ) (tree : Policies) (e : FormatError) → e ≢ OutOfMemory → Refuses text e → ¬ (IsTextOf text tree)
+refused_is_of_none not_refused accepted text tree e other r (p, t, same) = not_refused text e (accepted text p t) other r
+
+-- spans are no leaves
+leaves_without_spans : (f : Erased) → yield (without_spans f) ≡ yield f
+leaves_without_spans none = refl
+leaves_without_spans (leaf t f) = ap (λ z. t ∷ z) (leaves_without_spans f)
+leaves_without_spans (branch l f g) = ap (λ z. z ++ yield (without_spans g)) (leaves_without_spans f) ∙ ap (λ z. yield f ++ z) (leaves_without_spans g)
+
+pub kept_policies_have_the_same_tokens : NodesHaveThePlainTexts → KeptPoliciesHaveTheSameTokens
+kept_policies_have_the_same_tokens texts a b l m (p, t, (q, u, same)) i j =
+    let leaves : yield (erase p) ≡ yield (erase q) = sym (leaves_without_spans (erase p)) ∙ ap yield (sym same) ∙ leaves_without_spans (erase q) in
+    sym (texts a p l t i) ∙ leaves ∙ texts b q m u j

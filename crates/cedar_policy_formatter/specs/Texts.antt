@@ -1,0 +1,31 @@
+-- Texts of given policies.
+use Rattle.std.specs.Prelude.{◌≡◌, ℕ, List, map, ⊤}
+use Rattle.cedar_tokens.specs.Listing.{IsListing, Listing, token_value}
+use Rattle.cedar_tokens.specs.PlainList.{plain_list}
+use Rattle.cedar_cst.specs.declared.cst.error.FormatError.{FormatError}
+use Rattle.cedar_cst.specs.declared.cst.error.FormatError.TheVariants.{Unsound, OutOfMemory}
+use Rattle.cedar_cst.specs.declared.cst.tree.Policies.{Policies}
+use Rattle.cedar_cst.specs.Erased.{SameTree}
+use Rattle.cedar_cst.specs.NodeTrees.{IsTreeOf}
+
+-- the text is accepted, and its tree of nodes is this one but for spans
+abbrev pub IsTextOf : List ℕ → Policies → Type 0
+IsTextOf text tree = (p : Policies) × IsTreeOf text p × SameTree p tree
+
+-- both texts are accepted, and their trees of nodes are equal but for spans
+abbrev pub KeepsPolicies : List ℕ → List ℕ → Type 0
+KeepsPolicies old new = (p : Policies) × IsTreeOf old p × IsTextOf new p
+
+-- why a check fails: `Unsound` only where the text is not one of these policies
+abbrev pub FailsCheck : List ℕ → Policies → FormatError → Type 0
+FailsCheck text tree Unsound = ¬ (IsTextOf text tree)
+FailsCheck text tree OutOfMemory = ⊤
+FailsCheck text tree e = ⊥
+
+-- the texts of the plain list, numbers without leading zeros
+abbrev pub plain_values : Listing → List (List ℕ)
+plain_values l = map (λ t. token_value t.text) (plain_list l.tokens)
+
+-- texts of the same policies have the same tokens, but for trailing commas and leading zeros
+abbrev pub KeptPoliciesHaveTheSameTokens : Type 0
+KeptPoliciesHaveTheSameTokens = (a b : List ℕ) (l m : Listing) → KeepsPolicies a b → IsListing a l → IsListing b m → plain_values l ≡ plain_values m
