@@ -1,18 +1,17 @@
 -- `if`, parentheses, entries of records and type tests.
-use Rattle.std.specs.Prelude.{◌≡◌, ℕ, Bool, true, false, List, [], ◌∷◌, Result, Ok, Err, Option, Some, None, codes}
+use Rattle.std.specs.Prelude.{◌≡◌, ℕ, Bool, true, false, List, [], ◌∷◌, Result, Ok, Err, Option, None}
 use Rattle.std.specs.Borrow.{Bor}
 use Rattle.std.proofs.Common.{refl, sym, ap, ◌∙◌}
-use Rattle.cedar_tokens.specs.declared.token.Span.{Span}
 use Rattle.cedar_grammar.specs.declared.kind.Kind.{Kind}
 use Rattle.cedar_grammar.specs.declared.kind.Kind.TheVariants as K
 use Rattle.cedar_grammar.specs.Kinds.{is, begins}
 use Rattle.cedar_grammar.specs.Trees.{Label, Forest, none, leaf, branch}
 use Rattle.cedar_grammar.specs.Reader.Reading.{Answer, Reader, done, stuck, choice, both, skip, tree, one}
 use Rattle.cedar_grammar.proofs.ReadingLaws.{tree_done, tree_fails, both_first, both_done, both_fails, both_then_fails, choice_yes, choice_no, token_yes, token_no, token_end, onto}
-use Rattle.cedar_cst.specs.Erased.{Erased, node, expr_parts, add_parts, primary_parts}
-use Rattle.cedar_cst.specs.Reading.{kind, Fails, Stands, PassesOn, ClosesWith, GivesNode, GivesBehind, first_place, name_parts}
+use Rattle.cedar_cst.specs.Erased.{expr_parts, add_parts, primary_parts}
+use Rattle.cedar_cst.specs.Reading.{kind, Stands, PassesOn, ClosesWith, GivesNode, GivesBehind, first_place, name_parts}
 use Rattle.cedar_cst.specs.ReadingParts.{Makes}
-use Rattle.cedar_cst.specs.ReadingExprs.{IsIfOf, IsParensOf, IsInitOf, IsTyped, GivesTypeTest, init_parts, in_trees, type_test_trees, type_test_end}
+use Rattle.cedar_cst.specs.ReadingExprs.{IsIfOf, IsParensOf, IsInitOf, IsTyped, GivesTypeTest, init_parts}
 use Rattle.cedar_cst.specs.declared.cst.lexeme.Lexeme.{Lexeme}
 use Rattle.cedar_cst.specs.declared.cst.reading.Refusal.{Refusal}
 use Rattle.cedar_cst.specs.declared.cst.tree.Node.{Node}

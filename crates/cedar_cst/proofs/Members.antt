@@ -4,7 +4,7 @@ use Rattle.std.proofs.Common.{refl}
 use Rattle.cedar_grammar.specs.declared.kind.Kind.TheVariants as K
 use Rattle.cedar_grammar.specs.Kinds.{is, begins}
 use Rattle.cedar_grammar.specs.Trees.{Label, Forest, none, branch}
-use Rattle.cedar_grammar.specs.Reader.Reading.{done, stuck, tree}
+use Rattle.cedar_grammar.specs.Reader.Reading.{done, stuck}
 use Rattle.cedar_grammar.specs.Reader.Lines as L
 use Rattle.cedar_grammar.specs.Reader.Lines.{◌∥◌, field, index, call, access_rule, member_rule}
 use Rattle.cedar_cst.specs.Erased.{access_parts}

@@ -6,13 +6,13 @@ use Rattle.std.proofs.Common.{refl, sym, ap, ◌∙◌, subst}
 use Rattle.cedar_grammar.specs.declared.kind.Kind.{Kind}
 use Rattle.cedar_grammar.specs.declared.kind.Kind.TheVariants as K
 use Rattle.cedar_grammar.specs.Kinds.{is, is_comparison, begins}
-use Rattle.cedar_grammar.specs.Trees.{Label, Forest, none, leaf, branch}
+use Rattle.cedar_grammar.specs.Trees.{Label, none, leaf, branch}
 use Rattle.cedar_grammar.specs.Reader.Reading.{Answer, Reader, done, stuck, both, tree, one}
 use Rattle.cedar_grammar.specs.Reader.Rules.{leaf_of}
 use Rattle.cedar_grammar.specs.Reader.Lines.{◌▸◌, ◌∥◌, one_of, maybe, path, add_rule, text_operand, has_field, expr_to, expr_rule, call}
 use Rattle.cedar_grammar.proofs.ReadingLaws.{Takes, both_done, both_then_fails, tree_done, tree_fails}
 use Rattle.cedar_cst.specs.Erased.{Erased, or_parts, expr_parts, primary_parts}
-use Rattle.cedar_cst.specs.Reading.{kind, flat, Fails, Stands, PassesOn, GivesNode, first_place}
+use Rattle.cedar_cst.specs.Reading.{kind, flat, PassesOn, GivesNode, first_place}
 use Rattle.cedar_cst.specs.ReadingParts.{Makes, IsOrExprOf}
 use Rattle.cedar_cst.specs.ReadingExprs.{at_depth, GivesItem, GivesSigned, IsSigned, IsUncalled}
 use Rattle.cedar_cst.specs.declared.cst.lexeme.Lexeme.{Lexeme}

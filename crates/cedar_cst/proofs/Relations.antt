@@ -1,12 +1,11 @@
 -- Relations: an operand, and perhaps a comparison, `has`, `like` or `is` behind it.
-use Rattle.std.specs.Prelude.{◌≡◌, ◌||◌, ℕ, Bool, true, false, List, [], ◌∷◌, Result, Ok, Err, Option, Some, None, codes}
+use Rattle.std.specs.Prelude.{◌≡◌, ◌||◌, ℕ, Bool, true, false, List, [], ◌∷◌, Result, Ok, Err, Option}
 use Rattle.std.specs.Borrow.{Bor}
-use Rattle.std.proofs.Common.{refl, sym, ap, ◌∙◌, subst}
+use Rattle.std.proofs.Common.{refl, sym, ap, ◌∙◌}
 use Rattle.cedar_tokens.specs.declared.token.Span.{Span}
 use Rattle.cedar_grammar.specs.declared.kind.Kind.{Kind}
 use Rattle.cedar_grammar.specs.declared.kind.Kind.TheVariants as K
-use Rattle.cedar_grammar.specs.Kinds.{code, is, is_comparison, begins}
-use Rattle.cedar_grammar.specs.TokenKinds.{fixed_tokens}
+use Rattle.cedar_grammar.specs.Kinds.{is, is_comparison, begins}
 use Rattle.cedar_grammar.specs.Trees.{Label, Forest, none, leaf, branch}
 use Rattle.cedar_grammar.specs.Reader.Reading.{Reader, done, stuck, choice, both, skip, tree}
 use Rattle.cedar_grammar.proofs.ReadingLaws.{tree_done, tree_fails, both_done, both_fails, both_then_fails, choice_yes, choice_no}
@@ -14,7 +13,7 @@ use Rattle.cedar_cst.specs.Erased.{Erased, node, variant, add_parts, relation_pa
 use Rattle.cedar_cst.specs.NodeTrees.{is_node}
 use Rattle.cedar_cst.specs.Reading.{kind, Stands, PassesOn, GivesNode, GivesBehind, relop_kind}
 use Rattle.cedar_cst.specs.ReadingParts.{Makes}
-use Rattle.cedar_cst.specs.ReadingExprs.{IsLoneRelationOf, IsComparedOf, IsWordOf, IsTypeTestOf, GivesSigned, GivesTypeTest, type_test_trees, type_test_end}
+use Rattle.cedar_cst.specs.ReadingExprs.{IsLoneRelationOf, IsComparedOf, IsWordOf, IsTypeTestOf, GivesSigned, GivesTypeTest}
 use Rattle.cedar_cst.specs.declared.cst.lexeme.Lexeme.{Lexeme}
 use Rattle.cedar_cst.specs.declared.cst.reading.Refusal.{Refusal}
 use Rattle.cedar_cst.specs.declared.cst.tree.Node.{Node}
@@ -22,7 +21,7 @@ use Rattle.cedar_cst.specs.declared.cst.tree.Name.{Name}
 use Rattle.cedar_cst.specs.declared.cst.tree.RelOp.{RelOp}
 use Rattle.cedar_cst.specs.declared.cst.tree.Add as Add
 use Rattle.cedar_cst.specs.declared.cst.tree.Relation as Relation
-use Rattle.cedar_cst.proofs.LeafTexts.{shown, from_to}
+use Rattle.cedar_cst.proofs.LeafTexts.{from_to}
 use Rattle.cedar_cst.proofs.Steps.{passes}
 use Rattle.cedar_cst.proofs.Rows.{row_node, row_nodes, row_more, row_parts, row_span}
 use Rattle.cedar_cst.proofs.Bracketed.{row_variant}

@@ -1,12 +1,12 @@
-use Rattle.std.specs.Prelude.{◌≡◌, ◌||◌, ◌-◌, suc, true, [], ◌∷◌, codes}
+use Rattle.std.specs.Prelude.{◌≡◌, ◌||◌, ◌-◌, suc, true, codes}
 use Rattle.std.proofs.Common.{refl, sym, ap, ◌∙◌, arith, subst}
 use Rattle.std.proofs.lemmas.Result.{err_from_is_err_and}
 use Rattle.cedar_grammar.specs.declared.kind.Kind.TheVariants as K
 use Rattle.cedar_grammar.specs.Kinds.{is, is_ident, is_comparison}
 use Rattle.cedar_grammar.specs.Trees.{Label, none, branch, join}
-use Rattle.cedar_grammar.specs.Reader.Reading.{done, stuck, both, tree, token, one}
+use Rattle.cedar_grammar.specs.Reader.Reading.{done, stuck, tree, token}
 use Rattle.cedar_grammar.specs.Reader.Rules.{expr_first, items, inner}
-use Rattle.cedar_grammar.specs.Reader.Lines.{maybe, path, field, index, init, item, call, access_rule, member_rule, unary_rule, mult_rule, relation_rule, and_rule, or_rule, expr_rule, expr_to}
+use Rattle.cedar_grammar.specs.Reader.Lines.{maybe, path, init, item, call, access_rule, member_rule, unary_rule, mult_rule, relation_rule, and_rule, or_rule, expr_rule, expr_to}
 use Rattle.cedar_grammar.proofs.ReadingLaws.{tree_fails, both_fails}
 use Rattle.cedar_cst.specs.Erased.{addop_text, expr_parts, or_parts, relation_parts, add_parts, mult_parts, unary_parts, access_parts, primary_parts}
 use Rattle.cedar_cst.specs.Reading.{kind, flat, addop_kind, relop_kind, first_place}
