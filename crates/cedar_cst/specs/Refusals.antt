@@ -4,7 +4,7 @@ use Rattle.cedar_tokens.specs.Split.{IsFirstFault, fault_kind}
 use Rattle.cedar_tokens.specs.declared.lexer.LexFaultKind.TheVariants as Fault
 use Rattle.cedar_cst.specs.declared.cst.error.FormatError.{FormatError}
 use Rattle.cedar_cst.specs.declared.cst.error.FormatError.TheVariants.{UnknownCharacter, UnfinishedString, NumberTooLarge, Grammar, TooDeep, NoDocument, Unsound, OutOfMemory}
-use Rattle.cedar_grammar.specs.Numbers.{IsFirstTooLarge, HasFittingNumbers}
+use Rattle.cedar_grammar.specs.Numbers.{IsFirstTooLarge}
 use Rattle.cedar_grammar.specs.Texts.{IsRefused}
 
 -- why the text's tokens are refused before the grammar is asked: its first fault; or else its first number above the limit
@@ -18,13 +18,7 @@ RefusesTokens text NoDocument = ⊥
 RefusesTokens text Unsound = ⊥
 RefusesTokens text OutOfMemory = ⊤
 
--- what is proved of the parser so far: the grammar is asked only where the tokens are not refused
-abbrev pub RefusesInOrder : List ℕ → FormatError → Type 0
-RefusesInOrder text (Grammar at) = HasFittingNumbers text
-RefusesInOrder text (TooDeep at) = HasFittingNumbers text
-RefusesInOrder text e = RefusesTokens text e
-
--- the same of parsing: a text whose tokens are not refused is not in the grammar, with the exact place and kind
+-- why a text is refused: its tokens are; or they are not, and it is not in the grammar, with the exact place and kind
 abbrev pub Refuses : List ℕ → FormatError → Type 0
 Refuses text (Grammar at) = IsRefused text at false
 Refuses text (TooDeep at) = IsRefused text at true
