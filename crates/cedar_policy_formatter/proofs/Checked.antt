@@ -1,7 +1,6 @@
 -- What the check of a result tells, and what texts of the same policies have in common.
 use Rattle.std.specs.Prelude.{◌≡◌, ◌≢◌, ℕ, List, ◌∷◌, ◌++◌}
 use Rattle.std.proofs.Common.{refl, sym, ap, ◌∙◌}
-use Rattle.cedar_tokens.specs.Listing.{Listing}
 use Rattle.cedar_grammar.specs.Trees.{none, leaf, branch, yield}
 use Rattle.cedar_cst.specs.Erased.{Erased, erase, without_spans, SameTree}
 use Rattle.cedar_cst.specs.Laws.{AcceptedIsNotRefused, TreeIsOfAccepted, TreeOfNodesIsUnique, NodesHaveThePlainTexts}
