@@ -12,17 +12,17 @@ use Rattle.cedar_grammar.specs.Trees.{Label, Forest, none, leaf, branch, join, y
 use Rattle.cedar_grammar.specs.TrailingCommas.{without_trailing, drop_if, closes_next}
 use Rattle.cedar_grammar.specs.Reader.Reading.{Answer, Reader, done, stuck, both, tree, one}
 use Rattle.cedar_grammar.proofs.ReadingLaws.{both_done, both_fails, both_then_fails, tree_done, tree_fails}
-use Rattle.cedar_cst.specs.Erased.{Erased, variant, access_parts, primary_parts}
+use Rattle.cedar_tree.specs.Erased.{Erased, variant, access_parts, primary_parts}
 use Rattle.cedar_cst.specs.Lexemes.{nodes_of}
-use Rattle.cedar_cst.specs.NodeTrees.{is_node, span_of}
+use Rattle.cedar_tree.specs.NodeTrees.{is_node, span_of}
 use Rattle.cedar_cst.specs.Reading.{kind, Fails, Stands, PassesOn, ClosesWith, GivesNode}
 use Rattle.cedar_cst.specs.ReadingItems.{item_trees, StandsItems, GivesItems}
 use Rattle.cedar_cst.specs.ReadingParts.{Makes}
 use Rattle.cedar_cst.specs.declared.cst.lexeme.Lexeme.{Lexeme}
 use Rattle.cedar_cst.specs.declared.cst.reading.Refusal.{Refusal}
-use Rattle.cedar_cst.specs.declared.cst.tree.Node.{Node}
-use Rattle.cedar_cst.specs.declared.cst.tree.MemAccess as MemAccess
-use Rattle.cedar_cst.specs.declared.cst.tree.Primary as Primary
+use Rattle.cedar_tree.specs.declared.tree.Node.{Node}
+use Rattle.cedar_tree.specs.declared.tree.MemAccess as MemAccess
+use Rattle.cedar_tree.specs.declared.tree.Primary as Primary
 use Rattle.cedar_cst.proofs.LeafTexts.{shown, kept, from_to, nodes_fixed, covers_node, kept_leaf, end_append}
 use Rattle.cedar_cst.proofs.Rows.{right_join, row_span, row_parts}
 use Rattle.cedar_cst.proofs.Steps.{passes}

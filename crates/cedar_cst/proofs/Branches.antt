@@ -8,18 +8,18 @@ use Rattle.cedar_grammar.specs.Kinds.{is, begins}
 use Rattle.cedar_grammar.specs.Trees.{Label, Forest, none, leaf, branch}
 use Rattle.cedar_grammar.specs.Reader.Reading.{Answer, Reader, done, stuck, choice, both, skip, tree, one}
 use Rattle.cedar_grammar.proofs.ReadingLaws.{tree_done, tree_fails, both_first, both_done, both_fails, both_then_fails, choice_yes, choice_no, token_yes, token_no, token_end, onto}
-use Rattle.cedar_cst.specs.Erased.{expr_parts, add_parts, primary_parts}
+use Rattle.cedar_tree.specs.Erased.{expr_parts, add_parts, primary_parts}
 use Rattle.cedar_cst.specs.Reading.{kind, Stands, PassesOn, ClosesWith, GivesNode, GivesBehind, first_place, name_parts}
 use Rattle.cedar_cst.specs.ReadingParts.{Makes}
 use Rattle.cedar_cst.specs.ReadingExprs.{IsIfOf, IsParensOf, IsInitOf, IsTyped, GivesTypeTest, init_parts}
 use Rattle.cedar_cst.specs.declared.cst.lexeme.Lexeme.{Lexeme}
 use Rattle.cedar_cst.specs.declared.cst.reading.Refusal.{Refusal}
-use Rattle.cedar_cst.specs.declared.cst.tree.Node.{Node}
-use Rattle.cedar_cst.specs.declared.cst.tree.Name.{Name}
-use Rattle.cedar_cst.specs.declared.cst.tree.Expr as Expr
-use Rattle.cedar_cst.specs.declared.cst.tree.Add as Add
-use Rattle.cedar_cst.specs.declared.cst.tree.Primary as Primary
-use Rattle.cedar_cst.specs.declared.cst.tree.RecInit as RecInit
+use Rattle.cedar_tree.specs.declared.tree.Node.{Node}
+use Rattle.cedar_tree.specs.declared.tree.Name.{Name}
+use Rattle.cedar_tree.specs.declared.tree.Expr as Expr
+use Rattle.cedar_tree.specs.declared.tree.Add as Add
+use Rattle.cedar_tree.specs.declared.tree.Primary as Primary
+use Rattle.cedar_tree.specs.declared.tree.RecInit as RecInit
 use Rattle.cedar_cst.proofs.LeafTexts.{from_to}
 use Rattle.cedar_cst.proofs.Steps.{passes, token_at, first_begins, is_itself}
 use Rattle.cedar_cst.proofs.Rows.{row_token, row_node, row_nodes, row_more, row_parts, row_span}

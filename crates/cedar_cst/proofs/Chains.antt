@@ -9,15 +9,15 @@ use Rattle.cedar_grammar.specs.TokenKinds.{fixed_tokens}
 use Rattle.cedar_grammar.specs.Trees.{Label, Forest, none, leaf, branch, join}
 use Rattle.cedar_grammar.specs.Reader.Reading.{Answer, Reader, done, stuck, both, tree, repeat, token}
 use Rattle.cedar_grammar.proofs.ReadingLaws.{Takes, both_done, both_then_fails, both_takes, token_takes}
-use Rattle.cedar_cst.specs.Erased.{Erased, node, addop_text}
-use Rattle.cedar_cst.specs.NodeTrees.{is_node}
+use Rattle.cedar_tree.specs.Erased.{Erased, node, addop_text}
+use Rattle.cedar_tree.specs.NodeTrees.{is_node}
 use Rattle.cedar_cst.specs.Reading.{kind, Keeps, Fails, Stands, GivesNode, PassesOn, addop_kind}
 use Rattle.cedar_cst.specs.ReadingParts.{Makes}
 use Rattle.cedar_cst.specs.ReadingExprs.{operand_trees, operands_end, IsChainOf, IsSigned}
 use Rattle.cedar_cst.specs.declared.cst.lexeme.Lexeme.{Lexeme}
 use Rattle.cedar_cst.specs.declared.cst.reading.Refusal.{Refusal}
-use Rattle.cedar_cst.specs.declared.cst.tree.Node.{Node}
-use Rattle.cedar_cst.specs.declared.cst.tree.AddOp.{AddOp}
+use Rattle.cedar_tree.specs.declared.tree.Node.{Node}
+use Rattle.cedar_tree.specs.declared.tree.AddOp.{AddOp}
 use Rattle.cedar_cst.proofs.LeafTexts.{shown}
 use Rattle.cedar_cst.proofs.Steps.{token_at, first_begins}
 use Rattle.cedar_cst.proofs.Rows.{row_node, row_more, row_join, row_parts, row_span, no_closing, Chain, chain_first, chain_next, chain_stuck, chain_end}

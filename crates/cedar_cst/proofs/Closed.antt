@@ -5,11 +5,11 @@ use Rattle.cedar_grammar.specs.declared.kind.Kind.{Kind}
 use Rattle.cedar_grammar.specs.Trees.{Label, Forest, none, leaf, branch}
 use Rattle.cedar_grammar.specs.Reader.Reading.{Reader, done, both, one}
 use Rattle.cedar_grammar.proofs.ReadingLaws.{both_done, both_fails, both_then_fails}
-use Rattle.cedar_cst.specs.Erased.{Erased}
+use Rattle.cedar_tree.specs.Erased.{Erased}
 use Rattle.cedar_cst.specs.Reading.{kind, Fails, Stands, GivesNode, ClosesWith}
 use Rattle.cedar_cst.specs.declared.cst.lexeme.Lexeme.{Lexeme}
 use Rattle.cedar_cst.specs.declared.cst.reading.Refusal.{Refusal}
-use Rattle.cedar_cst.specs.declared.cst.tree.Node.{Node}
+use Rattle.cedar_tree.specs.declared.tree.Node.{Node}
 use Rattle.cedar_cst.proofs.Steps.{passes}
 
 module _ {X : Type 0} (l : Label) (parts : X → Erased) (k : Kind) (P : Reader Lexeme) (ts : List Lexeme) where

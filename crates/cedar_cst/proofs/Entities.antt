@@ -9,18 +9,18 @@ use Rattle.cedar_grammar.specs.Reader.Reading.{Answer, Reader, done, stuck, toke
 use Rattle.cedar_grammar.specs.Reader.Rules.{refuse, entity}
 use Rattle.cedar_grammar.specs.Reader.Regroup.{gather}
 use Rattle.cedar_grammar.proofs.ReadingLaws.{Takes, both_first, tree_takes, token_takes, tree_fails, join_assoc, onto, onto_onto}
-use Rattle.cedar_grammar.proofs.RuleLaws.{shaped_done, shaped_fails}
+use Rattle.cedar_grammar.proofs.RuleLaws.{shaped_done}
 use Rattle.cedar_grammar.proofs.KindSets.{apart_at}
-use Rattle.cedar_cst.specs.Erased.{path_parts, primary_parts}
+use Rattle.cedar_tree.specs.Erased.{path_parts, primary_parts}
 use Rattle.cedar_cst.specs.Reading.{kind, flat, Stands, ident_parts, str_parts, name_parts, first_start, GivesNode}
 use Rattle.cedar_cst.specs.ReadingParts.{ident_reader, text_reader, words_on, words_then, GoesOn, Words, WordsEnd, Gathers, GivesWords, IsEntityOf, slot_kind, IsSlotOf}
 use Rattle.cedar_cst.specs.declared.cst.lexeme.Lexeme.{Lexeme}
-use Rattle.cedar_cst.specs.declared.cst.tree.Node.{Node}
-use Rattle.cedar_cst.specs.declared.cst.tree.Ident.{Ident}
-use Rattle.cedar_cst.specs.declared.cst.tree.Name.{Name}
-use Rattle.cedar_cst.specs.declared.cst.tree.Str.{Str}
-use Rattle.cedar_cst.specs.declared.cst.tree.Slot.{Slot}
-use Rattle.cedar_cst.specs.declared.cst.tree.Primary as Primary
+use Rattle.cedar_tree.specs.declared.tree.Node.{Node}
+use Rattle.cedar_tree.specs.declared.tree.Ident.{Ident}
+use Rattle.cedar_tree.specs.declared.tree.Name.{Name}
+use Rattle.cedar_tree.specs.declared.tree.Str.{Str}
+use Rattle.cedar_tree.specs.declared.tree.Slot.{Slot}
+use Rattle.cedar_tree.specs.declared.tree.Primary as Primary
 use Rattle.cedar_cst.proofs.Steps.{is_itself, token_not}
 use Rattle.cedar_cst.proofs.Rows.{row_token, row_node, row_nodes, row_more, row_join, row_parts, row_span, no_closing}
 use Rattle.cedar_cst.proofs.Paths.{path_grow, start_grow}
@@ -128,9 +128,6 @@ words_end ts path name rest whole p h e =
 pub entity_done : (row f : Forest Label Lexeme) (d : Lexeme) (ts rest : List Lexeme) → Gathers row → words_then refuse ts ≡ done (join row (leaf d (branch Label.str f none))) rest
     → flat entity ts ≡ done (branch Label.primary (branch Label.ref (branch Label.name row (leaf d (branch Label.str f none))) none) none) rest
 entity_done row f d ts rest g e = shaped_done (words_then refuse) ts _ rest e ∙ ap (λ z. done z rest) (g (leaf d (branch Label.str f none)))
-
-pub entity_fails : (ts : List Lexeme) (b : Bool) (r : List Lexeme) → words_then refuse ts ≡ stuck b r → flat entity ts ≡ stuck b r
-entity_fails ts b r e = shaped_fails (words_then refuse) ts b r e
 
 pub entity_stands : (path : Node Name) (eid : Node Str) (n : Node Primary.Primary) (row f : Forest Label Lexeme) (d : Lexeme) → IsEntityOf path eid n → d.kind ≡ K.DoubleColon → Stands path.span (name_parts path.inner) row → Stands eid.span (str_parts eid.inner) f
     → Stands n.span (primary_parts n.inner) (branch Label.ref (branch Label.name row (leaf d (branch Label.str f none))) none)

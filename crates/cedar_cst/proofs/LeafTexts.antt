@@ -15,9 +15,9 @@ use Rattle.cedar_grammar.specs.TokenKinds.{Fixed, fixed_tokens, other_kind, kind
 use Rattle.cedar_grammar.specs.Trees.{Label, Forest, none, leaf, branch, yield}
 use Rattle.cedar_grammar.specs.TrailingCommas.{without_trailing, drop_if, closes_next}
 use Rattle.cedar_grammar.proofs.TextKinds.{number_kind}
-use Rattle.cedar_cst.specs.Erased.{Erased}
+use Rattle.cedar_tree.specs.Erased.{Erased}
 use Rattle.cedar_cst.specs.Lexemes.{nodes_of}
-use Rattle.cedar_cst.specs.NodeTrees.{is_node, span_of, end_of, spanned}
+use Rattle.cedar_tree.specs.NodeTrees.{is_node, span_of, end_of, spanned}
 use Rattle.cedar_cst.specs.Reading.{kind, IsRight, AreRight, Stands}
 use Rattle.cedar_cst.specs.declared.cst.lexeme.Lexeme.{Lexeme}
 

@@ -1,4 +1,3 @@
-pub mod NodeLaws
 pub mod Steps
 pub mod LeafTexts
 pub mod Rows
@@ -32,10 +31,6 @@ pub mod Starts
 pub mod Policies
 pub mod Sets
 pub mod Whole
-pub mod RefusalLaws
-pub mod ErasedSame
 pub mod Parsing
 pub mod Walking
 pub mod Digits
-pub mod Comparing
-pub mod ComparedRows

@@ -9,13 +9,13 @@ use Rattle.cedar_grammar.specs.TrailingCommas.{without_trailing, drop_if}
 use Rattle.cedar_grammar.specs.Reader.Reading.{Answer, Reader, done, stuck, choice, both, skip}
 use Rattle.cedar_grammar.specs.Reader.Rules.{tailed}
 use Rattle.cedar_grammar.proofs.ReadingLaws.{Takes, choice_yes, choice_no, both_first, both_fails, onto, onto_onto, join_none, join_assoc}
-use Rattle.cedar_cst.specs.Erased.{Erased, node}
+use Rattle.cedar_tree.specs.Erased.{Erased, node}
 use Rattle.cedar_cst.specs.Lexemes.{nodes_of}
-use Rattle.cedar_cst.specs.NodeTrees.{is_node}
+use Rattle.cedar_tree.specs.NodeTrees.{is_node}
 use Rattle.cedar_cst.specs.Reading.{kind, IsRight, AreRight, Stands}
 use Rattle.cedar_cst.specs.ReadingItems.{more_trees, item_trees, StandsItems}
 use Rattle.cedar_cst.specs.declared.cst.lexeme.Lexeme.{Lexeme}
-use Rattle.cedar_cst.specs.declared.cst.tree.Node.{Node}
+use Rattle.cedar_tree.specs.declared.tree.Node.{Node}
 use Rattle.cedar_cst.proofs.Steps.{is_itself}
 use Rattle.cedar_cst.proofs.LeafTexts.{nodes_node, fixed_text}
 use Rattle.cedar_cst.proofs.Rows.{plain, right_join}

@@ -5,15 +5,15 @@ use Rattle.std.proofs.Common.{refl, sym, ap, ◌∙◌}
 use Rattle.cedar_grammar.specs.Trees.{Label, Forest, none, branch}
 use Rattle.cedar_grammar.specs.Reader.Reading.{Reader, done, stuck, tree}
 use Rattle.cedar_grammar.proofs.ReadingLaws.{tree_done, tree_fails}
-use Rattle.cedar_cst.specs.Erased.{node, or_parts, add_parts, expr_parts}
+use Rattle.cedar_tree.specs.Erased.{node, or_parts, add_parts, expr_parts}
 use Rattle.cedar_cst.specs.Reading.{Stands, GivesNode, PassesOn}
 use Rattle.cedar_cst.specs.ReadingParts.{IsLoneOrOf, IsOrExprOf, Makes}
 use Rattle.cedar_cst.specs.declared.cst.lexeme.Lexeme.{Lexeme}
 use Rattle.cedar_cst.specs.declared.cst.reading.Refusal.{Refusal}
-use Rattle.cedar_cst.specs.declared.cst.tree.Node.{Node}
-use Rattle.cedar_cst.specs.declared.cst.tree.Add as Add
-use Rattle.cedar_cst.specs.declared.cst.tree.Or as Or
-use Rattle.cedar_cst.specs.declared.cst.tree.Expr as Expr
+use Rattle.cedar_tree.specs.declared.tree.Node.{Node}
+use Rattle.cedar_tree.specs.declared.tree.Add as Add
+use Rattle.cedar_tree.specs.declared.tree.Or as Or
+use Rattle.cedar_tree.specs.declared.tree.Expr as Expr
 use Rattle.cedar_cst.proofs.Rows.{row_node, row_parts, row_span}
 
 -- P reads the operand

@@ -7,11 +7,11 @@ use Rattle.cedar_grammar.specs.Reader.Rules.{Rule, core, nullable, refuse}
 use Rattle.cedar_grammar.proofs.ReadingLaws.{Takes, IsRead, read_none, read_more}
 use Rattle.cedar_grammar.proofs.RuleMeanings.{decided}
 use Rattle.cedar_grammar.proofs.RuleLaws.{read_takes, refuse_sound}
-use Rattle.cedar_cst.specs.Erased.{Erased, node}
-use Rattle.cedar_cst.specs.NodeTrees.{is_node}
+use Rattle.cedar_tree.specs.Erased.{Erased, node}
+use Rattle.cedar_tree.specs.NodeTrees.{is_node}
 use Rattle.cedar_cst.specs.Reading.{kind, flat, Stands, StandsMany, node_trees}
 use Rattle.cedar_cst.specs.declared.cst.lexeme.Lexeme.{Lexeme}
-use Rattle.cedar_cst.specs.declared.cst.tree.Node.{Node}
+use Rattle.cedar_tree.specs.declared.tree.Node.{Node}
 use Rattle.cedar_cst.proofs.Rows.{row_node, many_join}
 
 pub flat_takes : (R : Rule) → IsTrue (decided (core R)) → nullable (core R) ≡ false → Takes (flat R)

@@ -10,16 +10,16 @@ use Rattle.cedar_grammar.specs.Kinds.{is, is_ident, begins}
 use Rattle.cedar_grammar.specs.Trees.{Label, Forest, none, leaf, branch, join}
 use Rattle.cedar_grammar.specs.Reader.Reading.{Answer, Reader, done, stuck, both, tree, repeat, token, one}
 use Rattle.cedar_grammar.proofs.ReadingLaws.{Takes, tree_done, tree_fails, both_done, both_then_fails, both_takes, tree_takes, token_takes}
-use Rattle.cedar_cst.specs.Erased.{Erased, node, access_parts, primary_parts, add_parts}
+use Rattle.cedar_tree.specs.Erased.{Erased, node, access_parts, primary_parts, add_parts}
 use Rattle.cedar_cst.specs.Reading.{kind, Keeps, Fails, Stands, GivesNode, access_items, IsOperandOf, last_end, IsNameOf, IsNamePrimaryOf, GivesBehind, ident_parts}
 use Rattle.cedar_cst.specs.declared.cst.lexeme.Lexeme.{Lexeme}
 use Rattle.cedar_cst.specs.declared.cst.reading.Refusal.{Refusal}
-use Rattle.cedar_cst.specs.declared.cst.tree.Node.{Node}
-use Rattle.cedar_cst.specs.declared.cst.tree.Ident.{Ident}
-use Rattle.cedar_cst.specs.declared.cst.tree.Name.{Name}
-use Rattle.cedar_cst.specs.declared.cst.tree.Primary as Primary
-use Rattle.cedar_cst.specs.declared.cst.tree.MemAccess as MemAccess
-use Rattle.cedar_cst.specs.declared.cst.tree.Add as Add
+use Rattle.cedar_tree.specs.declared.tree.Node.{Node}
+use Rattle.cedar_tree.specs.declared.tree.Ident.{Ident}
+use Rattle.cedar_tree.specs.declared.tree.Name.{Name}
+use Rattle.cedar_tree.specs.declared.tree.Primary as Primary
+use Rattle.cedar_tree.specs.declared.tree.MemAccess as MemAccess
+use Rattle.cedar_tree.specs.declared.tree.Add as Add
 use Rattle.cedar_grammar.specs.TrailingCommas.{closes_next}
 use Rattle.cedar_cst.proofs.LeafTexts.{covers_leaf, nodes_own}
 use Rattle.cedar_cst.proofs.Rows.{row_node, row_join, row_parts, row_span, Chain, chain_first, chain_next, chain_stuck, chain_end}

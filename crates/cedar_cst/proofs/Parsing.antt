@@ -11,7 +11,7 @@ use Rattle.cedar_tokens.specs.declared.token.Span.{Span}
 use Rattle.cedar_grammar.specs.declared.kind.Kind.{Kind}
 use Rattle.cedar_grammar.specs.declared.kind.Kind.TheVariants as K
 use Rattle.cedar_cst.specs.declared.cst.lexeme.Lexeme.{Lexeme}
-use Rattle.cedar_cst.specs.declared.cst.tree.Policies.{Policies}
+use Rattle.cedar_tree.specs.declared.tree.Policies.{Policies}
 use Rattle.cedar_grammar.specs.Kinds.{is, is_closing}
 use Rattle.cedar_grammar.specs.Trees.{Label, Forest, none, leaf, branch, yield}
 use Rattle.cedar_grammar.specs.Grammar.{G}
@@ -20,8 +20,8 @@ use Rattle.cedar_grammar.specs.HopelessPlaces.{Hopeless, Unfinished}
 use Rattle.cedar_grammar.specs.Numbers.{is_too_large}
 use Rattle.cedar_grammar.specs.Texts.{greatest_depth, tokens, IsRefused}
 use Rattle.cedar_grammar.specs.TrailingCommas.{drop_if, closes_next, without_trailing}
-use Rattle.cedar_cst.specs.Erased.{erase}
-use Rattle.cedar_cst.specs.NodeTrees.{is_node, end_of, span_of, spanned, IsTreeOf}
+use Rattle.cedar_tree.specs.Erased.{erase}
+use Rattle.cedar_tree.specs.NodeTrees.{is_node, end_of, span_of, spanned, IsTreeOf}
 use Rattle.cedar_grammar.specs.Placed.{Placed, with_places, placed, kind_of_placed}
 use Rattle.cedar_cst.specs.Lexemes.{AreLexemes, nodes_of}
 use Rattle.cedar_grammar.specs.Reader.Reading.{Answer, done, stuck}

@@ -13,8 +13,8 @@ use Rattle.cedar_grammar.specs.Reader.Reading.{Answer, Reader, done, stuck, afte
 use Rattle.cedar_grammar.specs.Reader.Rules.{star, word_of, read, core}
 use Rattle.cedar_grammar.specs.Reader.Lines.{annotation_rule, scoped, action, cond_rule}
 use Rattle.cedar_grammar.proofs.ReadingLaws.{both_first, both_done, both_fails, both_then_fails, tree_done, tree_fails, many_step, many_fails, many_end}
-use Rattle.cedar_cst.specs.Erased.{Erased, ident_tree, annotation_trees, cond_trees, policy_parts, policy_trees}
-use Rattle.cedar_cst.specs.NodeTrees.{span_of}
+use Rattle.cedar_tree.specs.Erased.{Erased, ident_tree, annotation_trees, cond_trees, policy_parts, policy_trees}
+use Rattle.cedar_tree.specs.NodeTrees.{span_of}
 use Rattle.cedar_cst.specs.Reading.{kind, flat, Fails, Stands, StandsMany, GivesMany, ClosesWith, node_trees, ident_parts, annotation_parts}
 use Rattle.cedar_cst.specs.ReadingParts.{is_effect, variable_parts, scope_rule}
 use Rattle.cedar_cst.specs.ReadingItems.{item_trees}
@@ -22,10 +22,10 @@ use Rattle.cedar_cst.specs.ReadingSet.{cond_parts}
 use Rattle.cedar_cst.specs.Lexemes.{nodes_of}
 use Rattle.cedar_cst.specs.declared.cst.lexeme.Lexeme.{Lexeme}
 use Rattle.cedar_cst.specs.declared.cst.reading.Refusal.{Refusal}
-use Rattle.cedar_cst.specs.declared.cst.tree.Node.{Node}
-use Rattle.cedar_cst.specs.declared.cst.tree.Annotation.{Annotation}
-use Rattle.cedar_cst.specs.declared.cst.tree.Cond.{Cond}
-use Rattle.cedar_cst.specs.declared.cst.tree.Policy.{Policy}
+use Rattle.cedar_tree.specs.declared.tree.Node.{Node}
+use Rattle.cedar_tree.specs.declared.tree.Annotation.{Annotation}
+use Rattle.cedar_tree.specs.declared.tree.Cond.{Cond}
+use Rattle.cedar_tree.specs.declared.tree.Policy.{Policy}
 use Rattle.cedar_cst.proofs.LeafTexts.{Covers, kept, from_to}
 use Rattle.cedar_cst.proofs.Rows.{row_token, row_nodes, row_parts, row_join, many_join, closes_join, no_closing}
 use Rattle.cedar_cst.proofs.Steps.{passes}

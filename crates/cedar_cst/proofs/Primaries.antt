@@ -11,17 +11,17 @@ use Rattle.cedar_grammar.specs.Reader.Reading.{Answer, Reader, done, stuck, both
 use Rattle.cedar_grammar.specs.Reader.Rules.{leaf_of}
 use Rattle.cedar_grammar.specs.Reader.Lines.{◌▸◌, ◌∥◌, one_of, maybe, path, add_rule, text_operand, has_field, expr_to, expr_rule, call}
 use Rattle.cedar_grammar.proofs.ReadingLaws.{Takes, both_done, both_then_fails, tree_done, tree_fails}
-use Rattle.cedar_cst.specs.Erased.{Erased, or_parts, expr_parts, primary_parts}
+use Rattle.cedar_tree.specs.Erased.{Erased, or_parts, expr_parts, primary_parts}
 use Rattle.cedar_cst.specs.Reading.{kind, flat, PassesOn, GivesNode, first_place}
 use Rattle.cedar_cst.specs.ReadingParts.{Makes, IsOrExprOf}
 use Rattle.cedar_cst.specs.ReadingExprs.{at_depth, GivesItem, GivesSigned, IsSigned, IsUncalled}
 use Rattle.cedar_cst.specs.declared.cst.lexeme.Lexeme.{Lexeme}
 use Rattle.cedar_cst.specs.declared.cst.reading.Refusal.{Refusal}
-use Rattle.cedar_cst.specs.declared.cst.tree.Node.{Node}
-use Rattle.cedar_cst.specs.declared.cst.tree.MemAccess as MemAccess
-use Rattle.cedar_cst.specs.declared.cst.tree.Primary as Primary
-use Rattle.cedar_cst.specs.declared.cst.tree.Or as Or
-use Rattle.cedar_cst.specs.declared.cst.tree.Expr as Expr
+use Rattle.cedar_tree.specs.declared.tree.Node.{Node}
+use Rattle.cedar_tree.specs.declared.tree.MemAccess as MemAccess
+use Rattle.cedar_tree.specs.declared.tree.Primary as Primary
+use Rattle.cedar_tree.specs.declared.tree.Or as Or
+use Rattle.cedar_tree.specs.declared.tree.Expr as Expr
 use Rattle.cedar_cst.proofs.Steps.{passes, token_not, token_at}
 use Rattle.cedar_cst.proofs.Rows.{row_node, row_parts, row_span}
 use Rattle.cedar_cst.proofs.Chains.{Between}

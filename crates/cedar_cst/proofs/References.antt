@@ -13,19 +13,19 @@ use Rattle.cedar_grammar.specs.Reader.Lines.{call, call_parts}
 use Rattle.cedar_grammar.proofs.ReadingLaws.{choice_yes, choice_no, both_first, both_done, both_fails, token_yes, token_no, token_end, tree_fails, onto}
 use Rattle.cedar_grammar.proofs.RuleLaws.{shaped_done, shaped_fails}
 use Rattle.cedar_grammar.proofs.KindSets.{within_at}
-use Rattle.cedar_cst.specs.Erased.{access_parts, primary_parts, node}
+use Rattle.cedar_tree.specs.Erased.{access_parts, primary_parts, node}
 use Rattle.cedar_cst.specs.Reading.{kind, Fails, Stands, GivesNode, PassesOn, IsNamePrimaryOf, access_items, last_end, name_parts}
 use Rattle.cedar_cst.specs.ReadingParts.{ident_reader, text_reader, words_on, words_then, GoesOn, Words, WordsEnd, GivesWords, IsEntityOf, Makes}
 use Rattle.cedar_cst.specs.ReadingExprs.{at_depth, GivesItem}
 use Rattle.cedar_cst.specs.declared.cst.lexeme.Lexeme.{Lexeme}
 use Rattle.cedar_cst.specs.declared.cst.reading.Refusal.{Refusal}
 use Rattle.cedar_cst.specs.declared.cst.reading.Refusal.TheVariants.{Grammar, TooDeep, OutOfMemory}
-use Rattle.cedar_cst.specs.declared.cst.tree.Node.{Node}
-use Rattle.cedar_cst.specs.declared.cst.tree.Ident.{Ident}
-use Rattle.cedar_cst.specs.declared.cst.tree.Name.{Name}
-use Rattle.cedar_cst.specs.declared.cst.tree.Str.{Str}
-use Rattle.cedar_cst.specs.declared.cst.tree.Primary as Primary
-use Rattle.cedar_cst.specs.declared.cst.tree.MemAccess as MemAccess
+use Rattle.cedar_tree.specs.declared.tree.Node.{Node}
+use Rattle.cedar_tree.specs.declared.tree.Ident.{Ident}
+use Rattle.cedar_tree.specs.declared.tree.Name.{Name}
+use Rattle.cedar_tree.specs.declared.tree.Str.{Str}
+use Rattle.cedar_tree.specs.declared.tree.Primary as Primary
+use Rattle.cedar_tree.specs.declared.tree.MemAccess as MemAccess
 use Rattle.cedar_cst.proofs.Rows.{row_node, row_nodes, row_parts, row_span}
 use Rattle.cedar_cst.proofs.Steps.{passes, fails_as, token_not}
 use Rattle.cedar_cst.proofs.Entities.{entity_stands}
@@ -222,10 +222,6 @@ module _ (C : Reader Lexeme) where
       go true k [] q x = absurd (apart k q)
       go true k (n ∷ ns) q x = reads_more ts x
       go false k ns q x = reads_other ts k
-
--- the reader of the grammar
-pub reference_is : (d : ℕ) (ts : List Lexeme) → at_depth d (reference call_parts) ts ≡ reference_reader (at_depth d call) ts
-reference_is d ts = refl
 
 pub call_refuses : (d : ℕ) (ts : List Lexeme) → begins kind (is K.LParen) ts ≡ false → at_depth d call ts ≡ stuck false ts
 call_refuses d ts h = tree_fails Label.access _ ts false ts (choice_no _ _ _ ts h)

@@ -9,18 +9,18 @@ use Rattle.cedar_grammar.specs.Kinds.{is, is_comparison, begins}
 use Rattle.cedar_grammar.specs.Trees.{Label, Forest, none, leaf, branch}
 use Rattle.cedar_grammar.specs.Reader.Reading.{Reader, done, stuck, choice, both, skip, tree}
 use Rattle.cedar_grammar.proofs.ReadingLaws.{tree_done, tree_fails, both_done, both_fails, both_then_fails, choice_yes, choice_no}
-use Rattle.cedar_cst.specs.Erased.{Erased, node, variant, add_parts, relation_parts, relop_text}
-use Rattle.cedar_cst.specs.NodeTrees.{is_node}
+use Rattle.cedar_tree.specs.Erased.{Erased, node, variant, add_parts, relation_parts, relop_text}
+use Rattle.cedar_tree.specs.NodeTrees.{is_node}
 use Rattle.cedar_cst.specs.Reading.{kind, Stands, PassesOn, GivesNode, GivesBehind, relop_kind}
 use Rattle.cedar_cst.specs.ReadingParts.{Makes}
 use Rattle.cedar_cst.specs.ReadingExprs.{IsLoneRelationOf, IsComparedOf, IsWordOf, IsTypeTestOf, GivesSigned, GivesTypeTest}
 use Rattle.cedar_cst.specs.declared.cst.lexeme.Lexeme.{Lexeme}
 use Rattle.cedar_cst.specs.declared.cst.reading.Refusal.{Refusal}
-use Rattle.cedar_cst.specs.declared.cst.tree.Node.{Node}
-use Rattle.cedar_cst.specs.declared.cst.tree.Name.{Name}
-use Rattle.cedar_cst.specs.declared.cst.tree.RelOp.{RelOp}
-use Rattle.cedar_cst.specs.declared.cst.tree.Add as Add
-use Rattle.cedar_cst.specs.declared.cst.tree.Relation as Relation
+use Rattle.cedar_tree.specs.declared.tree.Node.{Node}
+use Rattle.cedar_tree.specs.declared.tree.Name.{Name}
+use Rattle.cedar_tree.specs.declared.tree.RelOp.{RelOp}
+use Rattle.cedar_tree.specs.declared.tree.Add as Add
+use Rattle.cedar_tree.specs.declared.tree.Relation as Relation
 use Rattle.cedar_cst.proofs.LeafTexts.{from_to}
 use Rattle.cedar_cst.proofs.Steps.{passes}
 use Rattle.cedar_cst.proofs.Rows.{row_node, row_nodes, row_more, row_parts, row_span}

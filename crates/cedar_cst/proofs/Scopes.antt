@@ -10,8 +10,8 @@ use Rattle.cedar_cst.specs.Reading.{kind, Stands, Skips}
 use Rattle.cedar_cst.specs.ReadingParts.{variable_parts}
 use Rattle.cedar_cst.specs.ReadingItems.{item_trees, StandsItems}
 use Rattle.cedar_cst.specs.declared.cst.lexeme.Lexeme.{Lexeme}
-use Rattle.cedar_cst.specs.declared.cst.tree.Node.{Node}
-use Rattle.cedar_cst.specs.declared.cst.tree.VariableDef.{VariableDef}
+use Rattle.cedar_tree.specs.declared.tree.Node.{Node}
+use Rattle.cedar_tree.specs.declared.tree.VariableDef.{VariableDef}
 use Rattle.cedar_cst.proofs.Steps.{token_at, first_begins, is_itself}
 use Rattle.cedar_cst.proofs.LeafTexts.{from_to}
 use Rattle.cedar_cst.proofs.Bracketed.{row_brackets}

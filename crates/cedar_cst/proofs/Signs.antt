@@ -10,17 +10,17 @@ use Rattle.cedar_grammar.specs.TokenKinds.{fixed_tokens}
 use Rattle.cedar_grammar.specs.Trees.{Label, Forest, none, leaf, branch, join}
 use Rattle.cedar_grammar.specs.Reader.Reading.{Reader, done, choice, both, tree, skip, one}
 use Rattle.cedar_grammar.proofs.ReadingLaws.{choice_yes, choice_no, both_done, both_then_fails, tree_done, tree_fails}
-use Rattle.cedar_cst.specs.Erased.{Erased, times, unary_parts}
+use Rattle.cedar_tree.specs.Erased.{Erased, times, unary_parts}
 use Rattle.cedar_cst.specs.Reading.{kind, flat, Stands, GivesNode, PassesOn, first_place}
 use Rattle.cedar_cst.specs.ReadingParts.{Makes}
 use Rattle.cedar_cst.specs.ReadingExprs.{member_parts, IsUnaryOf}
 use Rattle.cedar_cst.specs.ReadingSigns.{Leads, GoesPastSigns, signs_rule, signs_start, GivesSigns}
 use Rattle.cedar_cst.specs.declared.cst.lexeme.Lexeme.{Lexeme}
 use Rattle.cedar_cst.specs.declared.cst.reading.Refusal.{Refusal}
-use Rattle.cedar_cst.specs.declared.cst.tree.Node.{Node}
-use Rattle.cedar_cst.specs.declared.cst.tree.NegOp.{NegOp}
-use Rattle.cedar_cst.specs.declared.cst.tree.Member as Member
-use Rattle.cedar_cst.specs.declared.cst.tree.Unary as Unary
+use Rattle.cedar_tree.specs.declared.tree.Node.{Node}
+use Rattle.cedar_tree.specs.declared.tree.NegOp.{NegOp}
+use Rattle.cedar_tree.specs.declared.tree.Member as Member
+use Rattle.cedar_tree.specs.declared.tree.Unary as Unary
 use Rattle.cedar_cst.proofs.LeafTexts.{shown}
 use Rattle.cedar_cst.proofs.Rows.{row_more, row_node, row_parts, row_span}
 use Rattle.cedar_cst.proofs.Steps.{token_at, first_begins, is_itself, passes}

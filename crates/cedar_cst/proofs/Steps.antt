@@ -12,13 +12,13 @@ use Rattle.cedar_grammar.proofs.KindSets.{every, kinds, every_kind, apart_at}
 use Rattle.cedar_grammar.proofs.ReadingLaws.{token_yes, token_no, token_end, tree_done, tree_fails}
 use Rattle.std.specs.Borrow.{Bor}
 use Rattle.cedar_cst.specs.declared.cst.lexeme.Lexeme.{Lexeme}
-use Rattle.cedar_cst.specs.declared.cst.tree.Node.{Node}
-use Rattle.cedar_cst.specs.declared.cst.tree.Ident.{Ident}
-use Rattle.cedar_cst.specs.declared.cst.tree.Str.{Str}
+use Rattle.cedar_tree.specs.declared.tree.Node.{Node}
+use Rattle.cedar_tree.specs.declared.tree.Ident.{Ident}
+use Rattle.cedar_tree.specs.declared.tree.Str.{Str}
 use Rattle.cedar_cst.proofs.LeafTexts.{nodes_own, covers_leaf}
 use Rattle.cedar_cst.specs.declared.cst.reading.Refusal.{Refusal}
 use Rattle.cedar_cst.specs.declared.cst.reading.Refusal.TheVariants.{Grammar, TooDeep, OutOfMemory}
-use Rattle.cedar_cst.specs.Erased.{Erased}
+use Rattle.cedar_tree.specs.Erased.{Erased}
 use Rattle.cedar_cst.specs.Reading.{kind, Fails, Stands, GivesNode, IsIdentOf, IsStrOf, ident_parts, str_parts}
 use Rattle.cedar_cst.specs.ReadingParts.{is_effect, is_cond_word}
 

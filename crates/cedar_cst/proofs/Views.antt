@@ -5,25 +5,25 @@ use Rattle.std.proofs.Common.{rules}
 use mathlib.Core.Former.{Count}
 use Rattle.cedar_tokens.specs.declared.token.Span.{Span}
 use Rattle.cedar_grammar.specs.Trees.{Label, none, leaf, join}
-use Rattle.cedar_cst.specs.Erased.{Erased, node, addop_text, signs, access_parts, access_trees, unary_parts, mult_parts, mult_rest, add_parts, add_rest, relation_parts, and_rest, or_parts, or_rest, expr_parts, primary_parts, expr_items, more_items, init_items, more_inits, variant}
+use Rattle.cedar_tree.specs.Erased.{Erased, node, addop_text, signs, access_parts, access_trees, unary_parts, mult_parts, mult_rest, add_parts, add_rest, relation_parts, and_rest, or_parts, or_rest, expr_parts, primary_parts, expr_items, more_items, init_items, more_inits, variant}
 use Rattle.cedar_cst.specs.ReadingItems.{more_trees, item_trees}
 use Rattle.cedar_cst.specs.Reading.{access_items, operand_parts}
 use Rattle.cedar_cst.specs.ReadingExprs.{operand_trees, and_parts, member_parts, init_parts}
-use Rattle.cedar_cst.specs.declared.cst.tree.Node.{Node}
-use Rattle.cedar_cst.specs.declared.cst.tree.AddOp.{AddOp}
-use Rattle.cedar_cst.specs.declared.cst.tree.MultOp.{MultOp}
-use Rattle.cedar_cst.specs.declared.cst.tree.NegOp.{NegOp}
-use Rattle.cedar_cst.specs.declared.cst.tree.Primary as Primary
-use Rattle.cedar_cst.specs.declared.cst.tree.MemAccess as MemAccess
-use Rattle.cedar_cst.specs.declared.cst.tree.Member as Member
-use Rattle.cedar_cst.specs.declared.cst.tree.Unary as Unary
-use Rattle.cedar_cst.specs.declared.cst.tree.Mult as Mult
-use Rattle.cedar_cst.specs.declared.cst.tree.Add as Add
-use Rattle.cedar_cst.specs.declared.cst.tree.Relation as Relation
-use Rattle.cedar_cst.specs.declared.cst.tree.RecInit as RecInit
-use Rattle.cedar_cst.specs.declared.cst.tree.And as And
-use Rattle.cedar_cst.specs.declared.cst.tree.Or as Or
-use Rattle.cedar_cst.specs.declared.cst.tree.Expr as Expr
+use Rattle.cedar_tree.specs.declared.tree.Node.{Node}
+use Rattle.cedar_tree.specs.declared.tree.AddOp.{AddOp}
+use Rattle.cedar_tree.specs.declared.tree.MultOp.{MultOp}
+use Rattle.cedar_tree.specs.declared.tree.NegOp.{NegOp}
+use Rattle.cedar_tree.specs.declared.tree.Primary as Primary
+use Rattle.cedar_tree.specs.declared.tree.MemAccess as MemAccess
+use Rattle.cedar_tree.specs.declared.tree.Member as Member
+use Rattle.cedar_tree.specs.declared.tree.Unary as Unary
+use Rattle.cedar_tree.specs.declared.tree.Mult as Mult
+use Rattle.cedar_tree.specs.declared.tree.Add as Add
+use Rattle.cedar_tree.specs.declared.tree.Relation as Relation
+use Rattle.cedar_tree.specs.declared.tree.RecInit as RecInit
+use Rattle.cedar_tree.specs.declared.tree.And as And
+use Rattle.cedar_tree.specs.declared.tree.Or as Or
+use Rattle.cedar_tree.specs.declared.tree.Expr as Expr
 
 abbrev pub relation_items : List (Node Relation.Relation) → Erased
 relation_items = operand_trees Label.relation relation_parts (λ _. codes "&&") (λ n. n)

@@ -13,8 +13,8 @@ use Rattle.cedar_grammar.proofs.DepthLaws.{Beyond}
 use Rattle.cedar_grammar.proofs.WholeLaws.{set_sound, set_local, set_deeper}
 use Rattle.cedar_cst.specs.declared.cst.lexeme.Lexeme.{Lexeme}
 use Rattle.cedar_cst.specs.declared.cst.reading.Refusal.TheVariants.{Grammar, TooDeep}
-use Rattle.cedar_cst.specs.declared.cst.tree.Policies.{Policies}
-use Rattle.cedar_cst.specs.NodeTrees.{IsTreeOf}
+use Rattle.cedar_tree.specs.declared.tree.Policies.{Policies}
+use Rattle.cedar_tree.specs.NodeTrees.{IsTreeOf}
 use Rattle.cedar_cst.specs.Lexemes.{AreLexemes}
 use Rattle.cedar_cst.specs.Reading.{kind, IsRight, AreRight, start_or, place_of}
 use Rattle.cedar_cst.specs.ReadingSet.{GivesSet}

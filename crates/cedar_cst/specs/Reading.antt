@@ -6,24 +6,24 @@ use Rattle.std.specs.Borrow.{Bor}
 use Rattle.cedar_cst.specs.declared.cst.lexeme.Lexeme.{Lexeme}
 use Rattle.cedar_cst.specs.declared.cst.reading.Refusal.{Refusal}
 use Rattle.cedar_cst.specs.declared.cst.reading.Refusal.TheVariants.{Grammar, TooDeep, OutOfMemory}
-use Rattle.cedar_cst.specs.declared.cst.tree.Node.{Node}
-use Rattle.cedar_cst.specs.declared.cst.tree.Ident.{Ident}
-use Rattle.cedar_cst.specs.declared.cst.tree.Str.{Str}
-use Rattle.cedar_cst.specs.declared.cst.tree.Name.{Name}
-use Rattle.cedar_cst.specs.declared.cst.tree.Literal.{Literal}
-use Rattle.cedar_cst.specs.declared.cst.tree.Annotation.{Annotation}
-use Rattle.cedar_cst.specs.declared.cst.tree.MemAccess as MemAccess
-use Rattle.cedar_cst.specs.declared.cst.tree.Primary as Primary
-use Rattle.cedar_cst.specs.declared.cst.tree.Add as Add
-use Rattle.cedar_cst.specs.Erased.{Erased, path_parts, node, access_parts, primary_parts, add_parts, ident_tree, value_parts, variant_label, literal_text}
+use Rattle.cedar_tree.specs.declared.tree.Node.{Node}
+use Rattle.cedar_tree.specs.declared.tree.Ident.{Ident}
+use Rattle.cedar_tree.specs.declared.tree.Str.{Str}
+use Rattle.cedar_tree.specs.declared.tree.Name.{Name}
+use Rattle.cedar_tree.specs.declared.tree.Literal.{Literal}
+use Rattle.cedar_tree.specs.declared.tree.Annotation.{Annotation}
+use Rattle.cedar_tree.specs.declared.tree.MemAccess as MemAccess
+use Rattle.cedar_tree.specs.declared.tree.Primary as Primary
+use Rattle.cedar_tree.specs.declared.tree.Add as Add
+use Rattle.cedar_tree.specs.Erased.{Erased, path_parts, node, access_parts, primary_parts, add_parts, ident_tree, value_parts, variant_label, literal_text}
 use Rattle.cedar_cst.specs.Lexemes.{nodes_of}
-use Rattle.cedar_cst.specs.NodeTrees.{span_of}
+use Rattle.cedar_tree.specs.NodeTrees.{span_of}
 use Rattle.cedar_tokens.specs.Units.{is_token}
 use Rattle.cedar_tokens.specs.declared.token.Span.{Span}
 use Rattle.cedar_grammar.specs.declared.kind.Kind.{Kind}
 use Rattle.cedar_grammar.specs.declared.kind.Kind.TheVariants as K
-use Rattle.cedar_cst.specs.declared.cst.tree.RelOp.{RelOp}
-use Rattle.cedar_cst.specs.declared.cst.tree.AddOp.{AddOp}
+use Rattle.cedar_tree.specs.declared.tree.RelOp.{RelOp}
+use Rattle.cedar_tree.specs.declared.tree.AddOp.{AddOp}
 use Rattle.cedar_grammar.specs.Kinds.{is, begins}
 use Rattle.cedar_grammar.specs.TokenKinds.{kind_of}
 use Rattle.cedar_grammar.specs.Trees.{Label, Forest, none, leaf, branch, yield}

@@ -13,24 +13,24 @@ use Rattle.cedar_grammar.specs.Reader.Rules as R
 use Rattle.cedar_grammar.specs.Reader.Lines.{◌▸◌, ◌∥◌, one_of, maybe, init, expr_to}
 use Rattle.cedar_cst.specs.declared.cst.lexeme.Lexeme.{Lexeme}
 use Rattle.cedar_cst.specs.declared.cst.reading.Refusal.{Refusal}
-use Rattle.cedar_cst.specs.declared.cst.tree.Node.{Node}
-use Rattle.cedar_cst.specs.declared.cst.tree.Name.{Name}
-use Rattle.cedar_cst.specs.declared.cst.tree.RelOp.{RelOp}
-use Rattle.cedar_cst.specs.declared.cst.tree.AddOp.{AddOp}
-use Rattle.cedar_cst.specs.declared.cst.tree.MultOp.{MultOp}
-use Rattle.cedar_cst.specs.declared.cst.tree.NegOp.{NegOp}
-use Rattle.cedar_cst.specs.declared.cst.tree.Expr as Expr
-use Rattle.cedar_cst.specs.declared.cst.tree.Or as Or
-use Rattle.cedar_cst.specs.declared.cst.tree.And as And
-use Rattle.cedar_cst.specs.declared.cst.tree.Relation as Relation
-use Rattle.cedar_cst.specs.declared.cst.tree.Add as Add
-use Rattle.cedar_cst.specs.declared.cst.tree.Mult as Mult
-use Rattle.cedar_cst.specs.declared.cst.tree.Unary as Unary
-use Rattle.cedar_cst.specs.declared.cst.tree.Member as Member
-use Rattle.cedar_cst.specs.declared.cst.tree.MemAccess as MemAccess
-use Rattle.cedar_cst.specs.declared.cst.tree.Primary as Primary
-use Rattle.cedar_cst.specs.declared.cst.tree.RecInit as RecInit
-use Rattle.cedar_cst.specs.Erased.{Erased, node, variant, name_tree, relop_text, addop_text, signs, expr_parts, or_parts, relation_parts, add_parts, mult_parts, unary_parts, access_parts, primary_parts}
+use Rattle.cedar_tree.specs.declared.tree.Node.{Node}
+use Rattle.cedar_tree.specs.declared.tree.Name.{Name}
+use Rattle.cedar_tree.specs.declared.tree.RelOp.{RelOp}
+use Rattle.cedar_tree.specs.declared.tree.AddOp.{AddOp}
+use Rattle.cedar_tree.specs.declared.tree.MultOp.{MultOp}
+use Rattle.cedar_tree.specs.declared.tree.NegOp.{NegOp}
+use Rattle.cedar_tree.specs.declared.tree.Expr as Expr
+use Rattle.cedar_tree.specs.declared.tree.Or as Or
+use Rattle.cedar_tree.specs.declared.tree.And as And
+use Rattle.cedar_tree.specs.declared.tree.Relation as Relation
+use Rattle.cedar_tree.specs.declared.tree.Add as Add
+use Rattle.cedar_tree.specs.declared.tree.Mult as Mult
+use Rattle.cedar_tree.specs.declared.tree.Unary as Unary
+use Rattle.cedar_tree.specs.declared.tree.Member as Member
+use Rattle.cedar_tree.specs.declared.tree.MemAccess as MemAccess
+use Rattle.cedar_tree.specs.declared.tree.Primary as Primary
+use Rattle.cedar_tree.specs.declared.tree.RecInit as RecInit
+use Rattle.cedar_tree.specs.Erased.{Erased, node, variant, name_tree, relop_text, addop_text, signs, expr_parts, or_parts, relation_parts, add_parts, mult_parts, unary_parts, access_parts, primary_parts}
 use Rattle.cedar_cst.specs.Reading.{kind, Fails, Stands, access_items, last_end}
 use Rattle.cedar_cst.specs.ReadingItems.{item_trees}
 

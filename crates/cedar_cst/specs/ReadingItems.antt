@@ -7,14 +7,14 @@ use Rattle.cedar_grammar.specs.Trees.{Label, Forest, none, leaf, join}
 use Rattle.cedar_grammar.specs.Reader.Reading.{Answer, done}
 use Rattle.cedar_cst.specs.declared.cst.lexeme.Lexeme.{Lexeme}
 use Rattle.cedar_cst.specs.declared.cst.reading.Refusal.{Refusal}
-use Rattle.cedar_cst.specs.declared.cst.tree.Node.{Node}
-use Rattle.cedar_cst.specs.declared.cst.tree.Expr as Expr
-use Rattle.cedar_cst.specs.declared.cst.tree.Primary as Primary
-use Rattle.cedar_cst.specs.Erased.{Erased, node, variant, expr_parts, primary_parts}
+use Rattle.cedar_tree.specs.declared.tree.Node.{Node}
+use Rattle.cedar_tree.specs.declared.tree.Expr as Expr
+use Rattle.cedar_tree.specs.declared.tree.Primary as Primary
+use Rattle.cedar_tree.specs.Erased.{Erased, node, variant, expr_parts, primary_parts}
 use Rattle.cedar_cst.specs.Lexemes.{nodes_of}
 use Rattle.cedar_cst.specs.Reading.{AreRight, Fails, Stands}
 use Rattle.cedar_cst.specs.ReadingParts.{variable_parts}
-use Rattle.cedar_cst.specs.declared.cst.tree.VariableDef.{VariableDef}
+use Rattle.cedar_tree.specs.declared.tree.VariableDef.{VariableDef}
 use Rattle.cedar_tokens.specs.declared.token.Span.{Span}
 
 abbrev pub more_trees : {X : Type 0} → Label → (X → Erased) → List (Node X) → Erased

@@ -5,9 +5,9 @@ use Rattle.cedar_grammar.specs.Reader.Reading.{Answer, done, stuck}
 use Rattle.cedar_cst.specs.declared.cst.lexeme.Lexeme.{Lexeme}
 use Rattle.cedar_cst.specs.declared.cst.reading.Refusal.{Refusal}
 use Rattle.cedar_cst.specs.declared.cst.reading.Refusal.TheVariants.{Grammar, TooDeep, OutOfMemory}
-use Rattle.cedar_cst.specs.declared.cst.tree.Cond.{Cond}
-use Rattle.cedar_cst.specs.declared.cst.tree.Policies.{Policies}
-use Rattle.cedar_cst.specs.Erased.{Erased, node, ident_tree, expr_parts, erase}
+use Rattle.cedar_tree.specs.declared.tree.Cond.{Cond}
+use Rattle.cedar_tree.specs.declared.tree.Policies.{Policies}
+use Rattle.cedar_tree.specs.Erased.{Erased, node, ident_tree, expr_parts, erase}
 use Rattle.cedar_cst.specs.Lexemes.{nodes_of}
 use Rattle.cedar_cst.specs.Reading.{AreRight}
 

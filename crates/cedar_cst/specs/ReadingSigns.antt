@@ -11,8 +11,8 @@ use Rattle.cedar_grammar.specs.Reader.Rules.{Rule}
 use Rattle.cedar_grammar.specs.Reader.Lines.{◌∥◌, maybe}
 use Rattle.cedar_grammar.specs.Reader.Lines as L
 use Rattle.cedar_cst.specs.declared.cst.lexeme.Lexeme.{Lexeme}
-use Rattle.cedar_cst.specs.declared.cst.tree.NegOp.{NegOp}
-use Rattle.cedar_cst.specs.Erased.{Erased, signs}
+use Rattle.cedar_tree.specs.declared.tree.NegOp.{NegOp}
+use Rattle.cedar_tree.specs.Erased.{Erased, signs}
 use Rattle.cedar_cst.specs.Reading.{kind, flat, Stands, first_place}
 
 -- so many tokens of this kind stand first, before the others

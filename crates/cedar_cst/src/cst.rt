@@ -1,31 +1,28 @@
 //! Trees of policies, and the parser.
 ghost use Rattle.std.specs.Prelude.{◌≡◌, IfOk, IfErr};
-ghost use Rattle.cedar_cst.specs.NodeTrees.{IsTreeOf};
-ghost use Rattle.cedar_cst.specs.Refusals.{Refuses};
+ghost use Rattle.cedar_tree.specs.NodeTrees.{IsTreeOf};
+ghost use Rattle.cedar_tree.specs.Refusals.{Refuses};
 ghost use Rattle.cedar_cst.specs.Reading.{place_of};
 
-mod compare;
-mod error;
 mod expressions;
-pub mod laws;
 mod lexeme;
 mod nodes;
 mod reading;
 mod scopes;
-mod tree;
 mod words;
 
 use crate::cst::lexeme::{Lexeme, read_lexemes};
 use crate::cst::reading::Refusal;
 use crate::cst::scopes::parse_set;
-pub use compare::same_tree;
-pub use error::FormatError;
-use std::alloc::Global;
-pub use tree::{
+pub use cedar_tree::compare::same_tree;
+pub use cedar_tree::error::FormatError;
+pub use cedar_tree::laws;
+pub use cedar_tree::tree::{
     Add, AddOp, And, Annotation, Cond, Expr, Ident, Literal, MemAccess, Member, Mult, MultOp, Name,
     NegOp, Node, Or, Policies, Policy, Primary, RecInit, Ref, RelOp, Relation, Slot, Str, Unary,
     VariableDef,
 };
+use std::alloc::Global;
 
 /// The policies of a text, node by node: the tree that the grammar gives the text's tokens, without trailing commas, and each node
 /// with its place. A text is refused only where it is not in the grammar with at most 128 nested brackets and `if`s, or where memory

@@ -2,18 +2,13 @@
 use Rattle.std.specs.Prelude.{◌≡◌, ◌≢◌, ℕ, List, ◌∷◌, ◌++◌}
 use Rattle.std.proofs.Common.{refl, sym, ap, ◌∙◌}
 use Rattle.cedar_grammar.specs.Trees.{none, leaf, branch, yield}
-use Rattle.cedar_cst.specs.Erased.{Erased, erase, without_spans, SameTree}
-use Rattle.cedar_cst.specs.Laws.{AcceptedIsNotRefused, TreeIsOfAccepted, TreeOfNodesIsUnique, NodesHaveThePlainTexts}
-use Rattle.cedar_cst.specs.NodeTrees.{IsTreeOf}
-use Rattle.cedar_cst.specs.Refusals.{Refuses}
-use Rattle.cedar_cst.specs.declared.cst.error.FormatError.{FormatError}
-use Rattle.cedar_cst.specs.declared.cst.error.FormatError.TheVariants.{OutOfMemory}
-use Rattle.cedar_cst.specs.declared.cst.tree.Policies.{Policies}
+use Rattle.cedar_tree.specs.Erased.{Erased, erase, without_spans}
+use Rattle.cedar_tree.specs.Laws.{AcceptedIsNotRefused, TreeIsOfAccepted, NodesHaveThePlainTexts}
+use Rattle.cedar_tree.specs.Refusals.{Refuses}
+use Rattle.cedar_tree.specs.declared.error.FormatError.{FormatError}
+use Rattle.cedar_tree.specs.declared.error.FormatError.TheVariants.{OutOfMemory}
+use Rattle.cedar_tree.specs.declared.tree.Policies.{Policies}
 use Rattle.cedar_policy_formatter.specs.Texts.{IsTextOf, KeptPoliciesHaveTheSameTokens}
-
--- a text has one tree of nodes, so what another tree says of it this one says
-pub same_as_any : TreeOfNodesIsUnique → (text : List ℕ) (p tree : Policies) → IsTreeOf text p → IsTextOf text tree → SameTree p tree
-same_as_any unique text p tree t (q, u, same) = ap without_spans (unique text p q t u) ∙ same
 
 -- a text that is refused is one of no policies
 pub refused_is_of_none : AcceptedIsNotRefused → TreeIsOfAccepted → (text : List ℕ) (tree : Policies) (e : FormatError) → e ≢ OutOfMemory → Refuses text e → ¬ (IsTextOf text tree)

@@ -1,9 +1,9 @@
 -- Why a text is refused by the formatter.
 use Rattle.std.specs.Prelude.{ℕ, List, ⊤, ◌⊎◌}
 use Rattle.cedar_grammar.specs.Texts.{Accepted}
-use Rattle.cedar_cst.specs.Refusals.{Refuses}
-use Rattle.cedar_cst.specs.declared.cst.error.FormatError.{FormatError}
-use Rattle.cedar_cst.specs.declared.cst.error.FormatError.TheVariants.{NoDocument, Unsound, OutOfMemory}
+use Rattle.cedar_tree.specs.Refusals.{Refuses}
+use Rattle.cedar_tree.specs.declared.error.FormatError.{FormatError}
+use Rattle.cedar_tree.specs.declared.error.FormatError.TheVariants.{NoDocument, Unsound, OutOfMemory}
 
 -- a reason of the formatter's own: no document, a result of other policies, or no memory
 abbrev pub IsOwn : FormatError → Type 0

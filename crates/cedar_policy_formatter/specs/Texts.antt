@@ -2,11 +2,11 @@
 use Rattle.std.specs.Prelude.{◌≡◌, ℕ, List, map, ⊤}
 use Rattle.cedar_tokens.specs.Listing.{IsListing, Listing, token_value}
 use Rattle.cedar_tokens.specs.PlainList.{plain_list}
-use Rattle.cedar_cst.specs.declared.cst.error.FormatError.{FormatError}
-use Rattle.cedar_cst.specs.declared.cst.error.FormatError.TheVariants.{Unsound, OutOfMemory}
-use Rattle.cedar_cst.specs.declared.cst.tree.Policies.{Policies}
-use Rattle.cedar_cst.specs.Erased.{SameTree}
-use Rattle.cedar_cst.specs.NodeTrees.{IsTreeOf}
+use Rattle.cedar_tree.specs.declared.error.FormatError.{FormatError}
+use Rattle.cedar_tree.specs.declared.error.FormatError.TheVariants.{Unsound, OutOfMemory}
+use Rattle.cedar_tree.specs.declared.tree.Policies.{Policies}
+use Rattle.cedar_tree.specs.Erased.{SameTree}
+use Rattle.cedar_tree.specs.NodeTrees.{IsTreeOf}
 
 -- the text is accepted, and its tree of nodes is this one but for spans
 abbrev pub IsTextOf : List ℕ → Policies → Type 0

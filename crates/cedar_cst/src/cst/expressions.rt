@@ -5,7 +5,7 @@ ghost use Rattle.cedar_grammar.specs.Trees.{Label};
 ghost use Rattle.cedar_grammar.specs.declared.kind.Kind.TheVariants as K;
 ghost use Rattle.cedar_grammar.specs.Reader.Rules.{inner, leaf_of, items, reference};
 ghost use Rattle.cedar_grammar.specs.Reader.Lines.{◌▸◌, one_of, maybe, path, call_parts, call, init, item, member_rule, unary_rule, mult_rule, add_rule, relation_rule, and_rule, or_rule, expr_rule};
-ghost use Rattle.cedar_cst.specs.Erased.{expr_parts, or_parts, relation_parts, add_parts, mult_parts, unary_parts, access_parts, primary_parts};
+ghost use Rattle.cedar_tree.specs.Erased.{expr_parts, or_parts, relation_parts, add_parts, mult_parts, unary_parts, access_parts, primary_parts};
 ghost use Rattle.cedar_cst.specs.Reading.{GivesNode, GivesBehind, relop_kind};
 ghost use Rattle.cedar_cst.specs.ReadingItems.{GivesItems};
 ghost use Rattle.cedar_cst.specs.ReadingExprs.{at_depth, and_parts, member_parts, init_parts, if_rule, bracket_rule, GivesSigned, GivesTypeTest, GivesItem};
@@ -19,7 +19,7 @@ use crate::cst::nodes::{
 use crate::cst::reading::{
     Parsed, begins, closed_by, expect, keep, past, refuse, skip, start_of, too_deep,
 };
-use crate::cst::tree::{
+use cedar_tree::tree::{
     Add, And, Expr, MemAccess, Member, Mult, MultOp, Name, Node, Or, Primary, RecInit, RelOp,
     Relation, Unary,
 };

@@ -5,10 +5,10 @@ ghost use Rattle.std.specs.Char.{is_ascii_digit};
 ghost use Rattle.cedar_tokens.specs.Units.{is_number};
 ghost use Rattle.cedar_tokens.specs.Split.{IsFirstFault};
 ghost use Rattle.cedar_grammar.specs.Numbers.{is_too_large};
-ghost use Rattle.cedar_cst.specs.Refusals.{RefusesTokens};
+ghost use Rattle.cedar_tree.specs.Refusals.{RefusesTokens};
 ghost use Rattle.cedar_cst.specs.Lexemes.{AreLexemes};
 
-use crate::cst::error::FormatError;
+use cedar_tree::error::FormatError;
 use cedar_grammar::kind::{Kind, kind_of};
 use cedar_tokens::lexer::{UnitKind, first_unit};
 use cedar_tokens::token::Span;

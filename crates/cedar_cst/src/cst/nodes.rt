@@ -7,7 +7,7 @@ ghost use Rattle.cedar_cst.specs.ReadingExprs.{end_of_last, IsOrOf, IsAndOf, IsA
 ghost use Rattle.cedar_cst.specs.declared.cst.reading.Refusal.TheVariants.{OutOfMemory};
 
 use crate::cst::reading::{Parsed, Refusal};
-use crate::cst::tree::{
+use cedar_tree::tree::{
     Add, AddOp, And, Expr, MemAccess, Member, Mult, MultOp, Name, NegOp, Node, Or, Primary,
     RecInit, RelOp, Relation, Unary,
 };

@@ -6,7 +6,7 @@ ghost use Rattle.cedar_grammar.specs.Texts.{greatest_depth};
 ghost use Rattle.cedar_grammar.specs.declared.kind.Kind.TheVariants as K;
 ghost use Rattle.cedar_grammar.specs.Reader.Rules.{star, entity, items, word_of};
 ghost use Rattle.cedar_grammar.specs.Reader.Lines.{◌∥◌, annotation_rule, operand, entity_or, scoped, maybe, entity_item, action, cond_rule, policy_rule, set_to};
-ghost use Rattle.cedar_cst.specs.Erased.{add_parts, expr_parts, primary_parts, policy_parts};
+ghost use Rattle.cedar_tree.specs.Erased.{add_parts, expr_parts, primary_parts, policy_parts};
 ghost use Rattle.cedar_cst.specs.ReadingParts.{is_effect, is_cond_word, slot_kind, variable_kind, variable_parts, IsVariableOf, IsLoneOrOf, entity_list, scope_rule};
 ghost use Rattle.cedar_cst.specs.ReadingItems.{GivesItems, GivesScope};
 ghost use Rattle.cedar_cst.specs.ReadingExprs.{at_depth};
@@ -19,7 +19,7 @@ use crate::cst::nodes::{list_node, or_expr};
 use crate::cst::reading::{
     Parsed, Refusal, begins, closed_by, expect, keep, past, refuse, skip, start_of,
 };
-use crate::cst::tree::{
+use cedar_tree::tree::{
     Add, And, Annotation, Cond, Expr, Ident, Name, Node, Or, Policies, Policy, Primary, RelOp,
     Relation, Slot, VariableDef,
 };

@@ -8,7 +8,7 @@ ghost use Rattle.cedar_grammar.specs.Reader.Reading.{token};
 ghost use Rattle.cedar_grammar.specs.Reader.Rules.{word_of, text_rule, expr_first};
 ghost use Rattle.cedar_grammar.specs.Reader.Lines.{◌▸◌, ◌∥◌, one_of, path, field, index, text_operand, has_field};
 ghost use Rattle.cedar_grammar.specs.Reader.Rules.{entity};
-ghost use Rattle.cedar_cst.specs.Erased.{access_parts, add_parts, primary_parts};
+ghost use Rattle.cedar_tree.specs.Erased.{access_parts, add_parts, primary_parts};
 ghost use Rattle.cedar_cst.specs.ReadingParts.{is_effect, is_cond_word, literal_rule, text_primary, key_rule, HasLiteral, GivesWords, IsEntityOf, slot_kind, IsSlotOf, slot_or_entity};
 ghost use Rattle.cedar_cst.specs.ReadingExprs.{TellsVariable};
 ghost use Rattle.cedar_cst.specs.ReadingSigns.{GoesPastSigns, GivesSigns, signs_start};
@@ -16,7 +16,7 @@ ghost use Rattle.cedar_cst.specs.Reading.{kind, flat, GivesNode, ident_parts, st
 
 use crate::cst::lexeme::Lexeme;
 use crate::cst::reading::{Parsed, begins, expect, keep, past, refuse, skip, start_of};
-use crate::cst::tree::{
+use cedar_tree::tree::{
     Add, AddOp, Ident, Literal, MemAccess, Member, Mult, Name, NegOp, Node, Primary, Ref, RelOp,
     Slot, Str, Unary,
 };

@@ -4,7 +4,7 @@ use Rattle.cedar_grammar.specs.Kinds.{is_ident}
 use Rattle.cedar_grammar.specs.Trees.{Label, none, branch, join}
 use Rattle.cedar_grammar.specs.Reader.Reading.{done}
 use Rattle.cedar_grammar.specs.Reader.Lines.{entity_item}
-use Rattle.cedar_cst.specs.Erased.{expr_parts}
+use Rattle.cedar_tree.specs.Erased.{expr_parts}
 use Rattle.cedar_cst.specs.Reading.{flat}
 use Rattle.cedar_cst.specs.ReadingItems.{item_trees, StandsItems}
 use Rattle.cedar_cst.proofs.Steps.{passes}

@@ -2,7 +2,7 @@ use Rattle.std.proofs.Common.{refl, sym, ◌∙◌, []}
 use Rattle.std.proofs.lemmas.Result.{err_from_is_err_and}
 use Rattle.cedar_grammar.specs.Trees.{Label}
 use Rattle.cedar_grammar.proofs.ReadingLaws.{choice_yes, choice_no}
-use Rattle.cedar_cst.specs.Erased.{add_parts}
+use Rattle.cedar_tree.specs.Erased.{add_parts}
 use Rattle.cedar_cst.proofs.Steps.{passes, gives_as}
 use Rattle.cedar_cst.proofs.Rows.{row_node}
 use Rattle.cedar_cst.proofs.Operands.{operand_done, operand_fails, operand_stands}

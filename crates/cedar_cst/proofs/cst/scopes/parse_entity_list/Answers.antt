@@ -5,7 +5,7 @@ use Rattle.cedar_grammar.specs.Trees.{Label}
 use Rattle.cedar_grammar.specs.Reader.Rules.{items}
 use Rattle.cedar_grammar.specs.Reader.Lines.{maybe, entity_item}
 use Rattle.cedar_grammar.proofs.ReadingLaws.{both_fails}
-use Rattle.cedar_cst.specs.Erased.{expr_parts}
+use Rattle.cedar_tree.specs.Erased.{expr_parts}
 use Rattle.cedar_cst.specs.Reading.{flat}
 use Rattle.cedar_cst.proofs.Steps.{passes}
 use Rattle.cedar_cst.proofs.Bracketed.{square, list_fails, enclosed_reader, enclosed_gives, primary_gives}

@@ -4,7 +4,7 @@ use Rattle.cedar_grammar.specs.Texts.{greatest_depth}
 use Rattle.cedar_grammar.specs.Trees.{Label}
 use Rattle.cedar_grammar.specs.Reader.Reading.{Reader}
 use Rattle.cedar_grammar.specs.Reader.Lines.{policy_rule}
-use Rattle.cedar_cst.specs.Erased.{policy_parts}
+use Rattle.cedar_tree.specs.Erased.{policy_parts}
 use Rattle.cedar_cst.specs.ReadingExprs.{at_depth}
 use Rattle.cedar_cst.specs.declared.cst.lexeme.Lexeme.{Lexeme}
 use Rattle.cedar_cst.proofs.Steps.{passes}

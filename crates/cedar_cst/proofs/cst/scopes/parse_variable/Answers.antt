@@ -9,7 +9,7 @@ use Rattle.cedar_grammar.proofs.ReadingLaws.{onto, both_fails, tree_fails}
 use Rattle.cedar_cst.specs.Reading.{flat}
 use Rattle.cedar_cst.specs.ReadingParts.{slot_kind, variable_kind}
 use Rattle.cedar_cst.specs.declared.cst.lexeme.Lexeme.{Lexeme}
-use Rattle.cedar_cst.specs.declared.cst.tree.Slot.{Slot}
+use Rattle.cedar_tree.specs.declared.tree.Slot.{Slot}
 use Rattle.cedar_cst.proofs.Steps.{passes}
 use Rattle.cedar_cst.proofs.Variables.{related, equal_reads, type_reads, typed_reads, member_reads, none_reads, in_reads, in_none, variable_done, variable_fails, variable_alone, variable_equal, variable_in, variable_is, variable_is_in}
 use Rattle.cedar_cst.proofs.cst.scopes.parse_variable.Goals as goal

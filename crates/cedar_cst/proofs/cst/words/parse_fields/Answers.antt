@@ -3,7 +3,7 @@ use Rattle.std.proofs.lemmas.Result.{err_from_is_err_and}
 use Rattle.cedar_grammar.specs.Trees.{Label}
 use Rattle.cedar_grammar.proofs.ReadingLaws.{tree_done, tree_fails, both_fails}
 use Rattle.cedar_cst.specs.Reading.{last_end}
-use Rattle.cedar_cst.specs.Erased.{access_parts}
+use Rattle.cedar_tree.specs.Erased.{access_parts}
 use Rattle.cedar_cst.proofs.Steps.{passes}
 use Rattle.cedar_cst.proofs.Rows.{row_span}
 use Rattle.cedar_cst.proofs.Operands.{operand_fails, operand_stands, members_done, members_fail, keep_done, keep_fails, keep_shorter, head, dotted, field_reader, field_takes, fields_first, one_access, accesses_next, accesses_stuck, accesses_end, lone_name}

@@ -5,7 +5,7 @@ use Rattle.cedar_grammar.specs.Trees.{Label}
 use Rattle.cedar_grammar.proofs.ReadingLaws.{both_fails, choice_yes, choice_no}
 use Rattle.cedar_grammar.specs.Reader.Lines.{text_operand, has_field}
 use Rattle.cedar_cst.specs.Reading.{flat}
-use Rattle.cedar_cst.specs.Erased.{add_parts}
+use Rattle.cedar_tree.specs.Erased.{add_parts}
 use Rattle.cedar_cst.proofs.Steps.{passes}
 use Rattle.cedar_cst.proofs.Operands.{gives_behind}
 use Rattle.cedar_cst.proofs.cst.words.parse_has_field.Goals as goal

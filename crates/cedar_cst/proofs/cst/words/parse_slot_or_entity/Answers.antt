@@ -4,7 +4,7 @@ use Rattle.cedar_grammar.specs.Kinds.{is, begins}
 use Rattle.cedar_grammar.specs.Trees.{Label, none, leaf}
 use Rattle.cedar_grammar.specs.Reader.Reading.{done, one}
 use Rattle.cedar_grammar.proofs.ReadingLaws.{choice_yes, choice_no, tree_done, tree_fails}
-use Rattle.cedar_cst.specs.Erased.{primary_parts}
+use Rattle.cedar_tree.specs.Erased.{primary_parts}
 use Rattle.cedar_cst.specs.Reading.{kind, Fails}
 use Rattle.cedar_cst.proofs.Steps.{passes, gives_as}
 use Rattle.cedar_cst.proofs.Entities.{slot_stands}

@@ -1,0 +1,5 @@
+pub mod NodeLaws
+pub mod RefusalLaws
+pub mod ErasedSame
+pub mod Comparing
+pub mod ComparedRows

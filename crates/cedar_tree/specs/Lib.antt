@@ -1,0 +1,5 @@
+pub mod Erased
+pub mod Same
+pub mod Refusals
+pub mod NodeTrees
+pub mod Laws
