@@ -19,10 +19,6 @@ use crate::cst::nodes::{
 use crate::cst::reading::{
     Parsed, begins, closed_by, expect, keep, past, refuse, skip, start_of, too_deep,
 };
-use cedar_tree::tree::{
-    Add, And, Expr, MemAccess, Member, Mult, MultOp, Name, Node, Or, Primary, RecInit, RelOp,
-    Relation, Unary,
-};
 use crate::cst::words::{
     begins_access, begins_bracket, begins_call, begins_comparison, begins_expression,
     begins_identifier, begins_key, entity_node, is_lone_variable, name_primary, parse_access,
@@ -30,6 +26,10 @@ use crate::cst::words::{
     parse_words, past_sum_sign, read_signs, signed_start,
 };
 use cedar_grammar::kind::Kind;
+use cedar_tree::tree::{
+    Add, And, Expr, MemAccess, Member, Mult, MultOp, Name, Node, Or, Primary, RecInit, RelOp,
+    Relation, Unary,
+};
 use std::alloc::Global;
 
 /// An expression.

@@ -8,10 +8,10 @@ ghost use Rattle.cedar_grammar.specs.Numbers.{is_too_large};
 ghost use Rattle.cedar_tree.specs.Refusals.{RefusesTokens};
 ghost use Rattle.cedar_cst.specs.Lexemes.{AreLexemes};
 
-use cedar_tree::error::FormatError;
 use cedar_grammar::kind::{Kind, kind_of};
 use cedar_tokens::lexer::{UnitKind, first_unit};
 use cedar_tokens::token::Span;
+use cedar_tree::error::FormatError;
 use std::alloc::Global;
 
 /// A token as the parser reads it.

@@ -7,12 +7,12 @@ ghost use Rattle.cedar_cst.specs.ReadingExprs.{end_of_last, IsOrOf, IsAndOf, IsA
 ghost use Rattle.cedar_cst.specs.declared.cst.reading.Refusal.TheVariants.{OutOfMemory};
 
 use crate::cst::reading::{Parsed, Refusal};
+use crate::cst::words::accesses_end;
+use cedar_tokens::token::Span;
 use cedar_tree::tree::{
     Add, AddOp, And, Expr, MemAccess, Member, Mult, MultOp, Name, NegOp, Node, Or, Primary,
     RecInit, RelOp, Relation, Unary,
 };
-use crate::cst::words::accesses_end;
-use cedar_tokens::token::Span;
 use std::alloc::Global;
 
 /// Operands of `||` as an expression.

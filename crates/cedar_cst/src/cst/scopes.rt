@@ -19,16 +19,16 @@ use crate::cst::nodes::{list_node, or_expr};
 use crate::cst::reading::{
     Parsed, Refusal, begins, closed_by, expect, keep, past, refuse, skip, start_of,
 };
-use cedar_tree::tree::{
-    Add, And, Annotation, Cond, Expr, Ident, Name, Node, Or, Policies, Policy, Primary, RelOp,
-    Relation, Slot, VariableDef,
-};
 use crate::cst::words::{
     begins_identifier, ident_node, lone_operand, parse_any_word, parse_cond_word, parse_effect,
     parse_entity, parse_path, parse_slot_or_entity, parse_str,
 };
 use cedar_grammar::kind::Kind;
 use cedar_tokens::token::Span;
+use cedar_tree::tree::{
+    Add, And, Annotation, Cond, Expr, Ident, Name, Node, Or, Policies, Policy, Primary, RelOp,
+    Relation, Slot, VariableDef,
+};
 use std::alloc::Global;
 
 /// How many brackets and `if`s may stand inside each other in a condition.

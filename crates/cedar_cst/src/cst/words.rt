@@ -16,12 +16,12 @@ ghost use Rattle.cedar_cst.specs.Reading.{kind, flat, GivesNode, ident_parts, st
 
 use crate::cst::lexeme::Lexeme;
 use crate::cst::reading::{Parsed, begins, expect, keep, past, refuse, skip, start_of};
+use cedar_grammar::kind::Kind;
+use cedar_tokens::token::Span;
 use cedar_tree::tree::{
     Add, AddOp, Ident, Literal, MemAccess, Member, Mult, Name, NegOp, Node, Primary, Ref, RelOp,
     Slot, Str, Unary,
 };
-use cedar_grammar::kind::Kind;
-use cedar_tokens::token::Span;
 use std::alloc::Global;
 
 /// Whether the kind is that of a word.
