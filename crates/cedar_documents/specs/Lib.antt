@@ -11,3 +11,4 @@ pub mod Output
 pub mod Laws
 pub mod GrammarTrees
 pub mod Canonical
+pub mod Kept

@@ -1,4 +1,3 @@
-pub mod Kept
 pub mod Refused
 pub mod Texts
 pub mod Devices

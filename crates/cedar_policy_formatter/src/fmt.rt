@@ -1,19 +1,19 @@
 //! Formatting of whole texts.
-ghost use Rattle.std.specs.Prelude.{◌≡◌, IfOk, MatchResult, string_bytes};
+ghost use Rattle.std.specs.Prelude.{◌≡◌, IfOk, IfErr, MatchResult, string_bytes};
 ghost use Rattle.cedar_grammar.specs.Texts.{Accepted};
 ghost use Rattle.cedar_layout.specs.Lookups.{AreInOrder};
-ghost use Rattle.cedar_policy_formatter.specs.Kept.{KeepsTokens};
+ghost use Rattle.cedar_documents.specs.Kept.{KeepsTokens};
 ghost use Rattle.cedar_policy_formatter.specs.Refused.{IsOwn, RefusesText, RefusesOne};
 ghost use Rattle.cedar_policy_formatter.specs.Texts.{IsTextOf, KeepsPolicies, FailsCheck, KeptPoliciesHaveTheSameTokens};
 
-use crate::config::{Config, Context};
-use crate::doc::{Doc, NoDocument};
 use cedar_cst::cst::laws::{
     accepted_is_not_refused, nodes_have_the_plain_texts, tree_is_of_accepted,
     tree_of_nodes_is_unique,
 };
 use cedar_cst::cst::{FormatError, Node, Policies, Policy, parse_policies, same_tree};
-pub use cedar_documents::{
+use cedar_documents::config::{Config, Context};
+use cedar_documents::doc::Doc;
+pub use cedar_documents::laws::{
     accepted_texts_have_trees, cleaning_is_unique, cleaning_keeps_the_list, cleaning_takes_blanks,
     every_layout_reads_back, every_list_is_good, lists_join, outputs_are_canonical,
     outputs_are_determined,
@@ -27,17 +27,6 @@ use std::alloc::{AllocError, Global};
 mod stream;
 
 pub use stream::{RunFault, Watched, format_stream};
-
-impl From<NoDocument> for FormatError {
-    ghost from_gives = { λ _ e. IsOwn e };
-
-    fn from(error: NoDocument) -> FormatError {
-        match error {
-            NoDocument::NoToken => FormatError::NoDocument,
-            NoDocument::OutOfMemory => FormatError::OutOfMemory,
-        }
-    }
-}
 
 /// The policies `ps`, laid out.
 ///
@@ -114,7 +103,9 @@ fn lay_out<'src>(
     ps: &'src str,
     tree: &Policies<'src>,
     config: &Config,
-) -> Result<String, NoDocument> {
+) -> Result<String, FormatError>
+    ensures { IfErr result IsOwn }
+{
     let (tokens, closing) = plain_stream(alloc, ps)?;
     let mut context = Context { config, tokens };
     let mut text = joined_policies(alloc, tree, &mut context)?;
@@ -126,11 +117,12 @@ fn lay_out<'src>(
 fn plain_stream<'src>(
     alloc: Global,
     ps: &'src str,
-) -> Result<(Vec<WrappedToken<'src>>, Comments<'src>), NoDocument>
-    ensures { IfOk result (λ p. AreInOrder p.0.items) }
+) -> Result<(Vec<WrappedToken<'src>>, Comments<'src>), FormatError>
+    ensures order { IfOk result (λ p. AreInOrder p.0.items) }
+    ensures refused { IfErr result IsOwn }
 {
     let Some((mut tokens, closing)) = get_token_stream(alloc, ps)? else {
-        return Err(NoDocument::NoToken);
+        return Err(FormatError::NoDocument);
     };
     drop_trailing_commas(alloc, &mut tokens)?;
     Ok((tokens, closing))
@@ -141,11 +133,12 @@ fn joined_policies<'src>(
     alloc: Global,
     tree: &Policies<'src>,
     context: &mut Context<'_, 'src>,
-) -> Result<String, NoDocument>
+) -> Result<String, FormatError>
     requires { AreInOrder context.old.tokens.items }
     ensures order { AreInOrder context.new.tokens.items }
     ensures kept { KeepsTokens context.old.tokens.items context.new.tokens.items }
     ensures config { context.new.config ≡ context.old.config }
+    ensures refused { IfErr result IsOwn }
 {
     let mut text = String::new(alloc);
     for (index, policy) in tree.policies.iter().enumerate() {
@@ -163,15 +156,16 @@ fn policy_text<'src>(
     alloc: Global,
     policy: &Node<Policy<'src>>,
     context: &mut Context<'_, 'src>,
-) -> Result<String, NoDocument>
+) -> Result<String, FormatError>
     requires { AreInOrder context.old.tokens.items }
     ensures order { AreInOrder context.new.tokens.items }
     ensures kept { KeepsTokens context.old.tokens.items context.new.tokens.items }
     ensures config { context.new.config ≡ context.old.config }
+    ensures refused { IfErr result IsOwn }
 {
     let width = context.config.line_width;
     let Some(doc) = policy.to_doc(alloc, context)? else {
-        return Err(NoDocument::NoToken);
+        return Err(FormatError::NoDocument);
     };
     let mut layout = String::new(alloc);
     render(alloc, &doc, width, &mut layout)?;

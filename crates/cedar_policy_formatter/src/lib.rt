@@ -4,15 +4,14 @@
 //! depends on this crate alone.
 #![tactic(auto)]
 
-pub mod config;
-pub mod doc;
 pub mod fmt;
 
 pub use cedar_cst::cst;
 pub use cedar_cst::cst::FormatError;
+pub use cedar_documents::config::{Config, Context};
+pub use cedar_documents::{config, doc};
 pub use cedar_layout::{layout, utils};
 pub use cedar_tokens::{lexer, token};
-pub use config::{Config, Context};
 pub use fmt::{
     RunFault, Watched, every_layout_reads_back, format_stream, is_formatted,
     kept_policies_have_the_same_tokens, policies_str_to_pretty, same_layout, soundness_check,

@@ -2,7 +2,7 @@
 ghost use Rattle.std.specs.Prelude.{◌≡◌};
 ghost use Rattle.cedar_tree.specs.declared.error.FormatError.TheVariants.{OutOfMemory};
 
-use std::alloc::AllocFailed;
+use std::alloc::{AllocError, AllocFailed};
 use thiserror::Error;
 
 /// Why a text is refused. Each place is a byte offset from 0.
@@ -32,6 +32,14 @@ pub enum FormatError {
     /// A growth was refused.
     #[error("out of memory")]
     OutOfMemory,
+}
+
+impl From<AllocError> for FormatError {
+    ghost from_gives = { λ _ e. e ≡ OutOfMemory };
+
+    fn from(_error: AllocError) -> FormatError {
+        FormatError::OutOfMemory
+    }
 }
 
 impl<T: Drop> From<AllocFailed<T>> for FormatError {

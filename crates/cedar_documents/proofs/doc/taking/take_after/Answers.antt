@@ -1,0 +1,15 @@
+use Rattle.std.proofs.Common.{rules, map, ap, ◌∙◌}
+use Rattle.cedar_tokens.specs.Tokens.{bare}
+use Rattle.cedar_layout.specs.Lookups.{starts_from}
+use Rattle.cedar_documents.proofs.Keeping.{kept_if_taken, refilled, order_kept}
+use Rattle.cedar_documents.proofs.doc.taking.take_after.Goals as goal
+
+pub returns-clause-kept : goal.returns-clause-kept
+returns-clause-kept c =
+    let kept = kept_if_taken (starts_from c.args.span.end) c.as_mut_slice.result.now c.get_comment_after_end.new.tokens c.get_comment_after_end.result c.get_comment_after_end.ensures.answer ∙ ap (map bare) c.as_mut_slice.ensures.value in
+    rw (refilled c.args.context.now.tokens.items c.get_comment_after_end.new.tokens c.args.context.now.tokens.len (search rules) kept) kept
+
+pub returns-clause-order : goal.returns-clause-order
+returns-clause-order c =
+    let kept = kept_if_taken (starts_from c.args.span.end) c.as_mut_slice.result.now c.get_comment_after_end.new.tokens c.get_comment_after_end.result c.get_comment_after_end.ensures.answer ∙ ap (map bare) c.as_mut_slice.ensures.value in
+    rw (refilled c.args.context.now.tokens.items c.get_comment_after_end.new.tokens c.args.context.now.tokens.len (search rules) kept) (order_kept c.args.context.now.tokens.items c.get_comment_after_end.new.tokens kept c.requires)

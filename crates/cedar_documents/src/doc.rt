@@ -1,0 +1,320 @@
+//! The document of each node: its tokens, each between its comments, with the places where a line may break.
+ghost use Rattle.std.specs.Prelude.{◌≡◌};
+ghost use Rattle.cedar_layout.specs.Lookups.{AreInOrder};
+ghost use Rattle.cedar_documents.specs.Kept.{KeepsTokens};
+
+use crate::config::Context;
+use crate::doc::expressions::{
+    access_doc, add_doc, and_doc, expr_doc, init_doc, member_doc, mult_doc, or_doc, primary_doc,
+    relation_doc, unary_doc,
+};
+use crate::doc::names::{add_op_text, leaf_doc, literal_text, name_doc, ref_doc, slot_text};
+use crate::doc::policies::{annotation_doc, cond_doc, policy_doc, variable_doc};
+pub use crate::laws::{every_gap_holds, raw_layouts_read_back};
+use cedar_layout::layout::Document;
+use cedar_tree::tree::{
+    Add, AddOp, And, Annotation, Cond, Expr, Ident, Literal, MemAccess, Member, Mult, MultOp, Name,
+    Node, Or, Policy, Primary, RecInit, Ref, Relation, Slot, Str, Unary, VariableDef,
+};
+use std::alloc::{AllocError, AllocFailed, Global};
+
+mod expressions;
+mod names;
+mod policies;
+mod taking;
+mod tokens;
+
+/// A part of a policy that has a document.
+///
+/// The comments of its tokens move from the context's tokens into the document. The context's tokens are in order:
+/// `utils::in_order` tests it.
+pub trait Doc<'src> {
+    /// The document of this part.
+    ///
+    /// `None` where an identifier, a string, a literal or a slot in it has no token that starts where it does, or where
+    /// the number of tokens between the start of signs and their member isn't the number of these signs. It is never so
+    /// for a part of a text and the tokens of that text. After `None` or a refusal tokens and spans are as before, some
+    /// comments may be taken, and the context is of no more use.
+    fn to_doc(
+        &self,
+        alloc: Global,
+        context: &mut Context<'_, 'src>,
+    ) -> Result<Option<Document<'src>>, AllocError>
+        requires { AreInOrder context.old.tokens.items }
+        ensures order { AreInOrder context.new.tokens.items }
+        ensures kept { KeepsTokens context.old.tokens.items context.new.tokens.items }
+        ensures config { context.new.config ≡ context.old.config };
+}
+
+/// Why a part has no document.
+#[derive(Clone, Copy, Debug)]
+pub(crate) enum NoDocument {
+    /// A token that has to be there isn't.
+    NoToken,
+    /// A growth was refused.
+    OutOfMemory,
+}
+
+impl From<AllocError> for NoDocument {
+    fn from(_error: AllocError) -> NoDocument {
+        NoDocument::OutOfMemory
+    }
+}
+
+impl<T: Drop> From<AllocFailed<T>> for NoDocument {
+    fn from(_failed: AllocFailed<T>) -> NoDocument {
+        NoDocument::OutOfMemory
+    }
+}
+
+/// A part's document, or why it has none.
+pub(crate) type Made<'src> = Result<Document<'src>, NoDocument>;
+
+// The same as `to_doc` answers it.
+fn answer<'src>(made: Made<'src>) -> Result<Option<Document<'src>>, AllocError> {
+    match made {
+        Ok(doc) => Ok(Some(doc)),
+        Err(NoDocument::NoToken) => Ok(None),
+        Err(NoDocument::OutOfMemory) => Err(AllocError),
+    }
+}
+
+impl<'src> Doc<'src> for Node<Policy<'src>> {
+    fn to_doc(
+        &self,
+        alloc: Global,
+        context: &mut Context<'_, 'src>,
+    ) -> Result<Option<Document<'src>>, AllocError> {
+        answer(policy_doc(alloc, &self.inner, self.span, context))
+    }
+}
+
+impl<'src> Doc<'src> for Node<Annotation<'src>> {
+    fn to_doc(
+        &self,
+        alloc: Global,
+        context: &mut Context<'_, 'src>,
+    ) -> Result<Option<Document<'src>>, AllocError> {
+        answer(annotation_doc(alloc, &self.inner, self.span, context))
+    }
+}
+
+impl<'src> Doc<'src> for Node<VariableDef<'src>> {
+    fn to_doc(
+        &self,
+        alloc: Global,
+        context: &mut Context<'_, 'src>,
+    ) -> Result<Option<Document<'src>>, AllocError> {
+        answer(variable_doc(alloc, &self.inner, context))
+    }
+}
+
+impl<'src> Doc<'src> for Node<Cond<'src>> {
+    fn to_doc(
+        &self,
+        alloc: Global,
+        context: &mut Context<'_, 'src>,
+    ) -> Result<Option<Document<'src>>, AllocError> {
+        answer(cond_doc(alloc, &self.inner, self.span, context))
+    }
+}
+
+impl<'src> Doc<'src> for Node<Expr<'src>> {
+    fn to_doc(
+        &self,
+        alloc: Global,
+        context: &mut Context<'_, 'src>,
+    ) -> Result<Option<Document<'src>>, AllocError> {
+        answer(expr_doc(alloc, &self.inner, self.span, context))
+    }
+}
+
+impl<'src> Doc<'src> for Node<Or<'src>> {
+    fn to_doc(
+        &self,
+        alloc: Global,
+        context: &mut Context<'_, 'src>,
+    ) -> Result<Option<Document<'src>>, AllocError> {
+        answer(or_doc(alloc, &self.inner, context))
+    }
+}
+
+impl<'src> Doc<'src> for Node<And<'src>> {
+    fn to_doc(
+        &self,
+        alloc: Global,
+        context: &mut Context<'_, 'src>,
+    ) -> Result<Option<Document<'src>>, AllocError> {
+        answer(and_doc(alloc, &self.inner, context))
+    }
+}
+
+impl<'src> Doc<'src> for Node<Relation<'src>> {
+    fn to_doc(
+        &self,
+        alloc: Global,
+        context: &mut Context<'_, 'src>,
+    ) -> Result<Option<Document<'src>>, AllocError> {
+        answer(relation_doc(alloc, &self.inner, context))
+    }
+}
+
+impl<'src> Doc<'src> for Node<Add<'src>> {
+    fn to_doc(
+        &self,
+        alloc: Global,
+        context: &mut Context<'_, 'src>,
+    ) -> Result<Option<Document<'src>>, AllocError> {
+        answer(add_doc(alloc, &self.inner, context))
+    }
+}
+
+impl<'src> Doc<'src> for Node<Mult<'src>> {
+    fn to_doc(
+        &self,
+        alloc: Global,
+        context: &mut Context<'_, 'src>,
+    ) -> Result<Option<Document<'src>>, AllocError> {
+        answer(mult_doc(alloc, &self.inner, context))
+    }
+}
+
+impl<'src> Doc<'src> for AddOp {
+    fn to_doc(
+        &self,
+        _alloc: Global,
+        _context: &mut Context<'_, 'src>,
+    ) -> Result<Option<Document<'src>>, AllocError> {
+        Ok(Some(Document::Text(add_op_text(*self))))
+    }
+}
+
+impl<'src> Doc<'src> for MultOp {
+    fn to_doc(
+        &self,
+        _alloc: Global,
+        _context: &mut Context<'_, 'src>,
+    ) -> Result<Option<Document<'src>>, AllocError> {
+        Ok(Some(Document::Text("*")))
+    }
+}
+
+impl<'src> Doc<'src> for Node<Unary<'src>> {
+    fn to_doc(
+        &self,
+        alloc: Global,
+        context: &mut Context<'_, 'src>,
+    ) -> Result<Option<Document<'src>>, AllocError> {
+        answer(unary_doc(alloc, &self.inner, self.span, context))
+    }
+}
+
+impl<'src> Doc<'src> for Member<'src> {
+    fn to_doc(
+        &self,
+        alloc: Global,
+        context: &mut Context<'_, 'src>,
+    ) -> Result<Option<Document<'src>>, AllocError> {
+        answer(member_doc(alloc, self, context))
+    }
+}
+
+impl<'src> Doc<'src> for Node<MemAccess<'src>> {
+    fn to_doc(
+        &self,
+        alloc: Global,
+        context: &mut Context<'_, 'src>,
+    ) -> Result<Option<Document<'src>>, AllocError> {
+        answer(access_doc(alloc, &self.inner, self.span, context))
+    }
+}
+
+impl<'src> Doc<'src> for Node<Primary<'src>> {
+    fn to_doc(
+        &self,
+        alloc: Global,
+        context: &mut Context<'_, 'src>,
+    ) -> Result<Option<Document<'src>>, AllocError> {
+        answer(primary_doc(alloc, &self.inner, self.span, context))
+    }
+}
+
+impl<'src> Doc<'src> for Node<RecInit<'src>> {
+    fn to_doc(
+        &self,
+        alloc: Global,
+        context: &mut Context<'_, 'src>,
+    ) -> Result<Option<Document<'src>>, AllocError> {
+        answer(init_doc(alloc, &self.inner, context))
+    }
+}
+
+impl<'src> Doc<'src> for Node<Name<'src>> {
+    fn to_doc(
+        &self,
+        alloc: Global,
+        context: &mut Context<'_, 'src>,
+    ) -> Result<Option<Document<'src>>, AllocError> {
+        answer(name_doc(alloc, &self.inner, context))
+    }
+}
+
+impl<'src> Doc<'src> for Node<Ref<'src>> {
+    fn to_doc(
+        &self,
+        alloc: Global,
+        context: &mut Context<'_, 'src>,
+    ) -> Result<Option<Document<'src>>, AllocError> {
+        answer(ref_doc(alloc, &self.inner, context))
+    }
+}
+
+impl<'src> Doc<'src> for Node<Ident<'src>> {
+    fn to_doc(
+        &self,
+        alloc: Global,
+        context: &mut Context<'_, 'src>,
+    ) -> Result<Option<Document<'src>>, AllocError> {
+        answer(leaf_doc(alloc, self.inner.0, self.span, context))
+    }
+}
+
+impl<'src> Doc<'src> for Node<Str<'src>> {
+    fn to_doc(
+        &self,
+        alloc: Global,
+        context: &mut Context<'_, 'src>,
+    ) -> Result<Option<Document<'src>>, AllocError> {
+        answer(leaf_doc(alloc, self.inner.0, self.span, context))
+    }
+}
+
+impl<'src> Doc<'src> for Node<Literal<'src>> {
+    fn to_doc(
+        &self,
+        alloc: Global,
+        context: &mut Context<'_, 'src>,
+    ) -> Result<Option<Document<'src>>, AllocError> {
+        answer(leaf_doc(alloc, literal_text(&self.inner), self.span, context))
+    }
+}
+
+impl<'src> Doc<'src> for Node<Slot> {
+    fn to_doc(
+        &self,
+        alloc: Global,
+        context: &mut Context<'_, 'src>,
+    ) -> Result<Option<Document<'src>>, AllocError> {
+        answer(leaf_doc(alloc, slot_text(self.inner), self.span, context))
+    }
+}
+
+impl<'src> Doc<'src> for Ident<'src> {
+    fn to_doc(
+        &self,
+        _alloc: Global,
+        _context: &mut Context<'_, 'src>,
+    ) -> Result<Option<Document<'src>>, AllocError> {
+        Ok(Some(Document::Text(self.0)))
+    }
+}

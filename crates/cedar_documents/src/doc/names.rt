@@ -1,0 +1,108 @@
+//! The documents of words, strings, literals, slots, paths and entities.
+ghost use Rattle.std.specs.Prelude.{◌≡◌};
+ghost use Rattle.cedar_layout.specs.Lookups.{AreInOrder};
+ghost use Rattle.cedar_documents.specs.Kept.{KeepsTokens};
+
+use crate::config::Context;
+use crate::doc::taking::take_at_start;
+use crate::doc::tokens::mark_after;
+use crate::doc::{Made, NoDocument};
+use cedar_layout::layout::Document;
+use cedar_layout::utils::add_comment;
+use cedar_tokens::token::Span;
+use cedar_tree::tree::{AddOp, Literal, Name, Ref, RelOp, Slot};
+use std::alloc::Global;
+
+/// A part that is one token: `text` between the comments of the token that starts where the part does.
+pub(super) fn leaf_doc<'src>(
+    alloc: Global,
+    text: &'src str,
+    span: Span,
+    context: &mut Context<'_, 'src>,
+) -> Made<'src>
+    requires { AreInOrder context.old.tokens.items }
+    ensures order { AreInOrder context.new.tokens.items }
+    ensures kept { KeepsTokens context.old.tokens.items context.new.tokens.items }
+    ensures config { context.new.config ≡ context.old.config }
+{
+    match take_at_start(span, context) {
+        Some(comment) => Ok(add_comment(alloc, Document::Text(text), &comment, Document::Nil)?),
+        None => Err(NoDocument::NoToken),
+    }
+}
+
+/// The words of a path, joined by `::`.
+pub(super) fn name_doc<'src>(
+    alloc: Global,
+    name: &Name<'src>,
+    context: &mut Context<'_, 'src>,
+) -> Made<'src>
+    requires { AreInOrder context.old.tokens.items }
+    ensures order { AreInOrder context.new.tokens.items }
+    ensures kept { KeepsTokens context.old.tokens.items context.new.tokens.items }
+    ensures config { context.new.config ≡ context.old.config }
+{
+    let mut docs = Vec::new(alloc);
+    for word in &name.path {
+        docs.push(leaf_doc(alloc, word.inner.0, word.span, context)?)?;
+        docs.push(mark_after(alloc, "::", word.span, Document::Nil, context)?)?;
+    }
+    docs.push(leaf_doc(alloc, name.name.inner.0, name.name.span, context)?)?;
+    Ok(Document::Seq(docs))
+}
+
+/// An entity: its type, `::`, and its name in quotes.
+pub(super) fn ref_doc<'src>(
+    alloc: Global,
+    entity: &Ref<'src>,
+    context: &mut Context<'_, 'src>,
+) -> Made<'src>
+    requires { AreInOrder context.old.tokens.items }
+    ensures order { AreInOrder context.new.tokens.items }
+    ensures kept { KeepsTokens context.old.tokens.items context.new.tokens.items }
+    ensures config { context.new.config ≡ context.old.config }
+{
+    let path = name_doc(alloc, &entity.path.inner, context)?;
+    let colons = mark_after(alloc, "::", entity.path.span, Document::Nil, context)?;
+    let eid = leaf_doc(alloc, entity.eid.inner.0, entity.eid.span, context)?;
+    Ok(path.append(alloc, colons.append(alloc, eid)?)?)
+}
+
+/// The text of a literal; that of a number has no leading zeros.
+pub(super) fn literal_text<'src>(literal: &Literal<'src>) -> &'src str {
+    match literal {
+        Literal::True => "true",
+        Literal::False => "false",
+        Literal::Num(digits) => digits,
+        Literal::Str(text) => text,
+    }
+}
+
+/// The text of a slot.
+pub(super) fn slot_text(slot: Slot) -> &'static str {
+    match slot {
+        Slot::Principal => "?principal",
+        Slot::Resource => "?resource",
+    }
+}
+
+/// The text of `+` or `-`.
+pub(super) fn add_op_text(op: AddOp) -> &'static str {
+    match op {
+        AddOp::Plus => "+",
+        AddOp::Minus => "-",
+    }
+}
+
+/// The text of a comparison.
+pub(super) fn rel_op_text(op: RelOp) -> &'static str {
+    match op {
+        RelOp::Less => "<",
+        RelOp::LessEq => "<=",
+        RelOp::Greater => ">",
+        RelOp::GreaterEq => ">=",
+        RelOp::NotEq => "!=",
+        RelOp::Eq => "==",
+        RelOp::In => "in",
+    }
+}

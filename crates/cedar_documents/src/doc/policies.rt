@@ -1,0 +1,414 @@
+//! The documents of policies, and of what stands in them outside expressions.
+ghost use Rattle.std.specs.Prelude.{◌≡◌};
+ghost use Rattle.cedar_layout.specs.Lookups.{AreInOrder};
+ghost use Rattle.cedar_documents.specs.Kept.{KeepsTokens};
+
+use crate::config::Context;
+use crate::doc::expressions::{add_doc, expr_doc};
+use crate::doc::names::{leaf_doc, name_doc, rel_op_text};
+use crate::doc::taking::{take_after, take_at_start, take_lines_at_start};
+use crate::doc::tokens::{mark_after, mark_at_end, mark_at_start};
+use crate::doc::{Made, NoDocument};
+use cedar_layout::layout::Document;
+use cedar_layout::utils::{get_leading_comment_doc_from_str, get_trailing_comment_doc_from_str};
+use cedar_tokens::token::{Comment, Span};
+use cedar_tree::tree::{
+    Add, Annotation, Cond, Expr, Ident, Name, Node, Policy, RelOp, Str, VariableDef,
+};
+use std::alloc::{AllocError, Global};
+
+// The leading lines of a comment.
+fn lead<'src>(alloc: Global, comment: &Comment<'src>) -> Result<Document<'src>, AllocError> {
+    get_leading_comment_doc_from_str(alloc, comment.leading_comment())
+}
+
+// The trailing text of a comment, or `next` where there is none.
+fn trail<'src>(
+    alloc: Global,
+    comment: &Comment<'src>,
+    next: Document<'src>,
+) -> Result<Document<'src>, AllocError> {
+    get_trailing_comment_doc_from_str(alloc, comment.trailing_comment(), next)
+}
+
+// The comment of the word that starts where `span` does.
+fn word_comment<'src>(
+    span: Span,
+    context: &mut Context<'_, 'src>,
+) -> Result<Comment<'src>, NoDocument>
+    requires { AreInOrder context.old.tokens.items }
+    ensures order { AreInOrder context.new.tokens.items }
+    ensures kept { KeepsTokens context.old.tokens.items context.new.tokens.items }
+    ensures config { context.new.config ≡ context.old.config }
+{
+    match take_at_start(span, context) {
+        Some(comment) => Ok(comment),
+        None => Err(NoDocument::NoToken),
+    }
+}
+
+/// A policy: its annotations, its scope and its conditions.
+pub(super) fn policy_doc<'src>(
+    alloc: Global,
+    policy: &Policy<'src>,
+    span: Span,
+    context: &mut Context<'_, 'src>,
+) -> Made<'src>
+    requires { AreInOrder context.old.tokens.items }
+    ensures order { AreInOrder context.new.tokens.items }
+    ensures kept { KeepsTokens context.old.tokens.items context.new.tokens.items }
+    ensures config { context.new.config ≡ context.old.config }
+{
+    let annotations = annotations_doc(alloc, &policy.annotations, context)?;
+    let head = head_doc(alloc, &policy.effect, context)?;
+    let scope = scope_doc(alloc, policy, context)?;
+    let close = scope_end_doc(alloc, policy, context)?;
+    let conds = conds_doc(alloc, &policy.conds, context)?;
+    let end = mark_at_end(alloc, ";", span, Document::Nil, context)?;
+    let body = close.append(alloc, conds.append(alloc, end)?)?;
+    Ok(annotations.append(alloc, head.append(alloc, scope.append(alloc, body)?)?)?)
+}
+
+// The annotations in order.
+fn annotations_doc<'src>(
+    alloc: Global,
+    annotations: &[Node<Annotation<'src>>],
+    context: &mut Context<'_, 'src>,
+) -> Made<'src>
+    requires { AreInOrder context.old.tokens.items }
+    ensures order { AreInOrder context.new.tokens.items }
+    ensures kept { KeepsTokens context.old.tokens.items context.new.tokens.items }
+    ensures config { context.new.config ≡ context.old.config }
+{
+    let mut docs = Vec::new(alloc);
+    for annotation in annotations {
+        docs.push(annotation_doc(alloc, &annotation.inner, annotation.span, context)?)?;
+    }
+    Ok(Document::Seq(docs))
+}
+
+/// `@`, the key, and the value between brackets where there is one; a break behind it.
+pub(super) fn annotation_doc<'src>(
+    alloc: Global,
+    annotation: &Annotation<'src>,
+    span: Span,
+    context: &mut Context<'_, 'src>,
+) -> Made<'src>
+    requires { AreInOrder context.old.tokens.items }
+    ensures order { AreInOrder context.new.tokens.items }
+    ensures kept { KeepsTokens context.old.tokens.items context.new.tokens.items }
+    ensures config { context.new.config ≡ context.old.config }
+{
+    let at = mark_at_start(alloc, "@", span, Document::Nil, context)?;
+    let key = leaf_doc(alloc, annotation.key.inner.0, annotation.key.span, context)?;
+    let end = match &annotation.value {
+        Some(value) => annotation_value_doc(alloc, value, annotation.key.span, span, context)?,
+        None => Document::Hard,
+    };
+    Ok(at.append(alloc, key.append(alloc, end)?)?)
+}
+
+// An annotation's value between its brackets, and a break where the closing one has no trailing text.
+fn annotation_value_doc<'src>(
+    alloc: Global,
+    value: &Node<Str<'src>>,
+    key: Span,
+    span: Span,
+    context: &mut Context<'_, 'src>,
+) -> Made<'src>
+    requires { AreInOrder context.old.tokens.items }
+    ensures order { AreInOrder context.new.tokens.items }
+    ensures kept { KeepsTokens context.old.tokens.items context.new.tokens.items }
+    ensures config { context.new.config ≡ context.old.config }
+{
+    let open = mark_after(alloc, "(", key, Document::Nil, context)?;
+    let text = leaf_doc(alloc, value.inner.0, value.span, context)?;
+    let close = mark_at_end(alloc, ")", span, Document::Hard, context)?;
+    Ok(open.append(alloc, text.append(alloc, close)?)?)
+}
+
+// `permit` or `forbid`, and the bracket behind it, on its own line where they don't fit with what follows.
+fn head_doc<'src>(
+    alloc: Global,
+    effect: &Node<Ident<'src>>,
+    context: &mut Context<'_, 'src>,
+) -> Made<'src>
+    requires { AreInOrder context.old.tokens.items }
+    ensures order { AreInOrder context.new.tokens.items }
+    ensures kept { KeepsTokens context.old.tokens.items context.new.tokens.items }
+    ensures config { context.new.config ≡ context.old.config }
+{
+    let comment = word_comment(effect.span, context)?;
+    let open = mark_after(alloc, "(", effect.span, Document::Nil, context)?;
+    let behind = Document::Line.append(alloc, open)?;
+    let behind = trail(alloc, &comment, Document::Nil)?.append(alloc, behind)?;
+    let head = Document::Text(effect.inner.0).append(alloc, behind)?;
+    Ok(lead(alloc, &comment)?.append(alloc, head.group(alloc)?)?)
+}
+
+// Whether a variable has a type or an operator.
+fn is_bound(variable: &VariableDef<'_>) -> bool {
+    variable.entity_type.is_some() || variable.ineq.is_some()
+}
+
+// The three variables: each on a line of its own where one has a type or an operator, else on one line where they fit.
+fn scope_doc<'src>(
+    alloc: Global,
+    policy: &Policy<'src>,
+    context: &mut Context<'_, 'src>,
+) -> Made<'src>
+    requires { AreInOrder context.old.tokens.items }
+    ensures order { AreInOrder context.new.tokens.items }
+    ensures kept { KeepsTokens context.old.tokens.items context.new.tokens.items }
+    ensures config { context.new.config ≡ context.old.config }
+{
+    let (principal, action, resource) = &policy.variables;
+    if is_bound(&principal.inner) || is_bound(&action.inner) || is_bound(&resource.inner) {
+        let inside = variables_doc(alloc, policy, true, context)?;
+        let inside = Document::Hard.append(alloc, inside)?;
+        let inside = inside.nest(alloc, context.config.indent_width)?;
+        return Ok(inside.append(alloc, Document::Hard)?);
+    }
+    let inside = variables_doc(alloc, policy, false, context)?;
+    let inside = inside.nest(alloc, context.config.indent_width)?;
+    Ok(inside.group(alloc)?)
+}
+
+// The three variables, with a break or a space behind each comma without trailing text.
+fn variables_doc<'src>(
+    alloc: Global,
+    policy: &Policy<'src>,
+    is_broken: bool,
+    context: &mut Context<'_, 'src>,
+) -> Made<'src>
+    requires { AreInOrder context.old.tokens.items }
+    ensures order { AreInOrder context.new.tokens.items }
+    ensures kept { KeepsTokens context.old.tokens.items context.new.tokens.items }
+    ensures config { context.new.config ≡ context.old.config }
+{
+    let (principal, action, resource) = &policy.variables;
+    let first = variable_doc(alloc, &principal.inner, context)?;
+    let comma = mark_after(alloc, ",", principal.span, separator(is_broken), context)?;
+    let second = variable_doc(alloc, &action.inner, context)?;
+    let other = mark_after(alloc, ",", action.span, separator(is_broken), context)?;
+    let third = variable_doc(alloc, &resource.inner, context)?;
+    let rest = second.append(alloc, other.append(alloc, third)?)?;
+    Ok(first.append(alloc, comma.append(alloc, rest)?)?)
+}
+
+// What stands behind a comma of the scope.
+fn separator<'src>(is_broken: bool) -> Document<'src> {
+    if is_broken {
+        Document::Hard
+    } else {
+        Document::Text(" ")
+    }
+}
+
+// The bracket behind the scope, and a break where there is a condition and the bracket has no trailing text.
+fn scope_end_doc<'src>(
+    alloc: Global,
+    policy: &Policy<'src>,
+    context: &mut Context<'_, 'src>,
+) -> Made<'src>
+    requires { AreInOrder context.old.tokens.items }
+    ensures order { AreInOrder context.new.tokens.items }
+    ensures kept { KeepsTokens context.old.tokens.items context.new.tokens.items }
+    ensures config { context.new.config ≡ context.old.config }
+{
+    let next = if policy.conds.is_empty() {
+        Document::Nil
+    } else {
+        Document::Hard
+    };
+    Ok(mark_after(alloc, ")", policy.variables.2.span, next, context)?)
+}
+
+/// A variable of the scope, with its type and its operator where they are there.
+pub(super) fn variable_doc<'src>(
+    alloc: Global,
+    variable: &VariableDef<'src>,
+    context: &mut Context<'_, 'src>,
+) -> Made<'src>
+    requires { AreInOrder context.old.tokens.items }
+    ensures order { AreInOrder context.new.tokens.items }
+    ensures kept { KeepsTokens context.old.tokens.items context.new.tokens.items }
+    ensures config { context.new.config ≡ context.old.config }
+{
+    let comment = word_comment(variable.variable.span, context)?;
+    let type_part = type_part_doc(alloc, variable, context)?;
+    let behind = trail(alloc, &comment, Document::Nil)?.append(alloc, type_part)?;
+    let left = Document::Text(variable.variable.inner.0);
+    let whole = match &variable.ineq {
+        Some((op, right)) => {
+            let before = left_span(variable);
+            compared_doc(
+                alloc,
+                left.append(alloc, behind)?,
+                before,
+                *op,
+                right,
+                context,
+            )?
+        }
+        None => left.append(alloc, behind)?,
+    };
+    Ok(lead(alloc, &comment)?.append(alloc, whole)?)
+}
+
+// What stands before the operator of a variable.
+fn left_span(variable: &VariableDef<'_>) -> Span {
+    match &variable.entity_type {
+        Some(name) => name.span,
+        None => variable.variable.span,
+    }
+}
+
+// `is` and the type behind it, each on a line of its own where they don't fit on one.
+fn type_part_doc<'src>(
+    alloc: Global,
+    variable: &VariableDef<'src>,
+    context: &mut Context<'_, 'src>,
+) -> Made<'src>
+    requires { AreInOrder context.old.tokens.items }
+    ensures order { AreInOrder context.new.tokens.items }
+    ensures kept { KeepsTokens context.old.tokens.items context.new.tokens.items }
+    ensures config { context.new.config ≡ context.old.config }
+{
+    let Some(name) = &variable.entity_type else {
+        return Ok(Document::Nil);
+    };
+    type_doc(alloc, name, variable.variable.span, context)
+}
+
+fn type_doc<'src>(
+    alloc: Global,
+    name: &Node<Name<'src>>,
+    before: Span,
+    context: &mut Context<'_, 'src>,
+) -> Made<'src>
+    requires { AreInOrder context.old.tokens.items }
+    ensures order { AreInOrder context.new.tokens.items }
+    ensures kept { KeepsTokens context.old.tokens.items context.new.tokens.items }
+    ensures config { context.new.config ≡ context.old.config }
+{
+    let is_word = mark_after(alloc, "is", before, Document::Nil, context)?;
+    let is_word = Document::Line.append(alloc, is_word)?.group(alloc)?;
+    let type_name = name_doc(alloc, &name.inner, context)?;
+    let type_name = Document::Line.append(alloc, type_name)?;
+    let both = is_word.append(alloc, type_name)?;
+    Ok(both.nest(alloc, context.config.indent_width)?.group(alloc)?)
+}
+
+// A variable, its operator, and what it is compared with, each on a line of its own where they don't fit on one.
+fn compared_doc<'src>(
+    alloc: Global,
+    left: Document<'src>,
+    before: Span,
+    op: RelOp,
+    right: &Node<Add<'src>>,
+    context: &mut Context<'_, 'src>,
+) -> Made<'src>
+    requires { AreInOrder context.old.tokens.items }
+    ensures order { AreInOrder context.new.tokens.items }
+    ensures kept { KeepsTokens context.old.tokens.items context.new.tokens.items }
+    ensures config { context.new.config ≡ context.old.config }
+{
+    let operator = mark_after(alloc, rel_op_text(op), before, Document::Nil, context)?;
+    let operator = Document::Line.append(alloc, operator)?;
+    let left = left.append(alloc, operator)?.group(alloc)?;
+    let right = add_doc(alloc, &right.inner, context)?;
+    let right = Document::Line.append(alloc, right)?;
+    let right = right.nest(alloc, context.config.indent_width)?;
+    Ok(left.append(alloc, right)?.group(alloc)?)
+}
+
+// The conditions, each on lines of its own.
+fn conds_doc<'src>(
+    alloc: Global,
+    conds: &[Node<Cond<'src>>],
+    context: &mut Context<'_, 'src>,
+) -> Made<'src>
+    requires { AreInOrder context.old.tokens.items }
+    ensures order { AreInOrder context.new.tokens.items }
+    ensures kept { KeepsTokens context.old.tokens.items context.new.tokens.items }
+    ensures config { context.new.config ≡ context.old.config }
+{
+    let mut docs = Vec::new(alloc);
+    for cond in conds {
+        if !docs.is_empty() {
+            docs.push(Document::Hard)?;
+        }
+        docs.push(cond_doc(alloc, &cond.inner, cond.span, context)?)?;
+    }
+    Ok(Document::Seq(docs))
+}
+
+/// `when` or `unless`, and its expression between braces.
+pub(super) fn cond_doc<'src>(
+    alloc: Global,
+    cond: &Cond<'src>,
+    span: Span,
+    context: &mut Context<'_, 'src>,
+) -> Made<'src>
+    requires { AreInOrder context.old.tokens.items }
+    ensures order { AreInOrder context.new.tokens.items }
+    ensures kept { KeepsTokens context.old.tokens.items context.new.tokens.items }
+    ensures config { context.new.config ≡ context.old.config }
+{
+    let comment = word_comment(cond.cond.span, context)?;
+    let open = take_after(cond.cond.span, context);
+    let body = braced_doc(alloc, open, &cond.expr, span, context)?;
+    let behind = trail(alloc, &comment, Document::Line)?.append(alloc, body)?;
+    let whole = Document::Text(cond.cond.inner.0).append(alloc, behind)?;
+    Ok(lead(alloc, &comment)?.append(alloc, whole.group(alloc)?)?)
+}
+
+// The leading lines of `{`, the brace, and a group of the expression and `}`.
+fn braced_doc<'src>(
+    alloc: Global,
+    open: Option<Comment<'src>>,
+    expr: &Node<Expr<'src>>,
+    span: Span,
+    context: &mut Context<'_, 'src>,
+) -> Made<'src>
+    requires { AreInOrder context.old.tokens.items }
+    ensures order { AreInOrder context.new.tokens.items }
+    ensures kept { KeepsTokens context.old.tokens.items context.new.tokens.items }
+    ensures config { context.new.config ≡ context.old.config }
+{
+    let (before, behind) = match &open {
+        Some(comment) => (
+            lead(alloc, comment)?,
+            trail(alloc, comment, Document::Line)?,
+        ),
+        None => (Document::Nil, Document::Line),
+    };
+    let body = body_doc(alloc, expr, context)?;
+    let inside = behind.append(alloc, body)?;
+    let inside = inside.nest(alloc, context.config.indent_width)?;
+    let close = mark_at_end(alloc, "}", span, Document::Nil, context)?;
+    let end = Document::Line.append(alloc, close)?;
+    let inside = inside.append(alloc, end)?.group(alloc)?;
+    let brace = Document::Text("{").append(alloc, inside)?;
+    Ok(before.append(alloc, brace)?)
+}
+
+// The leading lines of an expression's first token, and then a group of the rest.
+fn body_doc<'src>(
+    alloc: Global,
+    expr: &Node<Expr<'src>>,
+    context: &mut Context<'_, 'src>,
+) -> Made<'src>
+    requires { AreInOrder context.old.tokens.items }
+    ensures order { AreInOrder context.new.tokens.items }
+    ensures kept { KeepsTokens context.old.tokens.items context.new.tokens.items }
+    ensures config { context.new.config ≡ context.old.config }
+{
+    let lines = match take_lines_at_start(expr.span, context) {
+        Some(lines) => get_leading_comment_doc_from_str(alloc, &lines)?,
+        None => Document::Nil,
+    };
+    let body = expr_doc(alloc, &expr.inner, expr.span, context)?;
+    Ok(lines.append(alloc, body.group(alloc)?)?)
+}

@@ -1,7 +1,0 @@
-use Rattle.std.proofs.Common.{◌≡◌}
-use Rattle.cedar_layout.specs.Lookups.{AreInOrder}
-use Rattle.cedar_policy_formatter.specs.Kept.{KeepsTokens}
-use Rattle.cedar_policy_formatter.proofs.doc.policies.conds_doc.Given as goal
-
-abbrev pub invariant-loop-cond : goal.invariant-loop-cond
-invariant-loop-cond l = AreInOrder l.context.tokens.items × KeepsTokens l.fn.context.tokens.items l.context.tokens.items × (l.context.config ≡ l.fn.context.config)
