@@ -16,7 +16,8 @@ use Rattle.cedar_tree.specs.Erased.{Erased, variant, access_parts, primary_parts
 use Rattle.cedar_cst.specs.Lexemes.{nodes_of}
 use Rattle.cedar_tree.specs.NodeTrees.{is_node, span_of}
 use Rattle.cedar_cst.specs.Reading.{kind, Fails, Stands, PassesOn, ClosesWith, GivesNode}
-use Rattle.cedar_cst.specs.ReadingItems.{item_trees, StandsItems, GivesItems}
+use Rattle.cedar_cst.specs.ReadingItems.{StandsItems, GivesItems}
+use Rattle.cedar_tree.specs.NodeLists.{item_trees}
 use Rattle.cedar_cst.specs.ReadingParts.{Makes}
 use Rattle.cedar_cst.specs.declared.cst.lexeme.Lexeme.{Lexeme}
 use Rattle.cedar_cst.specs.declared.cst.reading.Refusal.{Refusal}

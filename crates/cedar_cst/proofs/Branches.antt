@@ -11,7 +11,8 @@ use Rattle.cedar_grammar.proofs.ReadingLaws.{tree_done, tree_fails, both_first, 
 use Rattle.cedar_tree.specs.Erased.{expr_parts, add_parts, primary_parts}
 use Rattle.cedar_cst.specs.Reading.{kind, Stands, PassesOn, ClosesWith, GivesNode, GivesBehind, first_place, name_parts}
 use Rattle.cedar_cst.specs.ReadingParts.{Makes}
-use Rattle.cedar_cst.specs.ReadingExprs.{IsIfOf, IsParensOf, IsInitOf, IsTyped, GivesTypeTest, init_parts}
+use Rattle.cedar_cst.specs.ReadingExprs.{IsIfOf, IsParensOf, IsInitOf, IsTyped, GivesTypeTest}
+use Rattle.cedar_tree.specs.NodeLists.{init_parts}
 use Rattle.cedar_cst.specs.declared.cst.lexeme.Lexeme.{Lexeme}
 use Rattle.cedar_cst.specs.declared.cst.reading.Refusal.{Refusal}
 use Rattle.cedar_tree.specs.declared.tree.Node.{Node}

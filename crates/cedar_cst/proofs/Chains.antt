@@ -13,7 +13,8 @@ use Rattle.cedar_tree.specs.Erased.{Erased, node, addop_text}
 use Rattle.cedar_tree.specs.NodeTrees.{is_node}
 use Rattle.cedar_cst.specs.Reading.{kind, Keeps, Fails, Stands, GivesNode, PassesOn, addop_kind}
 use Rattle.cedar_cst.specs.ReadingParts.{Makes}
-use Rattle.cedar_cst.specs.ReadingExprs.{operand_trees, operands_end, IsChainOf, IsSigned}
+use Rattle.cedar_cst.specs.ReadingExprs.{operands_end, IsChainOf, IsSigned}
+use Rattle.cedar_tree.specs.NodeLists.{operand_trees}
 use Rattle.cedar_cst.specs.declared.cst.lexeme.Lexeme.{Lexeme}
 use Rattle.cedar_cst.specs.declared.cst.reading.Refusal.{Refusal}
 use Rattle.cedar_tree.specs.declared.tree.Node.{Node}

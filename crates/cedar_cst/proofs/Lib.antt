@@ -2,7 +2,6 @@ pub mod Steps
 pub mod LeafTexts
 pub mod Rows
 pub mod Chains
-pub mod Views
 pub mod Ends
 pub mod Paths
 pub mod Operands

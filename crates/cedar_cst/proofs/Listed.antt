@@ -13,7 +13,8 @@ use Rattle.cedar_tree.specs.Erased.{Erased, node}
 use Rattle.cedar_cst.specs.Lexemes.{nodes_of}
 use Rattle.cedar_tree.specs.NodeTrees.{is_node}
 use Rattle.cedar_cst.specs.Reading.{kind, IsRight, AreRight, Stands}
-use Rattle.cedar_cst.specs.ReadingItems.{more_trees, item_trees, StandsItems}
+use Rattle.cedar_cst.specs.ReadingItems.{StandsItems}
+use Rattle.cedar_tree.specs.NodeLists.{item_trees, more_trees}
 use Rattle.cedar_cst.specs.declared.cst.lexeme.Lexeme.{Lexeme}
 use Rattle.cedar_tree.specs.declared.tree.Node.{Node}
 use Rattle.cedar_cst.proofs.Steps.{is_itself}

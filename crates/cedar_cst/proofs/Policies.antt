@@ -17,7 +17,7 @@ use Rattle.cedar_tree.specs.Erased.{Erased, ident_tree, annotation_trees, cond_t
 use Rattle.cedar_tree.specs.NodeTrees.{span_of}
 use Rattle.cedar_cst.specs.Reading.{kind, flat, Fails, Stands, StandsMany, GivesMany, ClosesWith, node_trees, ident_parts, annotation_parts}
 use Rattle.cedar_cst.specs.ReadingParts.{is_effect, variable_parts, scope_rule}
-use Rattle.cedar_cst.specs.ReadingItems.{item_trees}
+use Rattle.cedar_tree.specs.NodeLists.{item_trees}
 use Rattle.cedar_cst.specs.ReadingSet.{cond_parts}
 use Rattle.cedar_cst.specs.Lexemes.{nodes_of}
 use Rattle.cedar_cst.specs.declared.cst.lexeme.Lexeme.{Lexeme}

@@ -14,7 +14,8 @@ use Rattle.cedar_grammar.proofs.ReadingLaws.{choice_yes, choice_no, both_first, 
 use Rattle.cedar_grammar.proofs.RuleLaws.{shaped_done, shaped_fails}
 use Rattle.cedar_grammar.proofs.KindSets.{within_at}
 use Rattle.cedar_tree.specs.Erased.{access_parts, primary_parts, node}
-use Rattle.cedar_cst.specs.Reading.{kind, Fails, Stands, GivesNode, PassesOn, IsNamePrimaryOf, access_items, last_end, name_parts}
+use Rattle.cedar_cst.specs.Reading.{kind, Fails, Stands, GivesNode, PassesOn, IsNamePrimaryOf, last_end, name_parts}
+use Rattle.cedar_tree.specs.NodeLists.{access_items}
 use Rattle.cedar_cst.specs.ReadingParts.{ident_reader, text_reader, words_on, words_then, GoesOn, Words, WordsEnd, GivesWords, IsEntityOf, Makes}
 use Rattle.cedar_cst.specs.ReadingExprs.{at_depth, GivesItem}
 use Rattle.cedar_cst.specs.declared.cst.lexeme.Lexeme.{Lexeme}

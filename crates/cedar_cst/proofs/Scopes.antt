@@ -8,7 +8,8 @@ use Rattle.cedar_grammar.specs.Reader.Reading.{Answer, Reader, done, stuck, choi
 use Rattle.cedar_grammar.proofs.ReadingLaws.{both_done, both_fails, both_then_fails, choice_yes, choice_no, join_assoc}
 use Rattle.cedar_cst.specs.Reading.{kind, Stands, Skips}
 use Rattle.cedar_cst.specs.ReadingParts.{variable_parts}
-use Rattle.cedar_cst.specs.ReadingItems.{item_trees, StandsItems}
+use Rattle.cedar_cst.specs.ReadingItems.{StandsItems}
+use Rattle.cedar_tree.specs.NodeLists.{item_trees}
 use Rattle.cedar_cst.specs.declared.cst.lexeme.Lexeme.{Lexeme}
 use Rattle.cedar_tree.specs.declared.tree.Node.{Node}
 use Rattle.cedar_tree.specs.declared.tree.VariableDef.{VariableDef}

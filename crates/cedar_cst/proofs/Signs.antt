@@ -13,7 +13,8 @@ use Rattle.cedar_grammar.proofs.ReadingLaws.{choice_yes, choice_no, both_done, b
 use Rattle.cedar_tree.specs.Erased.{Erased, times, unary_parts}
 use Rattle.cedar_cst.specs.Reading.{kind, flat, Stands, GivesNode, PassesOn, first_place}
 use Rattle.cedar_cst.specs.ReadingParts.{Makes}
-use Rattle.cedar_cst.specs.ReadingExprs.{member_parts, IsUnaryOf}
+use Rattle.cedar_cst.specs.ReadingExprs.{IsUnaryOf}
+use Rattle.cedar_tree.specs.NodeLists.{member_parts}
 use Rattle.cedar_cst.specs.ReadingSigns.{Leads, GoesPastSigns, signs_rule, signs_start, GivesSigns}
 use Rattle.cedar_cst.specs.declared.cst.lexeme.Lexeme.{Lexeme}
 use Rattle.cedar_cst.specs.declared.cst.reading.Refusal.{Refusal}

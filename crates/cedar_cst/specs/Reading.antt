@@ -15,6 +15,7 @@ use Rattle.cedar_tree.specs.declared.tree.Annotation.{Annotation}
 use Rattle.cedar_tree.specs.declared.tree.MemAccess as MemAccess
 use Rattle.cedar_tree.specs.declared.tree.Primary as Primary
 use Rattle.cedar_tree.specs.declared.tree.Add as Add
+use Rattle.cedar_tree.specs.NodeLists.{operand_parts}
 use Rattle.cedar_tree.specs.Erased.{Erased, path_parts, node, access_parts, primary_parts, add_parts, ident_tree, value_parts, variant_label, literal_text}
 use Rattle.cedar_cst.specs.Lexemes.{nodes_of}
 use Rattle.cedar_tree.specs.NodeTrees.{span_of}
@@ -124,14 +125,7 @@ ClosesWith k (Ok x) (Err e) = Fails e (one kind k x.1.now)
 ClosesWith k (Err f) (Ok y) = ⊥
 ClosesWith k (Err f) (Err e) = e ≡ f
 
--- What an operand is that a primary and what is accessed in it make.
-abbrev pub access_items : List (Node MemAccess.MemAccess) → Erased
-access_items [] = none
-access_items (n ∷ ns) = node Label.access n.span (access_parts n.inner) (access_items ns)
-
-abbrev pub operand_parts : Span → Node Primary.Primary → List (Node MemAccess.MemAccess) → Erased
-operand_parts s item access = node Label.mult s (node Label.unary s (node Label.member s (node Label.primary item.span (primary_parts item.inner) (access_items access)) none) none) none
-
+-- an operand that a primary and what is accessed in it make
 abbrev pub IsOperandOf : Node Primary.Primary → List (Node MemAccess.MemAccess) → Span → Node Add.Add → Type 0
 IsOperandOf item access s n = (add_parts n.inner ≡ operand_parts s item access) × (n.span ≡ s)
 

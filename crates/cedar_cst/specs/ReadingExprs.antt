@@ -31,8 +31,8 @@ use Rattle.cedar_tree.specs.declared.tree.MemAccess as MemAccess
 use Rattle.cedar_tree.specs.declared.tree.Primary as Primary
 use Rattle.cedar_tree.specs.declared.tree.RecInit as RecInit
 use Rattle.cedar_tree.specs.Erased.{Erased, node, variant, name_tree, relop_text, addop_text, signs, expr_parts, or_parts, relation_parts, add_parts, mult_parts, unary_parts, access_parts, primary_parts}
-use Rattle.cedar_cst.specs.Reading.{kind, Fails, Stands, access_items, last_end}
-use Rattle.cedar_cst.specs.ReadingItems.{item_trees}
+use Rattle.cedar_cst.specs.Reading.{kind, Fails, Stands, last_end}
+use Rattle.cedar_tree.specs.NodeLists.{access_items, and_parts, init_parts, item_trees, member_parts, operand_trees}
 
 -- Readers where so many brackets and ifs may still be nested.
 abbrev pub has_room : ℕ → Bool
@@ -63,27 +63,13 @@ end_of_last operand e (y ∷ ys) = end_of_last operand (operand y).span.end ys
 
 -- A first operand, and further ones behind their signs.
 module _ {X Y : Type 0} (l : Label) (parts : X → Erased) (sign : Y → List ℕ) (operand : Y → Node X) where
-  abbrev pub operand_trees : List Y → Erased
-  operand_trees [] = none
-  operand_trees (y ∷ ys) = leaf (sign y) (node l (operand y).span (parts (operand y).inner) (operand_trees ys))
-
   -- where the last operand ends
   abbrev pub operands_end : ℕ → List Y → ℕ
   operands_end = end_of_last operand
 
   abbrev pub IsChainOf : {Z : Type 0} → (Z → Erased) → Node X → List Y → Node Z → Type 0
   IsChainOf whole first more n =
-      (whole n.inner ≡ node l first.span (parts first.inner) (operand_trees more)) × (n.span ≡ record { start = first.span.start; end = operands_end first.span.end more })
-
--- The parts of nodes that other nodes hold.
-abbrev pub and_parts : And.And → Erased
-and_parts a = node Label.relation a.initial.span (relation_parts a.initial.inner) (operand_trees Label.relation relation_parts (λ _. codes "&&") (λ n. n) a.extended.items)
-
-abbrev pub member_parts : Member.Member → Erased
-member_parts m = node Label.primary m.item.span (primary_parts m.item.inner) (access_items m.access.items)
-
-abbrev pub init_parts : RecInit.RecInit → Erased
-init_parts r = node Label.primary r.key.span (primary_parts r.key.inner) (leaf (codes ":") (node Label.expr r.value.span (expr_parts r.value.inner) none))
+      (whole n.inner ≡ node l first.span (parts first.inner) (operand_trees l parts sign operand more)) × (n.span ≡ record { start = first.span.start; end = operands_end first.span.end more })
 
 abbrev pub IsOrOf : Node And.And → List (Node And.And) → Node Or.Or → Type 0
 IsOrOf = IsChainOf Label.and and_parts (λ _. codes "||") (λ n. n) or_parts

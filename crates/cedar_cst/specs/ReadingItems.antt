@@ -10,21 +10,13 @@ use Rattle.cedar_cst.specs.declared.cst.reading.Refusal.{Refusal}
 use Rattle.cedar_tree.specs.declared.tree.Node.{Node}
 use Rattle.cedar_tree.specs.declared.tree.Expr as Expr
 use Rattle.cedar_tree.specs.declared.tree.Primary as Primary
+use Rattle.cedar_tree.specs.NodeLists.{item_trees}
 use Rattle.cedar_tree.specs.Erased.{Erased, node, variant, expr_parts, primary_parts}
 use Rattle.cedar_cst.specs.Lexemes.{nodes_of}
 use Rattle.cedar_cst.specs.Reading.{AreRight, Fails, Stands}
 use Rattle.cedar_cst.specs.ReadingParts.{variable_parts}
 use Rattle.cedar_tree.specs.declared.tree.VariableDef.{VariableDef}
 use Rattle.cedar_tokens.specs.declared.token.Span.{Span}
-
-abbrev pub more_trees : {X : Type 0} → Label → (X → Erased) → List (Node X) → Erased
-more_trees l parts [] = none
-more_trees l parts (n ∷ ns) = leaf (codes ",") (node l n.span (parts n.inner) (more_trees l parts ns))
-
--- items with commas between them
-abbrev pub item_trees : {X : Type 0} → Label → (X → Erased) → List (Node X) → Erased
-item_trees l parts [] = none
-item_trees l parts (n ∷ ns) = node l n.span (parts n.inner) (more_trees l parts ns)
 
 -- before a closing bracket these trees stand for those inside, without a trailing comma
 abbrev pub StandsItems : Erased → Forest Label Lexeme → Type 0

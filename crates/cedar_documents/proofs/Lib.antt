@@ -29,3 +29,6 @@ pub mod Grammatical
 pub mod FittingTrees
 pub mod Accepting
 pub mod Keeping
+pub mod Focus
+pub mod Marks
+pub mod Opened

@@ -12,3 +12,4 @@ pub mod Laws
 pub mod GrammarTrees
 pub mod Canonical
 pub mod Kept
+pub mod NodeDocuments

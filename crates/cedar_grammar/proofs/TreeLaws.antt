@@ -60,7 +60,7 @@ module _ {A : Type 0} (kind : A → Kind) where
   pub typed_tree_is_unique : TypedTreeIsUnique kind
   typed_tree_is_unique = set_same kind
 
-  typed_leaves : {k : NodeKind} (t : Tree A k) → yield (parts kind t) ≡ T.yield t
+  pub typed_leaves : {k : NodeKind} (t : Tree A k) → yield (parts kind t) ≡ T.yield t
   typed_leaves (name_one x) = refl
   typed_leaves (name_more x c r) = simp (typed_leaves r) refl
   typed_leaves (ref_of n c s) = simp (append-nil, typed_leaves n) refl
@@ -104,7 +104,7 @@ module _ {A : Type 0} (kind : A → Kind) where
   typed_leaves (plain_expr o) = simp (append-nil, typed_leaves o) refl
   typed_leaves (if_expr i c t a f b) = simp (append-nil, typed_leaves c, typed_leaves a, typed_leaves b) refl
 
-  part_leaves : {k : PartKind} (t : Clause A k) → yield (part_parts kind t) ≡ part_yield t
+  pub part_leaves : {k : PartKind} (t : Clause A k) → yield (part_parts kind t) ≡ part_yield t
   part_leaves (variable_bare v) = refl
   part_leaves (variable_is v i n) = simp (append-nil, typed_leaves n) refl
   part_leaves (variable_op v o a) = simp (append-nil, typed_leaves a) refl

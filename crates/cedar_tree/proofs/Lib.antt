@@ -3,3 +3,4 @@ pub mod RefusalLaws
 pub mod ErasedSame
 pub mod Comparing
 pub mod ComparedRows
+pub mod Views

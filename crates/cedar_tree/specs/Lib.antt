@@ -3,3 +3,4 @@ pub mod Same
 pub mod Refusals
 pub mod NodeTrees
 pub mod Laws
+pub mod NodeLists

@@ -8,7 +8,8 @@ ghost use Rattle.cedar_grammar.specs.Reader.Lines.{◌▸◌, one_of, maybe, pat
 ghost use Rattle.cedar_tree.specs.Erased.{expr_parts, or_parts, relation_parts, add_parts, mult_parts, unary_parts, access_parts, primary_parts};
 ghost use Rattle.cedar_cst.specs.Reading.{GivesNode, GivesBehind, relop_kind};
 ghost use Rattle.cedar_cst.specs.ReadingItems.{GivesItems};
-ghost use Rattle.cedar_cst.specs.ReadingExprs.{at_depth, and_parts, member_parts, init_parts, if_rule, bracket_rule, GivesSigned, GivesTypeTest, GivesItem};
+ghost use Rattle.cedar_cst.specs.ReadingExprs.{at_depth, if_rule, bracket_rule, GivesSigned, GivesTypeTest, GivesItem};
+ghost use Rattle.cedar_tree.specs.NodeLists.{and_parts, init_parts, member_parts};
 
 use crate::cst::lexeme::Lexeme;
 use crate::cst::nodes::{

@@ -1,7 +1,18 @@
 //! The documents of expressions.
-ghost use Rattle.std.specs.Prelude.{◌≡◌};
-ghost use Rattle.cedar_layout.specs.Lookups.{AreInOrder};
+ghost use Rattle.std.specs.Prelude.{◌≡◌, ◌∷◌, ◌++◌, [], Some, codes, IfOk, IsTrue, IsFalse};
+ghost use Rattle.cedar_tokens.specs.Listing.{token_value};
+ghost use Rattle.cedar_grammar.specs.Trees.{Label, branch, none};
+ghost use Rattle.cedar_grammar.specs.TypedTrees.{Tree, yield};
+ghost use Rattle.cedar_grammar.specs.TypedTrees as kind;
+ghost use Rattle.cedar_tree.specs.Erased.{access_parts, add_parts, expr_parts, mult_parts, or_parts, path_parts, primary_parts, relation_parts, relop_text, unary_parts};
+ghost use Rattle.cedar_tree.specs.NodeLists.{access_items, and_parts, init_parts, item_trees, member_parts};
+ghost use Rattle.cedar_layout.specs.Comments.{space};
+ghost use Rattle.cedar_layout.specs.Layout.{◌·◌, group, line, line_or_nil, nest, nil};
+ghost use Rattle.cedar_layout.specs.Value.{doc_of};
+ghost use Rattle.cedar_layout.specs.Lookups.{AreInOrder, Shown};
 ghost use Rattle.cedar_documents.specs.Kept.{KeepsTokens};
+ghost use Rattle.cedar_documents.specs.NodeDocuments.{IsAt, IsNodeOf, Shows, ShowsBehind, as_leaf, document, text_of};
+ghost use Rattle.cedar_documents.specs.Table.{leaf};
 
 use crate::config::Context;
 use crate::doc::names::{
@@ -22,31 +33,6 @@ use cedar_tree::tree::{
 };
 use std::alloc::{AllocError, Global};
 
-// The brackets round a part.
-#[derive(Drop)]
-struct Brackets<'src> {
-    open: Document<'src>,
-    close: Document<'src>,
-}
-
-// The brackets that a part starts and ends with.
-fn brackets_doc<'src>(
-    alloc: Global,
-    open: &'src str,
-    close: &'src str,
-    span: Span,
-    context: &mut Context<'_, 'src>,
-) -> Result<Brackets<'src>, AllocError>
-    requires { AreInOrder context.old.tokens.items }
-    ensures order { AreInOrder context.new.tokens.items }
-    ensures kept { KeepsTokens context.old.tokens.items context.new.tokens.items }
-    ensures config { context.new.config ≡ context.old.config }
-{
-    let open = mark_at_start(alloc, open, span, Document::Nil, context)?;
-    let close = mark_at_end(alloc, close, span, Document::Nil, context)?;
-    Ok(Brackets { open, close })
-}
-
 /// The document of an expression.
 #[cycle(documents)]
 pub(super) fn expr_doc<'src>(
@@ -59,6 +45,7 @@ pub(super) fn expr_doc<'src>(
     ensures order { AreInOrder context.new.tokens.items }
     ensures kept { KeepsTokens context.old.tokens.items context.new.tokens.items }
     ensures config { context.new.config ≡ context.old.config }
+    ensures shows { (t : Tree Shown kind.expr) → IsAt span (yield t) → IsNodeOf (expr_parts expr.now) t → Shows result context.old.tokens.items context.new.tokens.items (yield t) (document context.old.config.now.indent_width t) }
 {
     match expr {
         Expr::If(test, yes, no) => {
@@ -86,7 +73,9 @@ fn on_next_line<'src>(
     part: Document<'src>,
     indent: isize,
     rest: Document<'src>,
-) -> Result<Document<'src>, AllocError> {
+) -> Result<Document<'src>, AllocError>
+    ensures { IfOk result (λ d. doc_of d ≡ doc_of keyword.entry · nest indent (line · doc_of part.entry) · doc_of rest.entry) }
+{
     let behind = Document::Line.append(alloc, part)?.nest(alloc, indent)?;
     keyword.append(alloc, behind.append(alloc, rest)?)
 }
@@ -102,6 +91,7 @@ pub(super) fn or_doc<'src>(
     ensures order { AreInOrder context.new.tokens.items }
     ensures kept { KeepsTokens context.old.tokens.items context.new.tokens.items }
     ensures config { context.new.config ≡ context.old.config }
+    ensures shows { (t : Tree Shown kind.ors) → IsNodeOf (or_parts or.now) t → Shows result context.old.tokens.items context.new.tokens.items (yield t) (document context.old.config.now.indent_width t) }
 {
     let first = and_doc(alloc, &or.initial.inner, context)?;
     if or.extended.is_empty() {
@@ -128,6 +118,7 @@ pub(super) fn and_doc<'src>(
     ensures order { AreInOrder context.new.tokens.items }
     ensures kept { KeepsTokens context.old.tokens.items context.new.tokens.items }
     ensures config { context.new.config ≡ context.old.config }
+    ensures shows { (t : Tree Shown kind.ands) → IsNodeOf (and_parts and.now) t → Shows result context.old.tokens.items context.new.tokens.items (yield t) (document context.old.config.now.indent_width t) }
 {
     let first = relation_doc(alloc, &and.initial.inner, context)?;
     if and.extended.is_empty() {
@@ -154,6 +145,7 @@ pub(super) fn relation_doc<'src>(
     ensures order { AreInOrder context.new.tokens.items }
     ensures kept { KeepsTokens context.old.tokens.items context.new.tokens.items }
     ensures config { context.new.config ≡ context.old.config }
+    ensures shows { (t : Tree Shown kind.relation) → IsNodeOf (relation_parts relation.now) t → Shows result context.old.tokens.items context.new.tokens.items (yield t) (document context.old.config.now.indent_width t) }
 {
     match relation {
         Relation::Common { initial, extended } => {
@@ -184,7 +176,10 @@ pub(super) fn relation_doc<'src>(
             in_entity,
         } => {
             let first = add_doc(alloc, &target.inner, context)?;
-            is_doc(alloc, in_entity, entity_type, target.span, first, context)
+            match in_entity {
+                Some(entity) => is_in_doc(alloc, entity, entity_type, target.span, first, context),
+                None => is_doc(alloc, entity_type, target.span, first, context),
+            }
         }
     }
 }
@@ -204,6 +199,8 @@ fn comparison_doc<'src>(
     ensures order { AreInOrder context.new.tokens.items }
     ensures kept { KeepsTokens context.old.tokens.items context.new.tokens.items }
     ensures config { context.new.config ≡ context.old.config }
+    ensures shows { (o : Shown) (b : Tree Shown kind.add) → relop_text op ≡ token_value (text_of o) → IsNodeOf (add_parts right.now.inner) b
+        → ShowsBehind before.end result context.old.tokens.items context.new.tokens.items (o ∷ yield b) (doc_of left.entry · space · leaf (as_leaf o) · space · document context.old.config.now.indent_width b) }
 {
     let operator = between_spaces(alloc, rel_op_text(op), before, context)?;
     let right = add_doc(alloc, &right.inner, context)?;
@@ -225,6 +222,9 @@ fn keyword_doc<'src>(
     ensures order { AreInOrder context.new.tokens.items }
     ensures kept { KeepsTokens context.old.tokens.items context.new.tokens.items }
     ensures config { context.new.config ≡ context.old.config }
+    ensures shows { (o : Shown) (b : Tree Shown kind.add) → keyword.now ≡ token_value (text_of o) → IsNodeOf (add_parts right.now.inner) b
+        → ShowsBehind before.end result context.old.tokens.items context.new.tokens.items (o ∷ yield b)
+        (group (doc_of left.entry · line · leaf (as_leaf o) · line · nest context.old.config.now.indent_width (document context.old.config.now.indent_width b))) }
 {
     let middle = between_lines(alloc, keyword, before, context)?;
     let right = add_doc(alloc, &right.inner, context)?;
@@ -233,12 +233,9 @@ fn keyword_doc<'src>(
     Ok(whole.group(alloc)?)
 }
 
-// What stands before `is`, with the span `before`, `is` with a type, and `in` on a line of its own where it doesn't fit
-// on one.
-#[cycle(documents)]
+// What stands before `is`, with the span `before`, `is` and a type; it doesn't break round `is`.
 fn is_doc<'src>(
     alloc: Global,
-    in_entity: &Option<Node<Add<'src>>>,
     entity_type: &Node<Name<'src>>,
     before: Span,
     left: Document<'src>,
@@ -248,19 +245,45 @@ fn is_doc<'src>(
     ensures order { AreInOrder context.new.tokens.items }
     ensures kept { KeepsTokens context.old.tokens.items context.new.tokens.items }
     ensures config { context.new.config ≡ context.old.config }
+    ensures shows { (o : Shown) (n : Tree Shown kind.name) → codes "is" ≡ token_value (text_of o) → IsNodeOf (path_parts entity_type.now.inner.path.items entity_type.now.inner.name) n
+        → ShowsBehind before.end result context.old.tokens.items context.new.tokens.items (o ∷ yield n)
+        (group (doc_of left.entry · space · leaf (as_leaf o) · space · nest context.old.config.now.indent_width (document context.old.config.now.indent_width n))) }
 {
     let is_word = between_spaces(alloc, "is", before, context)?;
     let type_name = name_doc(alloc, &entity_type.inner, context)?;
+    let type_name = type_name.nest(alloc, context.config.indent_width)?;
+    let whole = left.append(alloc, is_word.append(alloc, type_name)?)?;
+    Ok(whole.group(alloc)?)
+}
+
+// What stands before `is`, with the span `before`, `is` with a type, and `in` with an entity on a line of its own where it
+// doesn't fit on one.
+#[cycle(documents)]
+fn is_in_doc<'src>(
+    alloc: Global,
+    entity: &Node<Add<'src>>,
+    entity_type: &Node<Name<'src>>,
+    before: Span,
+    left: Document<'src>,
+    context: &mut Context<'_, 'src>,
+) -> Made<'src>
+    requires { AreInOrder context.old.tokens.items }
+    ensures order { AreInOrder context.new.tokens.items }
+    ensures kept { KeepsTokens context.old.tokens.items context.new.tokens.items }
+    ensures config { context.new.config ≡ context.old.config }
+    ensures shows { (o p : Shown) (n : Tree Shown kind.name) (b : Tree Shown kind.add) → codes "is" ≡ token_value (text_of o) → codes "in" ≡ token_value (text_of p)
+        → IsNodeOf (path_parts entity_type.now.inner.path.items entity_type.now.inner.name) n → IsAt entity_type.now.span (yield n) → IsNodeOf (add_parts entity.now.inner) b
+        → ShowsBehind before.end result context.old.tokens.items context.new.tokens.items (o ∷ yield n ++ p ∷ yield b)
+        (group (doc_of left.entry · space · leaf (as_leaf o) · space · nest context.old.config.now.indent_width (document context.old.config.now.indent_width n)
+        · line · leaf (as_leaf p) · space · nest context.old.config.now.indent_width (document context.old.config.now.indent_width b))) }
+{
+    let is_word = between_spaces(alloc, "is", before, context)?;
+    let type_name = name_doc(alloc, &entity_type.inner, context)?;
+    let in_word = mark_after(alloc, "in", entity_type.span, Document::Nil, context)?;
+    let container = add_doc(alloc, &entity.inner, context)?;
     let indent = context.config.indent_width;
+    let container = in_doc(alloc, in_word, container, indent)?;
     let type_name = type_name.nest(alloc, indent)?;
-    let container = match in_entity {
-        Some(entity) => {
-            let in_word = mark_after(alloc, "in", entity_type.span, Document::Nil, context)?;
-            let entity = add_doc(alloc, &entity.inner, context)?;
-            in_doc(alloc, in_word, entity, indent)?
-        }
-        None => Document::Nil,
-    };
     let whole = left.append(
         alloc,
         is_word.append(alloc, type_name.append(alloc, container)?)?,
@@ -274,7 +297,9 @@ fn in_doc<'src>(
     in_word: Document<'src>,
     entity: Document<'src>,
     indent: isize,
-) -> Result<Document<'src>, AllocError> {
+) -> Result<Document<'src>, AllocError>
+    ensures { IfOk result (λ d. doc_of d ≡ line · doc_of in_word.entry · space · nest indent (doc_of entity.entry)) }
+{
     let entity = entity.nest(alloc, indent)?;
     let behind_in = Document::Text(" ").append(alloc, entity)?;
     Document::Line.append(alloc, in_word.append(alloc, behind_in)?)
@@ -291,6 +316,7 @@ pub(super) fn add_doc<'src>(
     ensures order { AreInOrder context.new.tokens.items }
     ensures kept { KeepsTokens context.old.tokens.items context.new.tokens.items }
     ensures config { context.new.config ≡ context.old.config }
+    ensures shows { (t : Tree Shown kind.add) → IsNodeOf (add_parts add.now) t → Shows result context.old.tokens.items context.new.tokens.items (yield t) (document context.old.config.now.indent_width t) }
 {
     let first = mult_doc(alloc, &add.initial.inner, context)?;
     if add.extended.is_empty() {
@@ -317,6 +343,7 @@ pub(super) fn mult_doc<'src>(
     ensures order { AreInOrder context.new.tokens.items }
     ensures kept { KeepsTokens context.old.tokens.items context.new.tokens.items }
     ensures config { context.new.config ≡ context.old.config }
+    ensures shows { (t : Tree Shown kind.mult) → IsNodeOf (mult_parts mult.now) t → Shows result context.old.tokens.items context.new.tokens.items (yield t) (document context.old.config.now.indent_width t) }
 {
     let first = unary_doc(alloc, &mult.initial.inner, mult.initial.span, context)?;
     if mult.extended.is_empty() {
@@ -344,6 +371,7 @@ pub(super) fn unary_doc<'src>(
     ensures order { AreInOrder context.new.tokens.items }
     ensures kept { KeepsTokens context.old.tokens.items context.new.tokens.items }
     ensures config { context.new.config ≡ context.old.config }
+    ensures shows { (t : Tree Shown kind.unary) → IsAt span (yield t) → IsNodeOf (unary_parts unary.now) t → Shows result context.old.tokens.items context.new.tokens.items (yield t) (document context.old.config.now.indent_width t) }
 {
     let signs = match unary.op {
         Some(op) => signs_doc(alloc, op, span, unary.item.span, context)?,
@@ -408,6 +436,7 @@ pub(super) fn member_doc<'src>(
     ensures order { AreInOrder context.new.tokens.items }
     ensures kept { KeepsTokens context.old.tokens.items context.new.tokens.items }
     ensures config { context.new.config ≡ context.old.config }
+    ensures shows { (t : Tree Shown kind.member) → IsNodeOf (member_parts member.now) t → Shows result context.old.tokens.items context.new.tokens.items (yield t) (document context.old.config.now.indent_width t) }
 {
     let item = primary_doc(alloc, &member.item.inner, member.item.span, context)?;
     let accesses = accesses_doc(alloc, &member.access, context)?;
@@ -426,6 +455,7 @@ fn accesses_doc<'src>(
     ensures order { AreInOrder context.new.tokens.items }
     ensures kept { KeepsTokens context.old.tokens.items context.new.tokens.items }
     ensures config { context.new.config ≡ context.old.config }
+    ensures shows { (t : Tree Shown kind.accesses) → IsNodeOf (access_items accesses.now) t → Shows result context.old.tokens.items context.new.tokens.items (yield t) (document context.old.config.now.indent_width t) }
 {
     let mut docs = Vec::new(alloc);
     let mut before: Option<&MemAccess<'src>> = None;
@@ -460,6 +490,7 @@ pub(super) fn access_doc<'src>(
     ensures order { AreInOrder context.new.tokens.items }
     ensures kept { KeepsTokens context.old.tokens.items context.new.tokens.items }
     ensures config { context.new.config ≡ context.old.config }
+    ensures shows { (t : Tree Shown kind.accesses) → IsNodeOf (branch (Label.access, Some span) (access_parts access.now) none) t → Shows result context.old.tokens.items context.new.tokens.items (yield t) (document context.old.config.now.indent_width t) }
 {
     match access {
         MemAccess::Field(field) => {
@@ -468,10 +499,11 @@ pub(super) fn access_doc<'src>(
             Ok(dot.append(alloc, word)?)
         }
         MemAccess::Call(arguments) => {
-            let brackets = brackets_doc(alloc, "(", ")", span, context)?;
+            let open = mark_at_start(alloc, "(", span, Document::Nil, context)?;
             let items = items_doc(alloc, arguments, context)?;
+            let close = mark_at_end(alloc, ")", span, Document::Nil, context)?;
             let indent = context.config.indent_width;
-            Ok(call_doc(alloc, brackets, arguments.is_empty(), items, indent)?)
+            Ok(call_doc(alloc, arguments.is_empty(), open, items, close, indent)?)
         }
         MemAccess::Index(index) => {
             let open = mark_at_start(alloc, "[", span, Document::Nil, context)?;
@@ -485,12 +517,15 @@ pub(super) fn access_doc<'src>(
 // The arguments of a call between their brackets.
 fn call_doc<'src>(
     alloc: Global,
-    brackets: Brackets<'src>,
     is_empty: bool,
+    open: Document<'src>,
     items: Document<'src>,
+    close: Document<'src>,
     indent: isize,
-) -> Result<Document<'src>, AllocError> {
-    let Brackets { open, close } = brackets;
+) -> Result<Document<'src>, AllocError>
+    ensures empty { IsTrue is_empty → IfOk result (λ d. doc_of d ≡ doc_of open.entry · doc_of close.entry) }
+    ensures items { IsFalse is_empty → IfOk result (λ d. doc_of d ≡ doc_of open.entry · nest indent (line_or_nil · doc_of items.entry) · line_or_nil · doc_of close.entry) }
+{
     if is_empty {
         return open.append(alloc, close);
     }
@@ -511,6 +546,8 @@ fn items_doc<'src>(
     ensures order { AreInOrder context.new.tokens.items }
     ensures kept { KeepsTokens context.old.tokens.items context.new.tokens.items }
     ensures config { context.new.config ≡ context.old.config }
+    ensures none { items.now ≡ [] → Shows result context.old.tokens.items context.new.tokens.items [] nil }
+    ensures shows { (t : Tree Shown kind.args) → IsNodeOf (item_trees Label.expr expr_parts items.now) t → Shows result context.old.tokens.items context.new.tokens.items (yield t) (document context.old.config.now.indent_width t) }
 {
     let mut docs = Vec::new(alloc);
     let mut before: Option<Span> = None;
@@ -536,6 +573,7 @@ pub(super) fn primary_doc<'src>(
     ensures order { AreInOrder context.new.tokens.items }
     ensures kept { KeepsTokens context.old.tokens.items context.new.tokens.items }
     ensures config { context.new.config ≡ context.old.config }
+    ensures shows { (t : Tree Shown kind.primary) → IsAt span (yield t) → IsNodeOf (primary_parts primary.now) t → Shows result context.old.tokens.items context.new.tokens.items (yield t) (document context.old.config.now.indent_width t) }
 {
     match primary {
         Primary::Literal(literal) => {
@@ -545,20 +583,23 @@ pub(super) fn primary_doc<'src>(
         Primary::Name(name) => name_doc(alloc, &name.inner, context),
         Primary::Slot(slot) => leaf_doc(alloc, slot_text(slot.inner), slot.span, context),
         Primary::Expr(inside) => {
-            let Brackets { open, close } = brackets_doc(alloc, "(", ")", span, context)?;
+            let open = mark_at_start(alloc, "(", span, Document::Nil, context)?;
             let doc = expr_doc(alloc, &inside.inner, inside.span, context)?;
+            let close = mark_at_end(alloc, ")", span, Document::Nil, context)?;
             Ok(add_brackets(alloc, doc, open, close, 1)?.group(alloc)?)
         }
         Primary::EList(items) => {
-            let Brackets { open, close } = brackets_doc(alloc, "[", "]", span, context)?;
+            let open = mark_at_start(alloc, "[", span, Document::Nil, context)?;
             let doc = items_doc(alloc, items, context)?;
+            let close = mark_at_end(alloc, "]", span, Document::Nil, context)?;
             Ok(add_brackets(alloc, doc, open, close, 1)?)
         }
         Primary::RInits(inits) => {
-            let brackets = brackets_doc(alloc, "{", "}", span, context)?;
+            let open = mark_at_start(alloc, "{", span, Document::Nil, context)?;
             let items = inits_doc(alloc, inits, context)?;
+            let close = mark_at_end(alloc, "}", span, Document::Nil, context)?;
             let indent = context.config.indent_width;
-            Ok(record_doc(alloc, brackets, inits.is_empty(), items, indent)?)
+            Ok(record_doc(alloc, inits.is_empty(), open, items, close, indent)?)
         }
     }
 }
@@ -566,12 +607,15 @@ pub(super) fn primary_doc<'src>(
 // The keys and values of a record between their braces.
 fn record_doc<'src>(
     alloc: Global,
-    brackets: Brackets<'src>,
     is_empty: bool,
+    open: Document<'src>,
     items: Document<'src>,
+    close: Document<'src>,
     indent: isize,
-) -> Result<Document<'src>, AllocError> {
-    let Brackets { open, close } = brackets;
+) -> Result<Document<'src>, AllocError>
+    ensures empty { IsTrue is_empty → IfOk result (λ d. doc_of d ≡ doc_of open.entry · doc_of close.entry) }
+    ensures items { IsFalse is_empty → IfOk result (λ d. doc_of d ≡ doc_of open.entry · nest indent (group (line · doc_of items.entry · line)) · doc_of close.entry) }
+{
     if is_empty {
         return open.append(alloc, close);
     }
@@ -591,6 +635,8 @@ fn inits_doc<'src>(
     ensures order { AreInOrder context.new.tokens.items }
     ensures kept { KeepsTokens context.old.tokens.items context.new.tokens.items }
     ensures config { context.new.config ≡ context.old.config }
+    ensures none { inits.now ≡ [] → Shows result context.old.tokens.items context.new.tokens.items [] nil }
+    ensures shows { (t : Tree Shown kind.inits) → IsNodeOf (item_trees Label.rec_init init_parts inits.now) t → Shows result context.old.tokens.items context.new.tokens.items (yield t) (document context.old.config.now.indent_width t) }
 {
     let mut docs = Vec::new(alloc);
     let mut before: Option<Span> = None;
@@ -615,6 +661,7 @@ pub(super) fn init_doc<'src>(
     ensures order { AreInOrder context.new.tokens.items }
     ensures kept { KeepsTokens context.old.tokens.items context.new.tokens.items }
     ensures config { context.new.config ≡ context.old.config }
+    ensures shows { (t : Tree Shown kind.init) → IsNodeOf (init_parts init.now) t → Shows result context.old.tokens.items context.new.tokens.items (yield t) (document context.old.config.now.indent_width t) }
 {
     let key = primary_doc(alloc, &init.key.inner, init.key.span, context)?;
     let colon = mark_after(alloc, ":", init.key.span, Document::Nil, context)?;

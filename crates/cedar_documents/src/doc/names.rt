@@ -1,7 +1,14 @@
 //! The documents of words, strings, literals, slots, paths and entities.
-ghost use Rattle.std.specs.Prelude.{◌≡◌};
-ghost use Rattle.cedar_layout.specs.Lookups.{AreInOrder};
+ghost use Rattle.std.specs.Prelude.{◌≡◌, ◌∷◌, [], ℤ, codes};
+ghost use Rattle.cedar_tokens.specs.Listing.{token_value};
+ghost use Rattle.cedar_grammar.specs.Trees.{leaf, none};
+ghost use Rattle.cedar_grammar.specs.TypedTrees.{Tree, yield};
+ghost use Rattle.cedar_grammar.specs.TypedTrees as kind;
+ghost use Rattle.cedar_tree.specs.Erased.{addop_text, literal_text, name_tree, path_parts, relop_text, slot_text, str_tree};
+ghost use Rattle.cedar_layout.specs.Lookups.{AreInOrder, Shown};
 ghost use Rattle.cedar_documents.specs.Kept.{KeepsTokens};
+ghost use Rattle.cedar_documents.specs.NodeDocuments.{IsNodeOf, Shows, as_leaf, document, text_of};
+ghost use Rattle.cedar_documents.specs.Table as table;
 
 use crate::config::Context;
 use crate::doc::taking::take_at_start;
@@ -24,6 +31,7 @@ pub(super) fn leaf_doc<'src>(
     ensures order { AreInOrder context.new.tokens.items }
     ensures kept { KeepsTokens context.old.tokens.items context.new.tokens.items }
     ensures config { context.new.config ≡ context.old.config }
+    ensures shows { (t : Shown) → t.span.start ≡ span.start → text.now ≡ token_value (text_of t) → Shows result context.old.tokens.items context.new.tokens.items (t ∷ []) (table.leaf (as_leaf t)) }
 {
     match take_at_start(span, context) {
         Some(comment) => Ok(add_comment(alloc, Document::Text(text), &comment, Document::Nil)?),
@@ -41,6 +49,7 @@ pub(super) fn name_doc<'src>(
     ensures order { AreInOrder context.new.tokens.items }
     ensures kept { KeepsTokens context.old.tokens.items context.new.tokens.items }
     ensures config { context.new.config ≡ context.old.config }
+    ensures shows { (i : ℤ) (t : Tree Shown kind.name) → IsNodeOf (path_parts name.now.path.items name.now.name) t → Shows result context.old.tokens.items context.new.tokens.items (yield t) (document i t) }
 {
     let mut docs = Vec::new(alloc);
     for word in &name.path {
@@ -61,6 +70,7 @@ pub(super) fn ref_doc<'src>(
     ensures order { AreInOrder context.new.tokens.items }
     ensures kept { KeepsTokens context.old.tokens.items context.new.tokens.items }
     ensures config { context.new.config ≡ context.old.config }
+    ensures shows { (i : ℤ) (t : Tree Shown kind.ref) → IsNodeOf (name_tree entity.now.path (leaf (codes "::") (str_tree entity.now.eid none))) t → Shows result context.old.tokens.items context.new.tokens.items (yield t) (document i t) }
 {
     let path = name_doc(alloc, &entity.path.inner, context)?;
     let colons = mark_after(alloc, "::", entity.path.span, Document::Nil, context)?;
@@ -69,7 +79,9 @@ pub(super) fn ref_doc<'src>(
 }
 
 /// The text of a literal; that of a number has no leading zeros.
-pub(super) fn literal_text<'src>(literal: &Literal<'src>) -> &'src str {
+pub(super) fn literal_text<'src>(literal: &Literal<'src>) -> &'src str
+    ensures { result.now ≡ literal_text literal.now }
+{
     match literal {
         Literal::True => "true",
         Literal::False => "false",
@@ -79,7 +91,9 @@ pub(super) fn literal_text<'src>(literal: &Literal<'src>) -> &'src str {
 }
 
 /// The text of a slot.
-pub(super) fn slot_text(slot: Slot) -> &'static str {
+pub(super) fn slot_text(slot: Slot) -> &'static str
+    ensures { result.now ≡ slot_text slot }
+{
     match slot {
         Slot::Principal => "?principal",
         Slot::Resource => "?resource",
@@ -87,7 +101,9 @@ pub(super) fn slot_text(slot: Slot) -> &'static str {
 }
 
 /// The text of `+` or `-`.
-pub(super) fn add_op_text(op: AddOp) -> &'static str {
+pub(super) fn add_op_text(op: AddOp) -> &'static str
+    ensures { result.now ≡ addop_text op }
+{
     match op {
         AddOp::Plus => "+",
         AddOp::Minus => "-",
@@ -95,7 +111,9 @@ pub(super) fn add_op_text(op: AddOp) -> &'static str {
 }
 
 /// The text of a comparison.
-pub(super) fn rel_op_text(op: RelOp) -> &'static str {
+pub(super) fn rel_op_text(op: RelOp) -> &'static str
+    ensures { result.now ≡ relop_text op }
+{
     match op {
         RelOp::Less => "<",
         RelOp::LessEq => "<=",

@@ -1,7 +1,14 @@
 //! The documents of single tokens: the leading lines, the token, and its trailing text or what stands in its place.
-ghost use Rattle.std.specs.Prelude.{◌≡◌};
-ghost use Rattle.cedar_layout.specs.Lookups.{AreInOrder};
+ghost use Rattle.std.specs.Prelude.{◌≡◌, ◌∷◌, [], codes, IfOk, IsSomeAnd};
+ghost use Rattle.cedar_tokens.specs.Listing.{token_value};
+ghost use Rattle.cedar_layout.specs.Comments.{space, lead_of, trail_of};
+ghost use Rattle.cedar_layout.specs.Layout.{◌·◌, line};
+ghost use Rattle.cedar_layout.specs.Layout as layout;
+ghost use Rattle.cedar_layout.specs.Value.{doc_of};
+ghost use Rattle.cedar_layout.specs.Lookups.{AreInOrder, Parts, Shown, comment_parts};
 ghost use Rattle.cedar_documents.specs.Kept.{KeepsTokens};
+ghost use Rattle.cedar_documents.specs.NodeDocuments.{Shows, ShowsBehind, as_leaf, text_of};
+ghost use Rattle.cedar_documents.specs.Table.{C, leaf};
 
 use crate::config::Context;
 use crate::doc::taking::{take_after, take_at_end, take_at_start};
@@ -16,7 +23,9 @@ fn commented<'src>(
     text: &'src str,
     comment: Option<Comment<'src>>,
     next: Document<'src>,
-) -> Result<Document<'src>, AllocError> {
+) -> Result<Document<'src>, AllocError>
+    ensures { (parts : Parts) → IsSomeAnd comment.entry (λ c. comment_parts c ≡ parts) → IfOk result (λ d. doc_of d ≡ lead_of parts.leading · layout.text text.now · trail_of parts.trailing (doc_of next.entry)) }
+{
     match comment {
         Some(comment) => add_comment(alloc, Document::Text(text), &comment, next),
         None => Document::Text(text).append(alloc, next),
@@ -35,6 +44,7 @@ pub(super) fn mark_at_start<'src>(
     ensures order { AreInOrder context.new.tokens.items }
     ensures kept { KeepsTokens context.old.tokens.items context.new.tokens.items }
     ensures config { context.new.config ≡ context.old.config }
+    ensures shows { (t : Shown) → t.span.start ≡ span.start → text.now ≡ token_value (text_of t) → Shows result context.old.tokens.items context.new.tokens.items (t ∷ []) (C (as_leaf t) (doc_of next.entry)) }
 {
     let comment = take_at_start(span, context);
     commented(alloc, text, comment, next)
@@ -52,6 +62,7 @@ pub(super) fn mark_at_end<'src>(
     ensures order { AreInOrder context.new.tokens.items }
     ensures kept { KeepsTokens context.old.tokens.items context.new.tokens.items }
     ensures config { context.new.config ≡ context.old.config }
+    ensures shows { (t : Shown) → t.span.end ≡ span.end → text.now ≡ token_value (text_of t) → Shows result context.old.tokens.items context.new.tokens.items (t ∷ []) (C (as_leaf t) (doc_of next.entry)) }
 {
     let comment = take_at_end(span, context);
     commented(alloc, text, comment, next)
@@ -69,6 +80,7 @@ pub(super) fn mark_after<'src>(
     ensures order { AreInOrder context.new.tokens.items }
     ensures kept { KeepsTokens context.old.tokens.items context.new.tokens.items }
     ensures config { context.new.config ≡ context.old.config }
+    ensures shows { (t : Shown) → text.now ≡ token_value (text_of t) → ShowsBehind span.end result context.old.tokens.items context.new.tokens.items (t ∷ []) (C (as_leaf t) (doc_of next.entry)) }
 {
     let comment = take_after(span, context);
     commented(alloc, text, comment, next)
@@ -85,6 +97,7 @@ pub(super) fn space_operator_line<'src>(
     ensures order { AreInOrder context.new.tokens.items }
     ensures kept { KeepsTokens context.old.tokens.items context.new.tokens.items }
     ensures config { context.new.config ≡ context.old.config }
+    ensures shows { (t : Shown) → text.now ≡ token_value (text_of t) → ShowsBehind span.end result context.old.tokens.items context.new.tokens.items (t ∷ []) (space · C (as_leaf t) line) }
 {
     let operator = mark_after(alloc, text, span, Document::Line, context)?;
     Document::Text(" ").append(alloc, operator)
@@ -101,6 +114,7 @@ pub(super) fn space_operator_and_line<'src>(
     ensures order { AreInOrder context.new.tokens.items }
     ensures kept { KeepsTokens context.old.tokens.items context.new.tokens.items }
     ensures config { context.new.config ≡ context.old.config }
+    ensures shows { (t : Shown) → text.now ≡ token_value (text_of t) → ShowsBehind span.end result context.old.tokens.items context.new.tokens.items (t ∷ []) (space · leaf (as_leaf t) · line) }
 {
     let operator = mark_after(alloc, text, span, Document::Nil, context)?;
     Document::Text(" ").append(alloc, operator.append(alloc, Document::Line)?)
@@ -117,6 +131,7 @@ pub(super) fn between_spaces<'src>(
     ensures order { AreInOrder context.new.tokens.items }
     ensures kept { KeepsTokens context.old.tokens.items context.new.tokens.items }
     ensures config { context.new.config ≡ context.old.config }
+    ensures shows { (t : Shown) → text.now ≡ token_value (text_of t) → ShowsBehind span.end result context.old.tokens.items context.new.tokens.items (t ∷ []) (space · leaf (as_leaf t) · space) }
 {
     let operator = mark_after(alloc, text, span, Document::Nil, context)?;
     Document::Text(" ").append(alloc, operator.append(alloc, Document::Text(" "))?)
@@ -133,6 +148,7 @@ pub(super) fn between_lines<'src>(
     ensures order { AreInOrder context.new.tokens.items }
     ensures kept { KeepsTokens context.old.tokens.items context.new.tokens.items }
     ensures config { context.new.config ≡ context.old.config }
+    ensures shows { (t : Shown) → text.now ≡ token_value (text_of t) → ShowsBehind span.end result context.old.tokens.items context.new.tokens.items (t ∷ []) (line · leaf (as_leaf t) · line) }
 {
     let keyword = mark_after(alloc, text, span, Document::Nil, context)?;
     Document::Line.append(alloc, keyword.append(alloc, Document::Line)?)
@@ -148,6 +164,7 @@ pub(super) fn comma_and_line<'src>(
     ensures order { AreInOrder context.new.tokens.items }
     ensures kept { KeepsTokens context.old.tokens.items context.new.tokens.items }
     ensures config { context.new.config ≡ context.old.config }
+    ensures shows { (t : Shown) → codes "," ≡ token_value (text_of t) → ShowsBehind span.end result context.old.tokens.items context.new.tokens.items (t ∷ []) (leaf (as_leaf t) · line) }
 {
     let comma = mark_after(alloc, ",", span, Document::Nil, context)?;
     comma.append(alloc, Document::Line)

@@ -11,8 +11,9 @@ use Rattle.cedar_grammar.proofs.ReadingLaws.{tree_fails, both_fails}
 use Rattle.cedar_tree.specs.Erased.{addop_text, expr_parts, or_parts, relation_parts, add_parts, mult_parts, unary_parts, access_parts, primary_parts}
 use Rattle.cedar_cst.specs.Reading.{kind, flat, addop_kind, relop_kind, first_place}
 use Rattle.cedar_cst.specs.ReadingParts.{literal_rule, key_rule, Makes}
-use Rattle.cedar_cst.specs.ReadingItems.{item_trees, StandsItems, IsListOf}
-use Rattle.cedar_cst.specs.ReadingExprs.{at_depth, and_parts, init_parts, if_rule, bracket_rule, IsParensOf, IsRecordOf, TellsVariable}
+use Rattle.cedar_cst.specs.ReadingItems.{StandsItems, IsListOf}
+use Rattle.cedar_tree.specs.NodeLists.{and_parts, init_parts, item_trees}
+use Rattle.cedar_cst.specs.ReadingExprs.{at_depth, if_rule, bracket_rule, IsParensOf, IsRecordOf, TellsVariable}
 use Rattle.cedar_tree.specs.declared.tree.MultOp.{MultOp}
 use Rattle.cedar_cst.proofs.Steps.{passes, fails_as, gives_as, is_itself, first_begins, token_at, token_not}
 use Rattle.cedar_cst.proofs.Rows.{row_parts, row_span}

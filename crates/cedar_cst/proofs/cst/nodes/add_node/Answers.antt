@@ -3,7 +3,7 @@ use Rattle.cedar_cst.specs.ReadingExprs.{end_of_last}
 use Rattle.cedar_tree.specs.declared.tree.Node.{Node}
 use Rattle.cedar_tree.specs.declared.tree.AddOp.{AddOp}
 use Rattle.cedar_tree.specs.declared.tree.Mult as Mult
-use Rattle.cedar_cst.proofs.Views.{view_add}
+use Rattle.cedar_tree.proofs.Views.{view_add}
 use Rattle.cedar_cst.proofs.cst.nodes.add_node.Goals as goal
 
 pub returns : goal.returns

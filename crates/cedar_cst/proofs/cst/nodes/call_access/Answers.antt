@@ -1,5 +1,5 @@
 use Rattle.std.proofs.Common.{refl}
-use Rattle.cedar_cst.proofs.Views.{view_call}
+use Rattle.cedar_tree.proofs.Views.{view_call}
 use Rattle.cedar_cst.proofs.cst.nodes.call_access.Goals as goal
 
 pub returns : goal.returns

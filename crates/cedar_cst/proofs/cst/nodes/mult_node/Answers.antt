@@ -3,7 +3,7 @@ use Rattle.cedar_cst.specs.ReadingExprs.{end_of_last}
 use Rattle.cedar_tree.specs.declared.tree.Node.{Node}
 use Rattle.cedar_tree.specs.declared.tree.MultOp.{MultOp}
 use Rattle.cedar_tree.specs.declared.tree.Unary as Unary
-use Rattle.cedar_cst.proofs.Views.{view_mult}
+use Rattle.cedar_tree.proofs.Views.{view_mult}
 use Rattle.cedar_cst.proofs.cst.nodes.mult_node.Goals as goal
 
 pub returns : goal.returns

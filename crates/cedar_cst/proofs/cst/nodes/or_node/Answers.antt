@@ -2,7 +2,7 @@ use Rattle.std.proofs.Common.{ap, ◌∙◌}
 use Rattle.cedar_cst.specs.ReadingExprs.{end_of_last}
 use Rattle.cedar_tree.specs.declared.tree.Node.{Node}
 use Rattle.cedar_tree.specs.declared.tree.And as And
-use Rattle.cedar_cst.proofs.Views.{view_or}
+use Rattle.cedar_tree.proofs.Views.{view_or}
 use Rattle.cedar_cst.proofs.cst.nodes.or_node.Goals as goal
 
 pub returns : goal.returns

@@ -1,6 +1,6 @@
 use Rattle.std.proofs.Common.{refl, rules}
 use Rattle.cedar_tree.specs.declared.tree.Or as Or
-use Rattle.cedar_cst.proofs.Views.{no_relations, no_ands}
+use Rattle.cedar_tree.proofs.Views.{no_relations, no_ands}
 use Rattle.cedar_cst.proofs.cst.scopes.lone_or.Goals as goal
 
 pub returns : goal.returns

@@ -6,7 +6,8 @@ use Rattle.cedar_grammar.specs.Reader.Reading.{done}
 use Rattle.cedar_grammar.specs.Reader.Lines.{entity_item}
 use Rattle.cedar_tree.specs.Erased.{expr_parts}
 use Rattle.cedar_cst.specs.Reading.{flat}
-use Rattle.cedar_cst.specs.ReadingItems.{item_trees, StandsItems}
+use Rattle.cedar_cst.specs.ReadingItems.{StandsItems}
+use Rattle.cedar_tree.specs.NodeLists.{item_trees}
 use Rattle.cedar_cst.proofs.Steps.{passes}
 use Rattle.cedar_cst.proofs.Manys.{flat_takes}
 use Rattle.cedar_cst.proofs.Operands.{keep_done, keep_fails, keep_shorter}

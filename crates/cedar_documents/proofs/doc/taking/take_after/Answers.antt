@@ -1,7 +1,8 @@
-use Rattle.std.proofs.Common.{rules, map, ap, ◌∙◌}
+use Rattle.std.proofs.Common.{rules, map, ap, ◌∙◌, sym}
 use Rattle.cedar_tokens.specs.Tokens.{bare}
-use Rattle.cedar_layout.specs.Lookups.{starts_from}
+use Rattle.cedar_layout.specs.Lookups.{starts_from, shown}
 use Rattle.cedar_documents.proofs.Keeping.{kept_if_taken, refilled, order_kept}
+use Rattle.cedar_documents.proofs.Focus.{taken, first_behind}
 use Rattle.cedar_documents.proofs.doc.taking.take_after.Goals as goal
 
 pub returns-clause-kept : goal.returns-clause-kept
@@ -13,3 +14,11 @@ pub returns-clause-order : goal.returns-clause-order
 returns-clause-order c =
     let kept = kept_if_taken (starts_from c.args.span.end) c.as_mut_slice.result.now c.get_comment_after_end.new.tokens c.get_comment_after_end.result c.get_comment_after_end.ensures.answer ∙ ap (map bare) c.as_mut_slice.ensures.value in
     rw (refilled c.args.context.now.tokens.items c.get_comment_after_end.new.tokens c.args.context.now.tokens.len (search rules) kept) (order_kept c.args.context.now.tokens.items c.get_comment_after_end.new.tokens kept c.requires)
+
+pub returns-clause-taken : goal.returns-clause-taken
+returns-clause-taken c =
+    let kept = kept_if_taken (starts_from c.args.span.end) c.as_mut_slice.result.now c.get_comment_after_end.new.tokens c.get_comment_after_end.result c.get_comment_after_end.ensures.answer ∙ ap (map bare) c.as_mut_slice.ensures.value in
+    rw (refilled c.args.context.now.tokens.items c.get_comment_after_end.new.tokens c.args.context.now.tokens.len (search rules) kept)
+    (λ before t after fits e.
+    let f = first_behind c.args.context.now.tokens.items c.requires before t after e c.args.span.end fits in
+    taken (starts_from c.args.span.end) before t after f.0 f.1 (map shown c.args.context.now.tokens.items) (map shown c.get_comment_after_end.new.tokens) c.get_comment_after_end.result e (rw (sym (ap (map shown) c.as_mut_slice.ensures.value)) c.get_comment_after_end.ensures.answer))

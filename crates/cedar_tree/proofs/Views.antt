@@ -6,9 +6,7 @@ use mathlib.Core.Former.{Count}
 use Rattle.cedar_tokens.specs.declared.token.Span.{Span}
 use Rattle.cedar_grammar.specs.Trees.{Label, none, leaf, join}
 use Rattle.cedar_tree.specs.Erased.{Erased, node, addop_text, signs, access_parts, access_trees, unary_parts, mult_parts, mult_rest, add_parts, add_rest, relation_parts, and_rest, or_parts, or_rest, expr_parts, primary_parts, expr_items, more_items, init_items, more_inits, variant}
-use Rattle.cedar_cst.specs.ReadingItems.{more_trees, item_trees}
-use Rattle.cedar_cst.specs.Reading.{access_items, operand_parts}
-use Rattle.cedar_cst.specs.ReadingExprs.{operand_trees, and_parts, member_parts, init_parts}
+use Rattle.cedar_tree.specs.NodeLists.{access_items, and_parts, init_parts, item_trees, member_parts, more_trees, operand_parts, operand_trees}
 use Rattle.cedar_tree.specs.declared.tree.Node.{Node}
 use Rattle.cedar_tree.specs.declared.tree.AddOp.{AddOp}
 use Rattle.cedar_tree.specs.declared.tree.MultOp.{MultOp}
