@@ -1,19 +1,22 @@
 -- The document of a node among the tokens of a context, and what making it does to them.
-use Rattle.std.specs.Prelude.{◌≡◌, ℕ, ℤ, List, [], ◌∷◌, ◌++◌, map, Option, Some, Result, IfOk, IsSomeAnd}
+use Rattle.std.specs.Prelude.{◌≡◌, ℕ, ℤ, List, [], ◌∷◌, ◌++◌, map, Option, Some, Result, IfOk, IsSomeAnd, codes}
 use Rattle.cedar_tokens.specs.Listing.{Decorated}
 use Rattle.cedar_tokens.specs.Tokens.{token_text}
 use Rattle.cedar_tokens.specs.declared.token.Comment.{Comment}
 use Rattle.cedar_tokens.specs.declared.token.Span.{Span}
 use Rattle.cedar_tokens.specs.declared.token.WrappedToken.{WrappedToken}
 use Rattle.cedar_grammar.specs.TokenKinds.{kind_of}
-use Rattle.cedar_grammar.specs.Trees.{Label, Forest}
+use Rattle.cedar_grammar.specs.Trees.{Label, Forest, leaf, none}
 use Rattle.cedar_grammar.specs.TypedTrees.{NodeKind, Tree, PartKind, Clause, parts, part_parts, tree_map}
 use Rattle.cedar_grammar.specs.declared.kind.Kind.{Kind}
 use Rattle.cedar_layout.specs.Layout.{Doc}
 use Rattle.cedar_layout.specs.Lookups.{Shown, shown, emptied, comment_parts}
 use Rattle.cedar_layout.specs.Value.{doc_of}
 use Rattle.cedar_layout.specs.declared.layout.Document.{Document}
-use Rattle.cedar_tree.specs.Erased.{Erased}
+use Rattle.cedar_tree.specs.Erased.{Erased, ident_tree, value_parts, type_parts, operator_parts, expr_parts, node}
+use Rattle.cedar_tree.specs.declared.tree.Annotation.{Annotation}
+use Rattle.cedar_tree.specs.declared.tree.Cond.{Cond}
+use Rattle.cedar_tree.specs.declared.tree.VariableDef.{VariableDef}
 use Rattle.cedar_tree.specs.NodeTrees.{spanned, span_of}
 use Rattle.cedar_documents.specs.Leaves.{part_map}
 use Rattle.cedar_documents.specs.Table.{table, part_table}
@@ -39,6 +42,16 @@ IsNodeOf inner t = inner ≡ nodes_of (parts kind_of_shown t)
 
 abbrev pub IsPartOf : {k : PartKind} → Erased → Clause Shown k → Type 0
 IsPartOf inner t = inner ≡ nodes_of (part_parts kind_of_shown t)
+
+-- the parts of the nodes that policies hold
+abbrev pub variable_parts : VariableDef → Erased
+variable_parts v = ident_tree v.variable (type_parts v.entity_type (operator_parts v.ineq))
+
+abbrev pub annotation_parts : Annotation → Erased
+annotation_parts a = leaf (codes "@") (ident_tree a.key (value_parts a.value))
+
+abbrev pub cond_parts : Cond → Erased
+cond_parts c = ident_tree c.cond (leaf (codes "{") (node Label.expr c.expr.span (expr_parts c.expr.inner) (leaf (codes "}") none)))
 
 -- the table's document of a tree of tokens
 abbrev pub document : {k : NodeKind} → ℤ → Tree Shown k → Doc
