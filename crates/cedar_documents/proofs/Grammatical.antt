@@ -85,7 +85,7 @@ module _ {A : Type 0} (kind : A → Kind) where
       go true h = omega (arith, h)
       go false h = omega (arith, h)
 
-  plain_of_length : (ts : List A) → length (plain kind ts) ≡ length ts → plain kind ts ≡ ts
+  pub plain_of_length : (ts : List A) → length (plain kind ts) ≡ length ts → plain kind ts ≡ ts
   plain_of_length [] e = refl
   plain_of_length (a ∷ ts) e = go (is K.Comma (kind a) && begins kind is_closing ts) e (plain_shorter ts) (plain_of_length ts)
     where
@@ -120,7 +120,7 @@ plain_tree ps a = plain_list_same (tokens_of ps)
 
 -- ---- every accepted text has its tree
 
-map_length : {A B : Type 0} (f : A → B) (xs : List A) → length (map f xs) ≡ length xs
+pub map_length : {A B : Type 0} (f : A → B) (xs : List A) → length (map f xs) ≡ length xs
 map_length f [] = refl
 map_length f (x ∷ xs) = ap suc (map_length f xs)
 
@@ -167,7 +167,7 @@ tree_of_texts ts all f s w y = go (set_to kind_of_decorated greatest_depth ts) r
           leaves,
         )
 
-good_tokens : (ts : List Decorated) → AllByRecursion IsGood ts → AllTokens ts
+pub good_tokens : (ts : List Decorated) → AllByRecursion IsGood ts → AllTokens ts
 good_tokens [] a = tt
 good_tokens (t ∷ ts) a = (a.0.token, good_tokens ts a.1)
 

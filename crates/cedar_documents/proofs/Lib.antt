@@ -33,3 +33,5 @@ pub mod Focus
 pub mod Marks
 pub mod Opened
 pub mod Names
+pub mod ShownTrees
+pub mod StreamTrees
