@@ -35,3 +35,4 @@ pub mod Opened
 pub mod Names
 pub mod ShownTrees
 pub mod StreamTrees
+pub mod Answered

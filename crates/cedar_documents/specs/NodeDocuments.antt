@@ -1,13 +1,13 @@
 -- The document of a node among the tokens of a context, and what making it does to them.
-use Rattle.std.specs.Prelude.{◌≡◌, ℕ, ℤ, List, [], ◌∷◌, ◌++◌, map, Option, Some, Result, IfOk, IsSomeAnd, codes}
-use Rattle.cedar_tokens.specs.Listing.{Decorated}
+use Rattle.std.specs.Prelude.{◌≡◌, ℕ, ℤ, List, [], ◌∷◌, ◌++◌, map, Option, Some, Result, IfOk, IfSome, IsSomeAnd, codes}
+use Rattle.cedar_tokens.specs.Listing.{Decorated, token_value}
 use Rattle.cedar_tokens.specs.Tokens.{token_text}
 use Rattle.cedar_tokens.specs.declared.token.Comment.{Comment}
 use Rattle.cedar_tokens.specs.declared.token.Span.{Span}
 use Rattle.cedar_tokens.specs.declared.token.WrappedToken.{WrappedToken}
 use Rattle.cedar_grammar.specs.TokenKinds.{kind_of}
 use Rattle.cedar_grammar.specs.Trees.{Label, Forest, leaf, none}
-use Rattle.cedar_grammar.specs.TypedTrees.{NodeKind, Tree, PartKind, Clause, parts, part_parts, tree_map}
+use Rattle.cedar_grammar.specs.TypedTrees.{NodeKind, Tree, PartKind, Clause, parts, part_parts, tree_map, yield, part_yield}
 use Rattle.cedar_grammar.specs.declared.kind.Kind.{Kind}
 use Rattle.cedar_layout.specs.Layout.{Doc}
 use Rattle.cedar_layout.specs.Lookups.{Shown, shown, emptied, comment_parts}
@@ -20,6 +20,8 @@ use Rattle.cedar_tree.specs.declared.tree.VariableDef.{VariableDef}
 use Rattle.cedar_tree.specs.NodeTrees.{spanned, span_of}
 use Rattle.cedar_documents.specs.Leaves.{part_map}
 use Rattle.cedar_documents.specs.Table.{table, part_table}
+use Rattle.cedar_documents.specs.Table.{leaf as leaf_of}
+use Rattle.std.specs.declared.alloc.AllocError.{AllocError}
 
 -- the source text of a token
 abbrev pub text_of : Shown → List ℕ
@@ -84,3 +86,23 @@ Shows result old new ts doc = (before after : List Shown) → map shown old ≡ 
 abbrev pub ShowsBehind : {E : Type 0} → ℕ → Result Document E → List WrappedToken → List WrappedToken → List Shown → Doc → Type 0
 ShowsBehind place result old new ts doc = (before after : List Shown) → end_of_tokens before ≡ place → map shown old ≡ before ++ (ts ++ after)
     → IfOk result (λ d. (doc_of d ≡ doc) × (map shown new ≡ (before ++ map emptied ts) ++ after))
+
+-- a node with this span and these parts is the tree of the tokens ts, and the table's document of that tree is doc
+abbrev pub IsNodeWith : (k : NodeKind) → Span → Erased → ℤ → List Shown → Doc → Type 0
+IsNodeWith k span inner i ts doc = (t : Tree Shown k) × IsAt span (yield t) × IsNodeOf inner t × (ts ≡ yield t) × (doc ≡ document i t)
+
+-- the same of trees in a row, which have no span as a whole
+abbrev pub IsRowWith : (k : NodeKind) → Erased → ℤ → List Shown → Doc → Type 0
+IsRowWith k inner i ts doc = (t : Tree Shown k) × IsNodeOf inner t × (ts ≡ yield t) × (doc ≡ document i t)
+
+abbrev pub IsPartWith : (k : PartKind) → Span → Erased → ℤ → List Shown → Doc → Type 0
+IsPartWith k span inner i ts doc = (t : Clause Shown k) × IsAt span (part_yield t) × IsPartOf inner t × (ts ≡ part_yield t) × (doc ≡ part_document i t)
+
+-- a node of one token
+abbrev pub IsLeafWith : Span → List ℕ → List Shown → Doc → Type 0
+IsLeafWith span text ts doc = (t : Shown) × (t.span ≡ span) × (text ≡ token_value (text_of t)) × (ts ≡ t ∷ []) × (doc ≡ leaf_of (as_leaf t))
+
+-- what `to_doc` answers: the same as `Shows`, where it answers a document
+abbrev pub ShowsPart : Result (Option Document) AllocError → List WrappedToken → List WrappedToken → List Shown → Doc → Type 0
+ShowsPart result old new ts doc = (before after : List Shown) → map shown old ≡ before ++ (ts ++ after)
+    → IfOk result (λ r. IfSome r (λ d. (doc_of d ≡ doc) × (map shown new ≡ (before ++ map emptied ts) ++ after)))

@@ -1,7 +1,13 @@
 //! The document of each node: its tokens, each between its comments, with the places where a line may break.
-ghost use Rattle.std.specs.Prelude.{◌≡◌};
-ghost use Rattle.cedar_layout.specs.Lookups.{AreInOrder};
+ghost use Rattle.std.specs.Prelude.{◌≡◌, ℤ, List, [], Some, None, Ok, codes, IfOk, IfErr};
+ghost use Rattle.cedar_grammar.specs.Trees.{Label, branch, leaf, none};
+ghost use Rattle.cedar_grammar.specs.TypedTrees as kind;
+ghost use Rattle.cedar_layout.specs.Layout as layout;
+ghost use Rattle.cedar_tree.specs.Erased as erased;
+ghost use Rattle.cedar_tree.specs.NodeLists as lists;
+ghost use Rattle.cedar_layout.specs.Lookups.{AreInOrder, Shown};
 ghost use Rattle.cedar_documents.specs.Kept.{KeepsTokens};
+ghost use Rattle.cedar_documents.specs.NodeDocuments.{IsLeafWith, IsNodeWith, IsPartWith, IsRowWith, ShowsPart, annotation_parts, cond_parts, variable_parts};
 
 use crate::config::Context;
 use crate::doc::expressions::{
@@ -29,6 +35,9 @@ mod tokens;
 /// The comments of its tokens move from the context's tokens into the document. The context's tokens are in order:
 /// `utils::in_order` tests it.
 pub trait Doc<'src> {
+    /// That this part is made of these tokens, and what its document is at an indentation.
+    ghost is_shown: { Self → ℤ → List Shown → layout.Doc → Type 0 };
+
     /// The document of this part.
     ///
     /// `None` where an identifier, a string, a literal or a slot in it has no token that starts where it does, or where
@@ -43,7 +52,8 @@ pub trait Doc<'src> {
         requires { AreInOrder context.old.tokens.items }
         ensures order { AreInOrder context.new.tokens.items }
         ensures kept { KeepsTokens context.old.tokens.items context.new.tokens.items }
-        ensures config { context.new.config ≡ context.old.config };
+        ensures config { context.new.config ≡ context.old.config }
+        ensures shows { (ts : List Shown) (doc : layout.Doc) → is_shown self.now context.old.config.now.indent_width ts doc → ShowsPart result context.old.tokens.items context.new.tokens.items ts doc };
 }
 
 /// Why a part has no document.
@@ -71,7 +81,10 @@ impl<T: Drop> From<AllocFailed<T>> for NoDocument {
 pub(crate) type Made<'src> = Result<Document<'src>, NoDocument>;
 
 // The same as `to_doc` answers it.
-fn answer<'src>(made: Made<'src>) -> Result<Option<Document<'src>>, AllocError> {
+fn answer<'src>(made: Made<'src>) -> Result<Option<Document<'src>>, AllocError>
+    ensures made { IfOk made.entry (λ d. result ≡ Ok (Some d)) }
+    ensures none { IfErr made.entry (λ _. IfOk result (λ r. r ≡ None)) }
+{
     match made {
         Ok(doc) => Ok(Some(doc)),
         Err(NoDocument::NoToken) => Ok(None),
@@ -80,6 +93,8 @@ fn answer<'src>(made: Made<'src>) -> Result<Option<Document<'src>>, AllocError> 
 }
 
 impl<'src> Doc<'src> for Node<Policy<'src>> {
+    ghost is_shown = { λ n. IsPartWith kind.policy n.span (erased.policy_parts n.inner) };
+
     fn to_doc(
         &self,
         alloc: Global,
@@ -90,6 +105,8 @@ impl<'src> Doc<'src> for Node<Policy<'src>> {
 }
 
 impl<'src> Doc<'src> for Node<Annotation<'src>> {
+    ghost is_shown = { λ n. IsPartWith kind.annotation n.span (annotation_parts n.inner) };
+
     fn to_doc(
         &self,
         alloc: Global,
@@ -100,6 +117,8 @@ impl<'src> Doc<'src> for Node<Annotation<'src>> {
 }
 
 impl<'src> Doc<'src> for Node<VariableDef<'src>> {
+    ghost is_shown = { λ n. IsPartWith kind.variable n.span (variable_parts n.inner) };
+
     fn to_doc(
         &self,
         alloc: Global,
@@ -110,6 +129,8 @@ impl<'src> Doc<'src> for Node<VariableDef<'src>> {
 }
 
 impl<'src> Doc<'src> for Node<Cond<'src>> {
+    ghost is_shown = { λ n. IsPartWith kind.cond n.span (cond_parts n.inner) };
+
     fn to_doc(
         &self,
         alloc: Global,
@@ -120,6 +141,8 @@ impl<'src> Doc<'src> for Node<Cond<'src>> {
 }
 
 impl<'src> Doc<'src> for Node<Expr<'src>> {
+    ghost is_shown = { λ n. IsNodeWith kind.expr n.span (erased.expr_parts n.inner) };
+
     fn to_doc(
         &self,
         alloc: Global,
@@ -130,6 +153,8 @@ impl<'src> Doc<'src> for Node<Expr<'src>> {
 }
 
 impl<'src> Doc<'src> for Node<Or<'src>> {
+    ghost is_shown = { λ n. IsNodeWith kind.ors n.span (erased.or_parts n.inner) };
+
     fn to_doc(
         &self,
         alloc: Global,
@@ -140,6 +165,8 @@ impl<'src> Doc<'src> for Node<Or<'src>> {
 }
 
 impl<'src> Doc<'src> for Node<And<'src>> {
+    ghost is_shown = { λ n. IsNodeWith kind.ands n.span (lists.and_parts n.inner) };
+
     fn to_doc(
         &self,
         alloc: Global,
@@ -150,6 +177,8 @@ impl<'src> Doc<'src> for Node<And<'src>> {
 }
 
 impl<'src> Doc<'src> for Node<Relation<'src>> {
+    ghost is_shown = { λ n. IsNodeWith kind.relation n.span (erased.relation_parts n.inner) };
+
     fn to_doc(
         &self,
         alloc: Global,
@@ -160,6 +189,8 @@ impl<'src> Doc<'src> for Node<Relation<'src>> {
 }
 
 impl<'src> Doc<'src> for Node<Add<'src>> {
+    ghost is_shown = { λ n. IsNodeWith kind.add n.span (erased.add_parts n.inner) };
+
     fn to_doc(
         &self,
         alloc: Global,
@@ -170,6 +201,8 @@ impl<'src> Doc<'src> for Node<Add<'src>> {
 }
 
 impl<'src> Doc<'src> for Node<Mult<'src>> {
+    ghost is_shown = { λ n. IsNodeWith kind.mult n.span (erased.mult_parts n.inner) };
+
     fn to_doc(
         &self,
         alloc: Global,
@@ -180,6 +213,8 @@ impl<'src> Doc<'src> for Node<Mult<'src>> {
 }
 
 impl<'src> Doc<'src> for AddOp {
+    ghost is_shown = { λ o i ts doc. (ts ≡ []) × (doc ≡ layout.text (erased.addop_text o)) };
+
     fn to_doc(
         &self,
         _alloc: Global,
@@ -190,6 +225,8 @@ impl<'src> Doc<'src> for AddOp {
 }
 
 impl<'src> Doc<'src> for MultOp {
+    ghost is_shown = { λ o i ts doc. (ts ≡ []) × (doc ≡ layout.text (codes "*")) };
+
     fn to_doc(
         &self,
         _alloc: Global,
@@ -200,6 +237,8 @@ impl<'src> Doc<'src> for MultOp {
 }
 
 impl<'src> Doc<'src> for Node<Unary<'src>> {
+    ghost is_shown = { λ n. IsNodeWith kind.unary n.span (erased.unary_parts n.inner) };
+
     fn to_doc(
         &self,
         alloc: Global,
@@ -210,6 +249,8 @@ impl<'src> Doc<'src> for Node<Unary<'src>> {
 }
 
 impl<'src> Doc<'src> for Member<'src> {
+    ghost is_shown = { λ m i ts doc. IsRowWith kind.member (lists.member_parts m) i ts doc };
+
     fn to_doc(
         &self,
         alloc: Global,
@@ -220,6 +261,8 @@ impl<'src> Doc<'src> for Member<'src> {
 }
 
 impl<'src> Doc<'src> for Node<MemAccess<'src>> {
+    ghost is_shown = { λ n i ts doc. IsRowWith kind.accesses (branch (Label.access, Some n.span) (erased.access_parts n.inner) none) i ts doc };
+
     fn to_doc(
         &self,
         alloc: Global,
@@ -230,6 +273,8 @@ impl<'src> Doc<'src> for Node<MemAccess<'src>> {
 }
 
 impl<'src> Doc<'src> for Node<Primary<'src>> {
+    ghost is_shown = { λ n. IsNodeWith kind.primary n.span (erased.primary_parts n.inner) };
+
     fn to_doc(
         &self,
         alloc: Global,
@@ -240,6 +285,8 @@ impl<'src> Doc<'src> for Node<Primary<'src>> {
 }
 
 impl<'src> Doc<'src> for Node<RecInit<'src>> {
+    ghost is_shown = { λ n. IsNodeWith kind.init n.span (lists.init_parts n.inner) };
+
     fn to_doc(
         &self,
         alloc: Global,
@@ -250,6 +297,8 @@ impl<'src> Doc<'src> for Node<RecInit<'src>> {
 }
 
 impl<'src> Doc<'src> for Node<Name<'src>> {
+    ghost is_shown = { λ n. IsNodeWith kind.name n.span (erased.path_parts n.inner.path.items n.inner.name) };
+
     fn to_doc(
         &self,
         alloc: Global,
@@ -260,6 +309,8 @@ impl<'src> Doc<'src> for Node<Name<'src>> {
 }
 
 impl<'src> Doc<'src> for Node<Ref<'src>> {
+    ghost is_shown = { λ n. IsNodeWith kind.ref n.span (erased.name_tree n.inner.path (leaf (codes "::") (erased.str_tree n.inner.eid none))) };
+
     fn to_doc(
         &self,
         alloc: Global,
@@ -270,6 +321,8 @@ impl<'src> Doc<'src> for Node<Ref<'src>> {
 }
 
 impl<'src> Doc<'src> for Node<Ident<'src>> {
+    ghost is_shown = { λ n i. IsLeafWith n.span n.inner.0.now };
+
     fn to_doc(
         &self,
         alloc: Global,
@@ -280,6 +333,8 @@ impl<'src> Doc<'src> for Node<Ident<'src>> {
 }
 
 impl<'src> Doc<'src> for Node<Str<'src>> {
+    ghost is_shown = { λ n i. IsLeafWith n.span n.inner.0.now };
+
     fn to_doc(
         &self,
         alloc: Global,
@@ -290,6 +345,8 @@ impl<'src> Doc<'src> for Node<Str<'src>> {
 }
 
 impl<'src> Doc<'src> for Node<Literal<'src>> {
+    ghost is_shown = { λ n i. IsLeafWith n.span (erased.literal_text n.inner) };
+
     fn to_doc(
         &self,
         alloc: Global,
@@ -300,6 +357,8 @@ impl<'src> Doc<'src> for Node<Literal<'src>> {
 }
 
 impl<'src> Doc<'src> for Node<Slot> {
+    ghost is_shown = { λ n i. IsLeafWith n.span (erased.slot_text n.inner) };
+
     fn to_doc(
         &self,
         alloc: Global,
@@ -310,6 +369,8 @@ impl<'src> Doc<'src> for Node<Slot> {
 }
 
 impl<'src> Doc<'src> for Ident<'src> {
+    ghost is_shown = { λ n i ts doc. (ts ≡ []) × (doc ≡ layout.text n.0.now) };
+
     fn to_doc(
         &self,
         _alloc: Global,

@@ -1,0 +1,5 @@
+use Rattle.cedar_documents.proofs.Answered.{shown_node}
+use Rattle.cedar_documents.proofs.doc.NodeAddDoc.to_doc.Goals as goal
+
+pub returns-clause-shows : goal.returns-clause-shows
+returns-clause-shows c = shown_node c.add_doc.result c.answer.result (record { made_one = c.answer.ensures.made; made_none = c.answer.ensures.none }) _ _ _ _ _ (λ t s n. c.add_doc.ensures.shows t n)

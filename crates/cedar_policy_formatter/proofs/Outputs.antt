@@ -1,0 +1,1 @@
+-- The output of policies that are laid out one after the other.
