@@ -1,11 +1,14 @@
--- What a variable's tree tells of its type and its operator.
-use Rattle.std.proofs.Common.{◌≡◌, Bool, true, false, List, ℕ, Option, Some, None, refl, sym, ap, ◌∙◌}
+-- What a variable's tree tells of its type and its operator, and its document.
+use Rattle.std.proofs.Common.{◌≡◌, Bool, true, false, List, ℕ, ℤ, Option, Some, None, refl, sym, ap, ◌∙◌}
 use Rattle.std.specs.Prelude.{codes, not, is_some, ◌||◌}
-use Rattle.cedar_tokens.specs.Listing.{token_value}
+use Rattle.cedar_tokens.specs.Listing.{Decorated, token_value}
 use Rattle.cedar_grammar.specs.Trees.{Label, Forest, leaf, branch, none}
 use Rattle.cedar_grammar.specs.TypedTrees.{Tree, Clause, parts, yield, variable_bare, variable_is, variable_op, variable_is_op}
 use Rattle.cedar_grammar.specs.TypedTrees as kind
-use Rattle.cedar_layout.specs.Lookups.{Shown}
+use Rattle.cedar_layout.specs.Comments.{lead_of, trail_of}
+use Rattle.cedar_layout.specs.Layout.{Doc, ◌·◌, group, line, nest, nil, text}
+use Rattle.cedar_layout.specs.Lookups.{Parts, Shown}
+use Rattle.cedar_layout.proofs.Values.{dot-nil, dot_assoc}
 use Rattle.cedar_tree.specs.Erased.{Erased, add_parts, node, operator_parts, path_parts, relop_text, type_parts}
 use Rattle.cedar_tree.specs.declared.tree.Expr as Expr
 use Rattle.cedar_tree.specs.declared.tree.Name.{Name}
@@ -13,8 +16,9 @@ use Rattle.cedar_tree.specs.declared.tree.Node.{Node}
 use Rattle.cedar_tree.specs.declared.tree.RelOp.{RelOp}
 use Rattle.cedar_tree.specs.declared.tree.VariableDef.{VariableDef}
 use Rattle.cedar_documents.specs.Leaves.{part_map}
-use Rattle.cedar_documents.specs.NodeDocuments.{IsAt, IsNodeOf, IsPartOf, as_leaf, kind_of_shown, nodes_of, text_of, variable_parts}
-use Rattle.cedar_documents.specs.Table.{is_bare}
+use Rattle.cedar_documents.specs.NodeDocuments.{IsAt, IsNodeOf, IsPartOf, as_leaf, compared_document, document, kind_of_shown, nodes_of, text_of, variable_parts}
+use Rattle.cedar_documents.specs.Table.{is_bare, lead, tok, trail}
+use Rattle.cedar_documents.specs.Table.{leaf as leaf_document}
 use Rattle.cedar_documents.proofs.Opened.{opened_leaf, opened_token, opened_tree}
 
 abbrev Operator : Type 0
@@ -89,3 +93,20 @@ is_bound v (variable_op x p a) e =
 is_bound v (variable_is_op x w n p a) e =
     let o = opened_leaf Label.ident _ _ _ x (leaf w (branch Label.name (parts kind_of_shown n) (leaf p (branch Label.add (parts kind_of_shown a) none)))) refl e in
     rw ((typed v.entity_type v.ineq w n (leaf p (branch Label.add (parts kind_of_shown a) none)) o.3).is) refl
+
+-- ---- the document of a variable
+
+-- a variable's word and its type stand in a document k: the word's comment is p
+pub assembled : (k : Doc → Doc) (p : Parts) (x : Shown) (txt : List ℕ) (type type' left whole made : Doc) → p ≡ x.comment → type ≡ type' → whole ≡ k left → txt ≡ token_value (text_of x)
+    → left ≡ text txt · (trail_of p.trailing nil · type) → made ≡ lead_of p.leading · whole → made ≡ lead (as_leaf x) · k (tok (as_leaf x) · (trail (as_leaf x) nil · type'))
+assembled k p x txt type type' left whole made hp ht hw hx hl hm = rw (hm, hw, hl, ht, hx, hp) refl
+
+pub document_bare : (x : Decorated) → lead x · tok x · (trail x nil · nil) ≡ leaf_document x
+document_bare x = ap (λ z. lead x · tok x · z) (dot-nil (trail x nil))
+
+pub document_is : (x : Decorated) (type : Doc) → lead x · tok x · (trail x nil · type) ≡ leaf_document x · type
+document_is x type = sym (dot_assoc (lead x) (tok x · trail x nil) type)
+
+pub document_compared : (i : ℤ) (x : Decorated) (type : Doc) (o : Shown) (t : Tree Shown kind.add)
+    → lead x · compared_document i (tok x · (trail x nil · type)) o t ≡ lead x · group (group (tok x · trail x nil · type · line · leaf_document (as_leaf o)) · nest i (line · document i t))
+document_compared i x type o t = ap (λ z. lead x · group (group (tok x · z) · nest i (line · document i t))) (dot_assoc (trail x nil) type (line · leaf_document (as_leaf o)))

@@ -1,5 +1,5 @@
 -- The document of a node among the tokens of a context, and what making it does to them.
-use Rattle.std.specs.Prelude.{◌≡◌, ℕ, ℤ, List, [], ◌∷◌, ◌++◌, map, Option, Some, Result, IfOk, IsSomeAnd, codes, if◌then◌else◌, ◌&&◌}
+use Rattle.std.specs.Prelude.{◌≡◌, ℕ, ℤ, List, [], ◌∷◌, ◌++◌, map, Option, Some, None, Result, IfOk, IsSomeAnd, codes, if◌then◌else◌, ◌&&◌}
 use Rattle.cedar_tokens.specs.Listing.{Decorated}
 use Rattle.cedar_tokens.specs.Tokens.{token_text}
 use Rattle.cedar_tokens.specs.declared.token.Comment.{Comment}
@@ -7,18 +7,21 @@ use Rattle.cedar_tokens.specs.declared.token.Span.{Span}
 use Rattle.cedar_tokens.specs.declared.token.WrappedToken.{WrappedToken}
 use Rattle.cedar_grammar.specs.TokenKinds.{kind_of}
 use Rattle.cedar_grammar.specs.Trees.{Label, Forest, leaf, none}
-use Rattle.cedar_grammar.specs.TypedTrees.{NodeKind, Tree, PartKind, Clause, parts, part_parts, tree_map, variable}
+use Rattle.cedar_grammar.specs.TypedTrees.{NodeKind, Tree, PartKind, Clause, parts, part_parts, tree_map, add, variable}
 use Rattle.cedar_grammar.specs.declared.kind.Kind.{Kind}
-use Rattle.cedar_layout.specs.Layout.{Doc, ◌·◌, group, hard, nest}
+use Rattle.cedar_layout.specs.Layout.{Doc, ◌·◌, group, hard, line, nest}
 use Rattle.cedar_layout.specs.Lookups.{Shown, shown, emptied, comment_parts}
 use Rattle.cedar_layout.specs.Value.{doc_of}
 use Rattle.cedar_layout.specs.declared.layout.Document.{Document}
 use Rattle.cedar_tree.specs.Erased.{Erased, ident_tree, value_parts, type_parts, operator_parts, expr_parts, node}
 use Rattle.cedar_tree.specs.declared.tree.Annotation.{Annotation}
 use Rattle.cedar_tree.specs.declared.tree.Cond.{Cond}
+use Rattle.cedar_tree.specs.declared.tree.Name.{Name}
+use Rattle.cedar_tree.specs.declared.tree.Node.{Node}
 use Rattle.cedar_tree.specs.declared.tree.VariableDef.{VariableDef}
 use Rattle.cedar_tree.specs.NodeTrees.{spanned, span_of}
 use Rattle.cedar_documents.specs.Leaves.{part_map}
+use Rattle.cedar_documents.specs.Table as table
 use Rattle.cedar_documents.specs.Table.{table, part_table, C, is_bare, space}
 
 -- the source text of a token
@@ -43,9 +46,18 @@ IsNodeOf inner t = inner ≡ nodes_of (parts kind_of_shown t)
 abbrev pub IsPartOf : {k : PartKind} → Erased → Clause Shown k → Type 0
 IsPartOf inner t = inner ≡ nodes_of (part_parts kind_of_shown t)
 
+-- where a type stands, or the word before it where there is no type
+abbrev span_of_type : Option (Node Name) → Span → Span
+span_of_type None word = word
+span_of_type (Some n) word = n.span
+
 -- the parts of the nodes that policies hold
 abbrev pub variable_parts : VariableDef → Erased
 variable_parts v = ident_tree v.variable (type_parts v.entity_type (operator_parts v.ineq))
+
+-- what stands before the operator of a variable
+abbrev pub span_before : VariableDef → Span
+span_before v = span_of_type v.entity_type v.variable.span
 
 abbrev pub annotation_parts : Annotation → Erased
 annotation_parts a = leaf (codes "@") (ident_tree a.key (value_parts a.value))
@@ -59,6 +71,10 @@ document i t = table i (tree_map as_leaf t)
 
 abbrev pub part_document : {k : PartKind} → ℤ → Clause Shown k → Doc
 part_document i t = part_table i (part_map as_leaf t)
+
+-- a variable, its operator, and what it is compared with
+abbrev pub compared_document : ℤ → Doc → Shown → Tree Shown add → Doc
+compared_document i left o t = group (group (left · line · table.leaf (as_leaf o)) · nest i (line · document i t))
 
 -- the variables of a scope, and `next` behind each comma without trailing text
 abbrev pub variables_document : ℤ → Doc → Clause Shown variable → Shown → Clause Shown variable → Shown → Clause Shown variable → Doc
