@@ -1,13 +1,14 @@
 -- What a variable's tree tells of its type and its operator, and its document.
-use Rattle.std.proofs.Common.{◌≡◌, Bool, true, false, List, ℕ, ℤ, Option, Some, None, refl, sym, ap, ◌∙◌}
+use Rattle.std.proofs.Common.{◌≡◌, Bool, true, false, List, [], ◌∷◌, ◌++◌, map, ℕ, ℤ, Option, Some, None, refl, sym, ap, ◌∙◌, subst, append_assoc, append-nil}
 use Rattle.std.specs.Prelude.{codes, not, is_some, ◌||◌}
 use Rattle.cedar_tokens.specs.Listing.{Decorated, token_value}
+use Rattle.cedar_tokens.specs.declared.token.Span.{Span}
 use Rattle.cedar_grammar.specs.Trees.{Label, Forest, leaf, branch, none}
 use Rattle.cedar_grammar.specs.TypedTrees.{Tree, Clause, parts, yield, variable_bare, variable_is, variable_op, variable_is_op}
 use Rattle.cedar_grammar.specs.TypedTrees as kind
 use Rattle.cedar_layout.specs.Comments.{lead_of, trail_of}
 use Rattle.cedar_layout.specs.Layout.{Doc, ◌·◌, group, line, nest, nil, text}
-use Rattle.cedar_layout.specs.Lookups.{Parts, Shown}
+use Rattle.cedar_layout.specs.Lookups.{Parts, Shown, emptied}
 use Rattle.cedar_layout.proofs.Values.{dot-nil, dot_assoc}
 use Rattle.cedar_tree.specs.Erased.{Erased, add_parts, node, operator_parts, path_parts, relop_text, type_parts}
 use Rattle.cedar_tree.specs.declared.tree.Expr as Expr
@@ -16,10 +17,10 @@ use Rattle.cedar_tree.specs.declared.tree.Node.{Node}
 use Rattle.cedar_tree.specs.declared.tree.RelOp.{RelOp}
 use Rattle.cedar_tree.specs.declared.tree.VariableDef.{VariableDef}
 use Rattle.cedar_documents.specs.Leaves.{part_map}
-use Rattle.cedar_documents.specs.NodeDocuments.{IsAt, IsNodeOf, IsPartOf, as_leaf, compared_document, document, kind_of_shown, nodes_of, text_of, variable_parts}
+use Rattle.cedar_documents.specs.NodeDocuments.{IsAt, IsNodeOf, IsPartOf, as_leaf, compared_document, document, end_of_tokens, kind_of_shown, nodes_of, text_of, variable_parts}
 use Rattle.cedar_documents.specs.Table.{is_bare, lead, tok, trail}
 use Rattle.cedar_documents.specs.Table.{leaf as leaf_document}
-use Rattle.cedar_documents.proofs.Opened.{opened_leaf, opened_token, opened_tree}
+use Rattle.cedar_documents.proofs.Opened.{GivesIf, ends_here, opened_leaf, opened_token, opened_tree}
 
 abbrev Operator : Type 0
 Operator = RelOp × Node Expr.TheBlock.the_data-4
@@ -38,6 +39,10 @@ pub unbound : (n : Option (Node Name)) (q : Option Operator) → type_parts n (o
 unbound None None e = record { no_type = refl; no_operator = refl }
 unbound None (Some x) e = absurd cc
 unbound (Some m) q e = absurd cc
+
+pub no_operator : (q : Option Operator) → operator_parts q ≡ none → q ≡ None
+no_operator None e = refl
+no_operator (Some x) e = absurd cc
 
 -- a type, and what is behind it
 pub record IsTyped (n : Option (Node Name)) (q : Option Operator) (w : Shown) (t : Tree Shown kind.name) (g : Forest Label Shown) : Type 0 where
@@ -94,7 +99,19 @@ is_bound v (variable_is_op x w n p a) e =
     let o = opened_leaf Label.ident _ _ _ x (leaf w (branch Label.name (parts kind_of_shown n) (leaf p (branch Label.add (parts kind_of_shown a) none)))) refl e in
     rw ((typed v.entity_type v.ineq w n (leaf p (branch Label.add (parts kind_of_shown a) none)) o.3).is) refl
 
+-- ---- tokens in a row
+
+pub nothing_more : {V : Type 0} {v d : V} {old new : List Shown} (P : List Shown → Type 0) (ts : List Shown) → GivesIf P v d old new (ts ++ []) → GivesIf P v d old new ts
+nothing_more {v = v} {d = d} {old = old} {new = new} P ts h = subst (λ z. GivesIf P v d old new z) (append-nil ts) h
+
+-- behind tokens with this span, and one token before them
+pub ends_later : (s : Span) (x : Shown) (ts : List Shown) → IsAt s ts → (b : List Shown) → end_of_tokens (b ++ map emptied (x ∷ ts)) ≡ s.end
+ends_later s x ts h b = subst (λ z. end_of_tokens z ≡ s.end) (append_assoc b (emptied x ∷ []) (map emptied ts)) (ends_here s ts h (b ++ (emptied x ∷ [])))
+
 -- ---- the document of a variable
+
+abbrev pub pair : {V W : Type 0} → V → W → V × W
+pair v w = (v, w)
 
 -- a variable's word and its type stand in a document k: the word's comment is p
 pub assembled : (k : Doc → Doc) (p : Parts) (x : Shown) (txt : List ℕ) (type type' left whole made : Doc) → p ≡ x.comment → type ≡ type' → whole ≡ k left → txt ≡ token_value (text_of x)

@@ -1,5 +1,5 @@
 //! The documents of policies, and of what stands in them outside expressions.
-ghost use Rattle.std.specs.Prelude.{◌≡◌, ◌++◌, ◌∷◌, [], List, map, None, Some, MatchOption, codes, IfOk, if◌then◌else◌, not};
+ghost use Rattle.std.specs.Prelude.{◌≡◌, ◌++◌, ◌∷◌, [], List, map, None, Some, codes, IfOk, if◌then◌else◌, not};
 ghost use Rattle.cedar_tokens.specs.Listing.{token_value};
 ghost use Rattle.cedar_tokens.specs.Tokens.{leading_lines, trailing_text};
 ghost use Rattle.cedar_grammar.specs.Trees.{none};
@@ -7,12 +7,12 @@ ghost use Rattle.cedar_grammar.specs.TypedTrees.{Clause, Tree, part_yield, yield
 ghost use Rattle.cedar_grammar.specs.TypedTrees as kind;
 ghost use Rattle.cedar_tree.specs.Erased.{add_parts, cond_trees, path_parts, relop_text};
 ghost use Rattle.cedar_layout.specs.Comments.{lead_of, space, trail_of};
-ghost use Rattle.cedar_layout.specs.Layout.{◌·◌, group, hard, line, nest, nil};
+ghost use Rattle.cedar_layout.specs.Layout.{hard, nil};
 ghost use Rattle.cedar_layout.specs.Lookups.{AreInOrder, Shown, comment_parts, emptied, shown};
 ghost use Rattle.cedar_layout.specs.Value.{doc_of};
 ghost use Rattle.cedar_documents.specs.Kept.{KeepsTokens};
 ghost use Rattle.cedar_documents.specs.Leaves.{part_map};
-ghost use Rattle.cedar_documents.specs.NodeDocuments.{IsAt, IsNodeOf, IsPartOf, Shows, ShowsBehind, as_leaf, document, part_document, scope_document, text_of, variable_parts, variables_document};
+ghost use Rattle.cedar_documents.specs.NodeDocuments.{IsAt, IsNodeOf, IsPartOf, Shows, ShowsBehind, as_leaf, compared_document, document, part_document, scope_document, span_before, text_of, variable_parts, variables_document};
 ghost use Rattle.cedar_documents.specs.Table as table;
 
 use crate::config::Context;
@@ -273,27 +273,35 @@ pub(super) fn variable_doc<'src>(
     let comment = word_comment(variable.variable.span, context)?;
     let type_part = type_part_doc(alloc, variable, context)?;
     let behind = trail(alloc, &comment, Document::Nil)?.append(alloc, type_part)?;
-    let left = Document::Text(variable.variable.inner.0);
-    let whole = match &variable.ineq {
-        Some((op, right)) => {
-            let before = left_span(variable);
-            compared_doc(
-                alloc,
-                left.append(alloc, behind)?,
-                before,
-                *op,
-                right,
-                context,
-            )?
-        }
-        None => left.append(alloc, behind)?,
-    };
+    let left = Document::Text(variable.variable.inner.0).append(alloc, behind)?;
+    let whole = bound_doc(alloc, left, variable, context)?;
     Ok(lead(alloc, &comment)?.append(alloc, whole)?)
+}
+
+// A variable with its type, and its operator where it is there.
+fn bound_doc<'src>(
+    alloc: Global,
+    left: Document<'src>,
+    variable: &VariableDef<'src>,
+    context: &mut Context<'_, 'src>,
+) -> Made<'src>
+    requires { AreInOrder context.old.tokens.items }
+    ensures order { AreInOrder context.new.tokens.items }
+    ensures kept { KeepsTokens context.old.tokens.items context.new.tokens.items }
+    ensures config { context.new.config ≡ context.old.config }
+    ensures bare { variable.now.ineq ≡ None → Shows result context.old.tokens.items context.new.tokens.items [] (doc_of left.entry) }
+    ensures shows { (q : RelOp × Node Add) → variable.now.ineq ≡ Some q → (o : Shown) (t : Tree Shown kind.add) → relop_text q.0 ≡ token_value (text_of o) → IsNodeOf (add_parts q.1.inner) t
+        → ShowsBehind (span_before variable.now).end result context.old.tokens.items context.new.tokens.items (o ∷ yield t) (compared_document context.old.config.now.indent_width (doc_of left.entry) o t) }
+{
+    let Some((op, right)) = &variable.ineq else {
+        return Ok(left);
+    };
+    compared_doc(alloc, left, left_span(variable), *op, right, context)
 }
 
 // What stands before the operator of a variable.
 fn left_span(variable: &VariableDef<'_>) -> Span
-    ensures { MatchOption variable.now.entity_type (result ≡ variable.now.variable.span) (λ n. result ≡ n.span) }
+    ensures { result ≡ span_before variable.now }
 {
     match &variable.entity_type {
         Some(name) => name.span,
@@ -356,7 +364,7 @@ fn compared_doc<'src>(
     ensures kept { KeepsTokens context.old.tokens.items context.new.tokens.items }
     ensures config { context.new.config ≡ context.old.config }
     ensures shows { (o : Shown) (t : Tree Shown kind.add) → relop_text op ≡ token_value (text_of o) → IsNodeOf (add_parts right.now.inner) t
-        → ShowsBehind before.end result context.old.tokens.items context.new.tokens.items (o ∷ yield t) (group (group (doc_of left.entry · line · table.leaf (as_leaf o)) · nest context.old.config.now.indent_width (line · document context.old.config.now.indent_width t))) }
+        → ShowsBehind before.end result context.old.tokens.items context.new.tokens.items (o ∷ yield t) (compared_document context.old.config.now.indent_width (doc_of left.entry) o t) }
 {
     let operator = mark_after(alloc, rel_op_text(op), before, Document::Nil, context)?;
     let operator = Document::Line.append(alloc, operator)?;
