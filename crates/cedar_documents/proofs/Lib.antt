@@ -32,4 +32,4 @@ pub mod Keeping
 pub mod Focus
 pub mod Marks
 pub mod Opened
-pub mod Bound
+pub mod Scopes

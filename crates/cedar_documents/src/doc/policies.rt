@@ -185,7 +185,7 @@ fn scope_doc<'src>(
         → IsPartOf (variable_parts policy.now.variables.1.inner) a → IsAt policy.now.variables.1.span (part_yield a)
         → IsPartOf (variable_parts policy.now.variables.2.inner) r → IsAt policy.now.variables.2.span (part_yield r)
         → codes "," ≡ token_value (text_of c) → codes "," ≡ token_value (text_of d)
-        → Shows result context.old.tokens.items context.new.tokens.items (part_yield p ++ c ∷ part_yield a ++ d ∷ part_yield r) (scope_document context.old.config.now.indent_width p c a d r) }
+        → Shows result context.old.tokens.items context.new.tokens.items (part_yield p ++ (c ∷ (part_yield a ++ (d ∷ part_yield r)))) (scope_document context.old.config.now.indent_width p c a d r) }
 {
     let (principal, action, resource) = &policy.variables;
     if is_bound(&principal.inner) || is_bound(&action.inner) || is_bound(&resource.inner) {
@@ -214,7 +214,7 @@ fn variables_doc<'src>(
         → IsPartOf (variable_parts policy.now.variables.1.inner) a → IsAt policy.now.variables.1.span (part_yield a)
         → IsPartOf (variable_parts policy.now.variables.2.inner) r → IsAt policy.now.variables.2.span (part_yield r)
         → codes "," ≡ token_value (text_of c) → codes "," ≡ token_value (text_of d)
-        → Shows result context.old.tokens.items context.new.tokens.items (part_yield p ++ c ∷ part_yield a ++ d ∷ part_yield r) (variables_document context.old.config.now.indent_width (if is_broken then hard else space) p c a d r) }
+        → Shows result context.old.tokens.items context.new.tokens.items (part_yield p ++ (c ∷ (part_yield a ++ (d ∷ part_yield r)))) (variables_document context.old.config.now.indent_width (if is_broken then hard else space) p c a d r) }
 {
     let (principal, action, resource) = &policy.variables;
     let first = variable_doc(alloc, &principal.inner, context)?;
@@ -250,12 +250,19 @@ fn scope_end_doc<'src>(
     ensures shows { (r : Shown) (cs : Clause Shown kind.conds) → codes ")" ≡ token_value (text_of r) → IsPartOf (cond_trees policy.now.conds.items none) cs
         → ShowsBehind policy.now.variables.2.span.end result context.old.tokens.items context.new.tokens.items (r ∷ []) (table.C (as_leaf r) (table.between_conds (part_map as_leaf cs))) }
 {
-    let next = if policy.conds.is_empty() {
+    let next = break_before(&policy.conds);
+    Ok(mark_after(alloc, ")", policy.variables.2.span, next, context)?)
+}
+
+// A break where there is a condition.
+fn break_before<'src>(conds: &[Node<Cond<'_>>]) -> Document<'src>
+    ensures { (t : Clause Shown kind.conds) → IsPartOf (cond_trees conds.now none) t → doc_of result ≡ table.between_conds (part_map as_leaf t) }
+{
+    if conds.is_empty() {
         Document::Nil
     } else {
         Document::Hard
-    };
-    Ok(mark_after(alloc, ")", policy.variables.2.span, next, context)?)
+    }
 }
 
 /// A variable of the scope, with its type and its operator where they are there.

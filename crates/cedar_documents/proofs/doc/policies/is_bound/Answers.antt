@@ -1,6 +1,6 @@
 use Rattle.std.proofs.Common.{ap, sym, ◌∙◌}
 use Rattle.std.specs.Prelude.{not, is_some, ◌||◌}
-use Rattle.cedar_documents.proofs.Bound.{is_bound}
+use Rattle.cedar_documents.proofs.Scopes.{is_bound}
 use Rattle.cedar_documents.proofs.doc.policies.is_bound.Goals as goal
 
 pub returns-then-is_some : goal.returns-then-is_some

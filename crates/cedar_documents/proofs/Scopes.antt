@@ -1,16 +1,18 @@
--- What a variable's tree tells of its type and its operator, and its document.
-use Rattle.std.proofs.Common.{◌≡◌, Bool, true, false, List, [], ◌∷◌, ◌++◌, map, ℕ, ℤ, Option, Some, None, refl, sym, ap, ◌∙◌, subst, append_assoc, append-nil}
-use Rattle.std.specs.Prelude.{codes, not, is_some, ◌||◌}
+-- What the trees of a scope tell of its variables, and their documents.
+use Rattle.std.proofs.Common.{◌≡◌, Bool, true, false, List, [], ◌∷◌, ◌++◌, map, ℕ, ℤ, Option, Some, None, refl, sym, ap, ◌∙◌, subst, append_assoc, append-nil, arith}
+use Rattle.std.proofs.lemmas.Bool.Decides.{nat_tests}
+use Rattle.std.specs.Prelude.{codes, not, is_some, ◌||◌, if◌then◌else◌, ◌==◌, length, suc}
 use Rattle.cedar_tokens.specs.Listing.{Decorated, token_value}
 use Rattle.cedar_tokens.specs.declared.token.Span.{Span}
 use Rattle.cedar_grammar.specs.Trees.{Label, Forest, leaf, branch, none}
-use Rattle.cedar_grammar.specs.TypedTrees.{Tree, Clause, parts, yield, variable_bare, variable_is, variable_op, variable_is_op}
+use Rattle.cedar_grammar.specs.TypedTrees.{Tree, Clause, parts, yield, variable_bare, variable_is, variable_op, variable_is_op, no_cond, conds_more}
 use Rattle.cedar_grammar.specs.TypedTrees as kind
 use Rattle.cedar_layout.specs.Comments.{lead_of, trail_of}
-use Rattle.cedar_layout.specs.Layout.{Doc, ◌·◌, group, line, nest, nil, text}
+use Rattle.cedar_layout.specs.Layout.{Doc, ◌·◌, group, hard, line, nest, nil, text}
 use Rattle.cedar_layout.specs.Lookups.{Parts, Shown, emptied}
 use Rattle.cedar_layout.proofs.Values.{dot-nil, dot_assoc}
-use Rattle.cedar_tree.specs.Erased.{Erased, add_parts, node, operator_parts, path_parts, relop_text, type_parts}
+use Rattle.cedar_tree.specs.Erased.{Erased, add_parts, cond_trees, node, operator_parts, path_parts, relop_text, type_parts}
+use Rattle.cedar_tree.specs.declared.tree.Cond.{Cond}
 use Rattle.cedar_tree.specs.declared.tree.Expr as Expr
 use Rattle.cedar_tree.specs.declared.tree.Name.{Name}
 use Rattle.cedar_tree.specs.declared.tree.Node.{Node}
@@ -18,7 +20,7 @@ use Rattle.cedar_tree.specs.declared.tree.RelOp.{RelOp}
 use Rattle.cedar_tree.specs.declared.tree.VariableDef.{VariableDef}
 use Rattle.cedar_documents.specs.Leaves.{part_map}
 use Rattle.cedar_documents.specs.NodeDocuments.{IsAt, IsNodeOf, IsPartOf, as_leaf, compared_document, document, end_of_tokens, kind_of_shown, nodes_of, text_of, variable_parts}
-use Rattle.cedar_documents.specs.Table.{is_bare, lead, tok, trail}
+use Rattle.cedar_documents.specs.Table.{between_conds, is_bare, lead, tok, trail}
 use Rattle.cedar_documents.specs.Table.{leaf as leaf_document}
 use Rattle.cedar_documents.proofs.Opened.{GivesIf, ends_here, opened_leaf, opened_token, opened_tree}
 
@@ -127,3 +129,11 @@ document_is x type = sym (dot_assoc (lead x) (tok x · trail x nil) type)
 pub document_compared : (i : ℤ) (x : Decorated) (type : Doc) (o : Shown) (t : Tree Shown kind.add)
     → lead x · compared_document i (tok x · (trail x nil · type)) o t ≡ lead x · group (group (tok x · trail x nil · type · line · leaf_document (as_leaf o)) · nest i (line · document i t))
 document_compared i x type o t = ap (λ z. lead x · group (group (tok x · z) · nest i (line · document i t))) (dot_assoc (trail x nil) type (line · leaf_document (as_leaf o)))
+
+-- ---- the break behind a scope
+
+pub break_before : (ns : List (Node Cond)) (t : Clause Shown kind.conds) → IsPartOf (cond_trees ns none) t → between_conds (part_map as_leaf t) ≡ if length ns == 0 then nil else hard
+break_before [] no_cond e = refl
+break_before [] (conds_more c m) e = absurd cc
+break_before (n ∷ ns) no_cond e = absurd cc
+break_before (n ∷ ns) (conds_more c m) e = let h : (suc (length ns) == 0) ≡ false = grind (arith, nat_tests) in rw (h) refl
