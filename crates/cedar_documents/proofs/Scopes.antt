@@ -1,5 +1,5 @@
 -- What the trees of a scope tell of its variables, and their documents.
-use Rattle.std.proofs.Common.{◌≡◌, Bool, true, false, List, [], ◌∷◌, ◌++◌, map, ℕ, ℤ, Option, Some, None, refl, sym, ap, ◌∙◌, subst, append_assoc, append-nil, arith}
+use Rattle.std.proofs.Common.{◌≡◌, false, List, [], ◌∷◌, ◌++◌, map, ℕ, ℤ, Option, Some, None, refl, sym, ap, subst, append_assoc, append-nil, arith}
 use Rattle.std.proofs.lemmas.Bool.Decides.{nat_tests}
 use Rattle.std.specs.Prelude.{codes, not, is_some, ◌||◌, if◌then◌else◌, ◌==◌, length, suc}
 use Rattle.cedar_tokens.specs.Listing.{Decorated, token_value}
@@ -11,7 +11,7 @@ use Rattle.cedar_layout.specs.Comments.{lead_of, trail_of}
 use Rattle.cedar_layout.specs.Layout.{Doc, ◌·◌, group, hard, line, nest, nil, text}
 use Rattle.cedar_layout.specs.Lookups.{Parts, Shown, emptied}
 use Rattle.cedar_layout.proofs.Values.{dot-nil, dot_assoc}
-use Rattle.cedar_tree.specs.Erased.{Erased, add_parts, cond_trees, node, operator_parts, path_parts, relop_text, type_parts}
+use Rattle.cedar_tree.specs.Erased.{Erased, add_parts, cond_trees, operator_parts, path_parts, relop_text, type_parts}
 use Rattle.cedar_tree.specs.declared.tree.Cond.{Cond}
 use Rattle.cedar_tree.specs.declared.tree.Expr as Expr
 use Rattle.cedar_tree.specs.declared.tree.Name.{Name}

@@ -46,24 +46,24 @@ IsNodeOf inner t = inner ≡ nodes_of (parts kind_of_shown t)
 abbrev pub IsPartOf : {k : PartKind} → Erased → Clause Shown k → Type 0
 IsPartOf inner t = inner ≡ nodes_of (part_parts kind_of_shown t)
 
--- where a type stands, or the word before it where there is no type
-abbrev span_of_type : Option (Node Name) → Span → Span
-span_of_type None word = word
-span_of_type (Some n) word = n.span
-
 -- the parts of the nodes that policies hold
 abbrev pub variable_parts : VariableDef → Erased
 variable_parts v = ident_tree v.variable (type_parts v.entity_type (operator_parts v.ineq))
-
--- what stands before the operator of a variable
-abbrev pub span_before : VariableDef → Span
-span_before v = span_of_type v.entity_type v.variable.span
 
 abbrev pub annotation_parts : Annotation → Erased
 annotation_parts a = leaf (codes "@") (ident_tree a.key (value_parts a.value))
 
 abbrev pub cond_parts : Cond → Erased
 cond_parts c = ident_tree c.cond (leaf (codes "{") (node Label.expr c.expr.span (expr_parts c.expr.inner) (leaf (codes "}") none)))
+
+-- where a type stands, or the word before it where there is no type
+abbrev span_of_type : Option (Node Name) → Span → Span
+span_of_type None word = word
+span_of_type (Some n) word = n.span
+
+-- what stands before the operator of a variable
+abbrev pub span_before : VariableDef → Span
+span_before v = span_of_type v.entity_type v.variable.span
 
 -- the table's document of a tree of tokens
 abbrev pub document : {k : NodeKind} → ℤ → Tree Shown k → Doc

@@ -285,7 +285,7 @@ pub(super) fn variable_doc<'src>(
     Ok(lead(alloc, &comment)?.append(alloc, whole)?)
 }
 
-// A variable with its type, and its operator where it is there.
+// `left`, and a variable's operator and what it is compared with where they are there.
 fn bound_doc<'src>(
     alloc: Global,
     left: Document<'src>,

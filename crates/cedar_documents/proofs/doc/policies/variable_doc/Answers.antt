@@ -10,7 +10,7 @@ use Rattle.cedar_layout.proofs.Values.{doc_of_nil, doc_of_text}
 use Rattle.cedar_documents.specs.NodeDocuments.{as_leaf, compared_document, document, kind_of_shown, span_before, text_of}
 use Rattle.cedar_documents.specs.Table.{lead, tok, trail, type_part}
 use Rattle.cedar_documents.proofs.Scopes.{unbound, typed, compared, untyped, no_operator, nothing_more, ends_later, pair, assembled, document_bare, document_is, document_compared}
-use Rattle.cedar_documents.proofs.Opened.{GivesIf, opened_leaf, ends_here, in_turn, freely, rewritten, Always, Behind}
+use Rattle.cedar_documents.proofs.Opened.{opened_leaf, ends_here, in_turn, freely, rewritten, Always, Behind}
 use Rattle.cedar_documents.proofs.doc.policies.variable_doc.Goals as goal
 
 -- the parts of the document together
