@@ -36,3 +36,4 @@ pub mod Names
 pub mod ShownTrees
 pub mod StreamTrees
 pub mod Answered
+pub mod Scopes

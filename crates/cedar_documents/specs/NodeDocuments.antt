@@ -1,5 +1,5 @@
 -- The document of a node among the tokens of a context, and what making it does to them.
-use Rattle.std.specs.Prelude.{◌≡◌, ℕ, ℤ, List, [], ◌∷◌, ◌++◌, map, Option, Some, Result, IfOk, IfSome, IsSomeAnd, codes}
+use Rattle.std.specs.Prelude.{◌≡◌, ℕ, ℤ, List, [], ◌∷◌, ◌++◌, map, Option, Some, Result, IfOk, IfSome, IsSomeAnd, codes, None, if◌then◌else◌, ◌&&◌}
 use Rattle.cedar_tokens.specs.Listing.{Decorated, token_value}
 use Rattle.cedar_tokens.specs.Tokens.{token_text}
 use Rattle.cedar_tokens.specs.declared.token.Comment.{Comment}
@@ -7,21 +7,24 @@ use Rattle.cedar_tokens.specs.declared.token.Span.{Span}
 use Rattle.cedar_tokens.specs.declared.token.WrappedToken.{WrappedToken}
 use Rattle.cedar_grammar.specs.TokenKinds.{kind_of}
 use Rattle.cedar_grammar.specs.Trees.{Label, Forest, leaf, none}
-use Rattle.cedar_grammar.specs.TypedTrees.{NodeKind, Tree, PartKind, Clause, parts, part_parts, tree_map, yield, part_yield}
+use Rattle.cedar_grammar.specs.TypedTrees.{NodeKind, Tree, PartKind, Clause, parts, part_parts, tree_map, yield, part_yield, add, variable}
 use Rattle.cedar_grammar.specs.declared.kind.Kind.{Kind}
-use Rattle.cedar_layout.specs.Layout.{Doc}
+use Rattle.cedar_layout.specs.Layout.{Doc, ◌·◌, group, hard, line, nest}
 use Rattle.cedar_layout.specs.Lookups.{Shown, shown, emptied, comment_parts}
 use Rattle.cedar_layout.specs.Value.{doc_of}
 use Rattle.cedar_layout.specs.declared.layout.Document.{Document}
 use Rattle.cedar_tree.specs.Erased.{Erased, ident_tree, value_parts, type_parts, operator_parts, expr_parts, node}
 use Rattle.cedar_tree.specs.declared.tree.Annotation.{Annotation}
 use Rattle.cedar_tree.specs.declared.tree.Cond.{Cond}
+use Rattle.cedar_tree.specs.declared.tree.Name.{Name}
+use Rattle.cedar_tree.specs.declared.tree.Node.{Node}
 use Rattle.cedar_tree.specs.declared.tree.VariableDef.{VariableDef}
 use Rattle.cedar_tree.specs.NodeTrees.{spanned, span_of}
 use Rattle.cedar_documents.specs.Leaves.{part_map}
-use Rattle.cedar_documents.specs.Table.{table, part_table}
+use Rattle.cedar_documents.specs.Table.{table, part_table, C, is_bare, space}
 use Rattle.cedar_documents.specs.Table.{leaf as leaf_of}
 use Rattle.std.specs.declared.alloc.AllocError.{AllocError}
+use Rattle.cedar_documents.specs.Table as table
 
 -- the source text of a token
 abbrev pub text_of : Shown → List ℕ
@@ -55,12 +58,34 @@ annotation_parts a = leaf (codes "@") (ident_tree a.key (value_parts a.value))
 abbrev pub cond_parts : Cond → Erased
 cond_parts c = ident_tree c.cond (leaf (codes "{") (node Label.expr c.expr.span (expr_parts c.expr.inner) (leaf (codes "}") none)))
 
+-- where a type stands, or the word before it where there is no type
+abbrev span_of_type : Option (Node Name) → Span → Span
+span_of_type None word = word
+span_of_type (Some n) word = n.span
+
+-- what stands before the operator of a variable
+abbrev pub span_before : VariableDef → Span
+span_before v = span_of_type v.entity_type v.variable.span
+
 -- the table's document of a tree of tokens
 abbrev pub document : {k : NodeKind} → ℤ → Tree Shown k → Doc
 document i t = table i (tree_map as_leaf t)
 
 abbrev pub part_document : {k : PartKind} → ℤ → Clause Shown k → Doc
 part_document i t = part_table i (part_map as_leaf t)
+
+-- a variable, its operator, and what it is compared with
+abbrev pub compared_document : ℤ → Doc → Shown → Tree Shown add → Doc
+compared_document i left o t = group (group (left · line · table.leaf (as_leaf o)) · nest i (line · document i t))
+
+-- the variables of a scope, and `next` behind each comma without trailing text
+abbrev pub variables_document : ℤ → Doc → Clause Shown variable → Shown → Clause Shown variable → Shown → Clause Shown variable → Doc
+variables_document i next p c a d r = part_document i p · C (as_leaf c) next · part_document i a · C (as_leaf d) next · part_document i r
+
+-- the same as the table lays them out between the scope's brackets
+abbrev pub scope_document : ℤ → Clause Shown variable → Shown → Clause Shown variable → Shown → Clause Shown variable → Doc
+scope_document i p c a d r =
+    if is_bare (part_map as_leaf p) && is_bare (part_map as_leaf a) && is_bare (part_map as_leaf r) then group (nest i (variables_document i space p c a d r)) else (nest i (hard · variables_document i hard p c a d r) · hard)
 
 -- where the last of these tokens ends, or 0
 abbrev pub end_of_tokens : List Shown → ℕ

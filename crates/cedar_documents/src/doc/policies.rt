@@ -1,7 +1,19 @@
 //! The documents of policies, and of what stands in them outside expressions.
-ghost use Rattle.std.specs.Prelude.{◌≡◌};
-ghost use Rattle.cedar_layout.specs.Lookups.{AreInOrder};
+ghost use Rattle.std.specs.Prelude.{◌≡◌, ◌++◌, ◌∷◌, [], List, map, None, Some, codes, IfOk, if◌then◌else◌, not};
+ghost use Rattle.cedar_tokens.specs.Listing.{token_value};
+ghost use Rattle.cedar_tokens.specs.Tokens.{leading_lines, trailing_text};
+ghost use Rattle.cedar_grammar.specs.Trees.{none};
+ghost use Rattle.cedar_grammar.specs.TypedTrees.{Clause, Tree, part_yield, yield};
+ghost use Rattle.cedar_grammar.specs.TypedTrees as kind;
+ghost use Rattle.cedar_tree.specs.Erased.{add_parts, cond_trees, path_parts, relop_text};
+ghost use Rattle.cedar_layout.specs.Comments.{lead_of, space, trail_of};
+ghost use Rattle.cedar_layout.specs.Layout.{hard, nil};
+ghost use Rattle.cedar_layout.specs.Lookups.{AreInOrder, Shown, comment_parts, emptied, shown};
+ghost use Rattle.cedar_layout.specs.Value.{doc_of};
 ghost use Rattle.cedar_documents.specs.Kept.{KeepsTokens};
+ghost use Rattle.cedar_documents.specs.Leaves.{part_map};
+ghost use Rattle.cedar_documents.specs.NodeDocuments.{IsAt, IsNodeOf, IsPartOf, Shows, ShowsBehind, as_leaf, compared_document, document, part_document, scope_document, span_before, text_of, variable_parts, variables_document};
+ghost use Rattle.cedar_documents.specs.Table as table;
 
 use crate::config::Context;
 use crate::doc::expressions::{add_doc, expr_doc};
@@ -18,7 +30,9 @@ use cedar_tree::tree::{
 use std::alloc::{AllocError, Global};
 
 // The leading lines of a comment.
-fn lead<'src>(alloc: Global, comment: &Comment<'src>) -> Result<Document<'src>, AllocError> {
+fn lead<'src>(alloc: Global, comment: &Comment<'src>) -> Result<Document<'src>, AllocError>
+    ensures { IfOk result (λ d. doc_of d ≡ lead_of (leading_lines comment.now)) }
+{
     get_leading_comment_doc_from_str(alloc, comment.leading_comment())
 }
 
@@ -27,7 +41,9 @@ fn trail<'src>(
     alloc: Global,
     comment: &Comment<'src>,
     next: Document<'src>,
-) -> Result<Document<'src>, AllocError> {
+) -> Result<Document<'src>, AllocError>
+    ensures { IfOk result (λ d. doc_of d ≡ trail_of (trailing_text comment.now) (doc_of next.entry)) }
+{
     get_trailing_comment_doc_from_str(alloc, comment.trailing_comment(), next)
 }
 
@@ -40,6 +56,8 @@ fn word_comment<'src>(
     ensures order { AreInOrder context.new.tokens.items }
     ensures kept { KeepsTokens context.old.tokens.items context.new.tokens.items }
     ensures config { context.new.config ≡ context.old.config }
+    ensures taken { (before : List Shown) (t : Shown) (after : List Shown) → t.span.start ≡ span.start → map shown context.old.tokens.items ≡ before ++ (t ∷ after)
+        → IfOk result (λ c. (comment_parts c ≡ t.comment) × (map shown context.new.tokens.items ≡ (before ++ (emptied t ∷ [])) ++ after)) }
 {
     match take_at_start(span, context) {
         Some(comment) => Ok(comment),
@@ -147,7 +165,9 @@ fn head_doc<'src>(
 }
 
 // Whether a variable has a type or an operator.
-fn is_bound(variable: &VariableDef<'_>) -> bool {
+fn is_bound(variable: &VariableDef<'_>) -> bool
+    ensures { (t : Clause Shown kind.variable) → IsPartOf (variable_parts variable.now) t → table.is_bare (part_map as_leaf t) ≡ not result }
+{
     variable.entity_type.is_some() || variable.ineq.is_some()
 }
 
@@ -161,6 +181,11 @@ fn scope_doc<'src>(
     ensures order { AreInOrder context.new.tokens.items }
     ensures kept { KeepsTokens context.old.tokens.items context.new.tokens.items }
     ensures config { context.new.config ≡ context.old.config }
+    ensures shows { (p a r : Clause Shown kind.variable) (c d : Shown) → IsPartOf (variable_parts policy.now.variables.0.inner) p → IsAt policy.now.variables.0.span (part_yield p)
+        → IsPartOf (variable_parts policy.now.variables.1.inner) a → IsAt policy.now.variables.1.span (part_yield a)
+        → IsPartOf (variable_parts policy.now.variables.2.inner) r → IsAt policy.now.variables.2.span (part_yield r)
+        → codes "," ≡ token_value (text_of c) → codes "," ≡ token_value (text_of d)
+        → Shows result context.old.tokens.items context.new.tokens.items (part_yield p ++ (c ∷ (part_yield a ++ (d ∷ part_yield r)))) (scope_document context.old.config.now.indent_width p c a d r) }
 {
     let (principal, action, resource) = &policy.variables;
     if is_bound(&principal.inner) || is_bound(&action.inner) || is_bound(&resource.inner) {
@@ -185,6 +210,11 @@ fn variables_doc<'src>(
     ensures order { AreInOrder context.new.tokens.items }
     ensures kept { KeepsTokens context.old.tokens.items context.new.tokens.items }
     ensures config { context.new.config ≡ context.old.config }
+    ensures shows { (p a r : Clause Shown kind.variable) (c d : Shown) → IsPartOf (variable_parts policy.now.variables.0.inner) p → IsAt policy.now.variables.0.span (part_yield p)
+        → IsPartOf (variable_parts policy.now.variables.1.inner) a → IsAt policy.now.variables.1.span (part_yield a)
+        → IsPartOf (variable_parts policy.now.variables.2.inner) r → IsAt policy.now.variables.2.span (part_yield r)
+        → codes "," ≡ token_value (text_of c) → codes "," ≡ token_value (text_of d)
+        → Shows result context.old.tokens.items context.new.tokens.items (part_yield p ++ (c ∷ (part_yield a ++ (d ∷ part_yield r)))) (variables_document context.old.config.now.indent_width (if is_broken then hard else space) p c a d r) }
 {
     let (principal, action, resource) = &policy.variables;
     let first = variable_doc(alloc, &principal.inner, context)?;
@@ -197,7 +227,9 @@ fn variables_doc<'src>(
 }
 
 // What stands behind a comma of the scope.
-fn separator<'src>(is_broken: bool) -> Document<'src> {
+fn separator<'src>(is_broken: bool) -> Document<'src>
+    ensures { doc_of result ≡ if is_broken then hard else space }
+{
     if is_broken {
         Document::Hard
     } else {
@@ -215,13 +247,22 @@ fn scope_end_doc<'src>(
     ensures order { AreInOrder context.new.tokens.items }
     ensures kept { KeepsTokens context.old.tokens.items context.new.tokens.items }
     ensures config { context.new.config ≡ context.old.config }
+    ensures shows { (r : Shown) (cs : Clause Shown kind.conds) → codes ")" ≡ token_value (text_of r) → IsPartOf (cond_trees policy.now.conds.items none) cs
+        → ShowsBehind policy.now.variables.2.span.end result context.old.tokens.items context.new.tokens.items (r ∷ []) (table.C (as_leaf r) (table.between_conds (part_map as_leaf cs))) }
 {
-    let next = if policy.conds.is_empty() {
+    let next = break_before(&policy.conds);
+    Ok(mark_after(alloc, ")", policy.variables.2.span, next, context)?)
+}
+
+// A break where there is a condition.
+fn break_before<'src>(conds: &[Node<Cond<'_>>]) -> Document<'src>
+    ensures { (t : Clause Shown kind.conds) → IsPartOf (cond_trees conds.now none) t → doc_of result ≡ table.between_conds (part_map as_leaf t) }
+{
+    if conds.is_empty() {
         Document::Nil
     } else {
         Document::Hard
-    };
-    Ok(mark_after(alloc, ")", policy.variables.2.span, next, context)?)
+    }
 }
 
 /// A variable of the scope, with its type and its operator where they are there.
@@ -234,30 +275,41 @@ pub(super) fn variable_doc<'src>(
     ensures order { AreInOrder context.new.tokens.items }
     ensures kept { KeepsTokens context.old.tokens.items context.new.tokens.items }
     ensures config { context.new.config ≡ context.old.config }
+    ensures shows { (t : Clause Shown kind.variable) → IsPartOf (variable_parts variable.now) t → Shows result context.old.tokens.items context.new.tokens.items (part_yield t) (part_document context.old.config.now.indent_width t) }
 {
     let comment = word_comment(variable.variable.span, context)?;
     let type_part = type_part_doc(alloc, variable, context)?;
     let behind = trail(alloc, &comment, Document::Nil)?.append(alloc, type_part)?;
-    let left = Document::Text(variable.variable.inner.0);
-    let whole = match &variable.ineq {
-        Some((op, right)) => {
-            let before = left_span(variable);
-            compared_doc(
-                alloc,
-                left.append(alloc, behind)?,
-                before,
-                *op,
-                right,
-                context,
-            )?
-        }
-        None => left.append(alloc, behind)?,
-    };
+    let left = Document::Text(variable.variable.inner.0).append(alloc, behind)?;
+    let whole = bound_doc(alloc, left, variable, context)?;
     Ok(lead(alloc, &comment)?.append(alloc, whole)?)
 }
 
+// `left`, and a variable's operator and what it is compared with where they are there.
+fn bound_doc<'src>(
+    alloc: Global,
+    left: Document<'src>,
+    variable: &VariableDef<'src>,
+    context: &mut Context<'_, 'src>,
+) -> Made<'src>
+    requires { AreInOrder context.old.tokens.items }
+    ensures order { AreInOrder context.new.tokens.items }
+    ensures kept { KeepsTokens context.old.tokens.items context.new.tokens.items }
+    ensures config { context.new.config ≡ context.old.config }
+    ensures bare { variable.now.ineq ≡ None → Shows result context.old.tokens.items context.new.tokens.items [] (doc_of left.entry) }
+    ensures shows { (q : RelOp × Node Add) → variable.now.ineq ≡ Some q → (o : Shown) (t : Tree Shown kind.add) → relop_text q.0 ≡ token_value (text_of o) → IsNodeOf (add_parts q.1.inner) t
+        → ShowsBehind (span_before variable.now).end result context.old.tokens.items context.new.tokens.items (o ∷ yield t) (compared_document context.old.config.now.indent_width (doc_of left.entry) o t) }
+{
+    let Some((op, right)) = &variable.ineq else {
+        return Ok(left);
+    };
+    compared_doc(alloc, left, left_span(variable), *op, right, context)
+}
+
 // What stands before the operator of a variable.
-fn left_span(variable: &VariableDef<'_>) -> Span {
+fn left_span(variable: &VariableDef<'_>) -> Span
+    ensures { result ≡ span_before variable.now }
+{
     match &variable.entity_type {
         Some(name) => name.span,
         None => variable.variable.span,
@@ -274,6 +326,9 @@ fn type_part_doc<'src>(
     ensures order { AreInOrder context.new.tokens.items }
     ensures kept { KeepsTokens context.old.tokens.items context.new.tokens.items }
     ensures config { context.new.config ≡ context.old.config }
+    ensures bare { variable.now.entity_type ≡ None → Shows result context.old.tokens.items context.new.tokens.items [] nil }
+    ensures shows { (name : Node Name) → variable.now.entity_type ≡ Some name → (w : Shown) (t : Tree Shown kind.name) → codes "is" ≡ token_value (text_of w) → IsNodeOf (path_parts name.inner.path.items name.inner.name) t
+        → ShowsBehind variable.now.variable.span.end result context.old.tokens.items context.new.tokens.items (w ∷ yield t) (table.type_part context.old.config.now.indent_width (as_leaf w) (document context.old.config.now.indent_width t)) }
 {
     let Some(name) = &variable.entity_type else {
         return Ok(Document::Nil);
@@ -291,6 +346,8 @@ fn type_doc<'src>(
     ensures order { AreInOrder context.new.tokens.items }
     ensures kept { KeepsTokens context.old.tokens.items context.new.tokens.items }
     ensures config { context.new.config ≡ context.old.config }
+    ensures shows { (w : Shown) (t : Tree Shown kind.name) → codes "is" ≡ token_value (text_of w) → IsNodeOf (path_parts name.now.inner.path.items name.now.inner.name) t
+        → ShowsBehind before.end result context.old.tokens.items context.new.tokens.items (w ∷ yield t) (table.type_part context.old.config.now.indent_width (as_leaf w) (document context.old.config.now.indent_width t)) }
 {
     let is_word = mark_after(alloc, "is", before, Document::Nil, context)?;
     let is_word = Document::Line.append(alloc, is_word)?.group(alloc)?;
@@ -313,6 +370,8 @@ fn compared_doc<'src>(
     ensures order { AreInOrder context.new.tokens.items }
     ensures kept { KeepsTokens context.old.tokens.items context.new.tokens.items }
     ensures config { context.new.config ≡ context.old.config }
+    ensures shows { (o : Shown) (t : Tree Shown kind.add) → relop_text op ≡ token_value (text_of o) → IsNodeOf (add_parts right.now.inner) t
+        → ShowsBehind before.end result context.old.tokens.items context.new.tokens.items (o ∷ yield t) (compared_document context.old.config.now.indent_width (doc_of left.entry) o t) }
 {
     let operator = mark_after(alloc, rel_op_text(op), before, Document::Nil, context)?;
     let operator = Document::Line.append(alloc, operator)?;
