@@ -32,3 +32,5 @@ pub mod Keeping
 pub mod Focus
 pub mod Marks
 pub mod Opened
+pub mod Commas
+pub mod Primaries
