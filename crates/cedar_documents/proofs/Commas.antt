@@ -8,7 +8,9 @@ use Rattle.cedar_grammar.specs.Trees.{Label, Forest, leaf, branch, none}
 use Rattle.cedar_grammar.specs.TypedTrees.{NodeKind, Tree, parts, yield, expr, init, args, inits, args_one, args_more, inits_one, inits_more}
 use Rattle.cedar_layout.specs.Layout.{Doc, nil, line, ◌·◌}
 use Rattle.cedar_layout.specs.Lookups.{Shown, emptied}
-use Rattle.cedar_layout.proofs.Values.{dot-nil, dot_assoc}
+use Rattle.cedar_layout.specs.Value.{doc_of, docs_of}
+use Rattle.cedar_layout.specs.declared.layout.Document.{Document}
+use Rattle.cedar_layout.proofs.Values.{dot-nil, dot_assoc, docs_of-push}
 use Rattle.cedar_tree.specs.Erased.{Erased, expr_parts}
 use Rattle.cedar_tree.specs.NodeLists.{item_trees, more_trees, init_parts}
 use Rattle.cedar_tree.specs.NodeTrees.{is_node}
@@ -139,6 +141,10 @@ none_from xs j h = at_drop_all (λ ys. ys) xs j h
 pub some_at : {X : Type 0} (xs : List X) (j : ℕ) → j < length xs → xs ≡ [] → ⊥
 some_at [] j h e = absurd (omega arith)
 some_at (x ∷ xs) j h e = cc
+
+-- two documents more
+pub pushed_two : (xs ys zs : List Document) (c d : Document) → ys ≡ xs ++ (c ∷ []) → zs ≡ ys ++ (d ∷ []) → docs_of zs ≡ (docs_of xs · doc_of c) · doc_of d
+pushed_two xs ys zs c d e f = ap docs_of (f ∙ ap (λ y. y ++ (d ∷ [])) e) ∙ docs_of-push (xs ++ (c ∷ [])) d ∙ ap (λ z. z · doc_of d) (docs_of-push xs c)
 
 -- ---- the items of typed trees
 

@@ -1,6 +1,6 @@
 -- What stands between brackets, and primaries: what their nodes tell of their parts.
-use Rattle.std.proofs.Common.{◌≡◌, ℕ, ℤ, List, [], ◌∷◌, ◌++◌, map, length, Option, Some, None, Bool, true, false, nat_eq, refl, sym, ap, ◌∙◌, arith, rules}
-use Rattle.std.specs.Prelude.{codes, Vec, if◌then◌else◌, IsTrue, IsFalse}
+use Rattle.std.proofs.Common.{◌≡◌, ℕ, ℤ, List, [], ◌∷◌, ◌++◌, map, length, Option, Some, None, Bool, true, false, nat_eq, refl, sym, ap, ◌∙◌, subst, arith, rules}
+use Rattle.std.specs.Prelude.{⊤, codes, Vec, if◌then◌else◌, IsTrue, IsFalse}
 use Rattle.std.specs.declared.alloc.Global.{Global}
 use Rattle.std.specs.declared.boxed.Box.{Box}
 use Rattle.std.proofs.lemmas.Bool.{eqb-true}
@@ -9,7 +9,7 @@ use Rattle.cedar_tokens.specs.declared.token.Span.{Span}
 use Rattle.cedar_grammar.specs.declared.kind.Kind.{Kind}
 use Rattle.cedar_grammar.specs.Kinds.{is}
 use Rattle.cedar_grammar.specs.Trees.{Label, Forest, leaf, branch, none, join}
-use Rattle.cedar_grammar.specs.TypedTrees.{NodeKind, Tree, parts, primary, literal_label, literal, slot, reference, named, parens, list_empty, list_of, record_empty, record_of}
+use Rattle.cedar_grammar.specs.TypedTrees.{NodeKind, Tree, parts, primary, inits, inits_one, inits_more, literal_label, literal, slot, reference, named, parens, list_empty, list_of, record_empty, record_of}
 use Rattle.cedar_layout.specs.Layout.{Doc, nil, line, nest, group, ◌·◌}
 use Rattle.cedar_layout.specs.Lookups.{Shown, emptied}
 use Rattle.cedar_tree.specs.Erased.{Erased, node, variant, expr_parts, or_parts, primary_parts, ref_tree, name_tree, variant_label, literal_text, slot_text}
@@ -71,9 +71,10 @@ pub no_items : {X : Type 0} (l : Label) (inside : X → Erased) (ns : List (Node
 no_items l inside [] e = refl
 no_items l inside (n ∷ ns) e = absurd cc
 
-pub some_items : {X : Type 0} (l m : Label) (inside : X → Erased) (ns : List (Node X)) (f g : Forest Label Shown) → item_trees l inside ns ≡ nodes_of (branch m f g) → ns ≡ [] → ⊥
-some_items l m inside [] f g e q = cc
-some_items l m inside (n ∷ ns) f g e q = cc
+pub some_inits : (ns : List (Node RecInit.RecInit)) (t : Tree Shown inits) → item_trees Label.rec_init init_parts ns ≡ nodes_of (parts kind_of_shown t) → ns ≡ [] → ⊥
+some_inits [] (inits_one x) e q = cc
+some_inits [] (inits_more x c r) e q = cc
+some_inits (n ∷ ns) t e q = cc
 
 is_false : (b : Bool) → (b ≡ true → ⊥) → IsFalse b
 is_false true e = absurd (e refl)
@@ -163,6 +164,33 @@ tree_shape (record_of l a r) = refl
 shape_of_node : (X : Erased) (t : Tree Shown primary) → X ≡ nodes_of (parts kind_of_shown t) → first_shape X ≡ shape t
 shape_of_node X t e = ap first_shape e ∙ tree_shape t
 
+-- the trees of this shape
+abbrev pub Only : Shape → Tree Shown primary → Type 0
+Only literals (literal x) = ⊤
+Only slots (slot x) = ⊤
+Only refs (reference r) = ⊤
+Only names (named n) = ⊤
+Only brackets (parens l e r) = ⊤
+Only lists (list_empty l r) = ⊤
+Only lists (list_of l a r) = ⊤
+Only records (record_empty l r) = ⊤
+Only records (record_of l a r) = ⊤
+Only s t = ⊥
+
+only_itself : (t : Tree Shown primary) → Only (shape t) t
+only_itself (literal x) = tt
+only_itself (slot x) = tt
+only_itself (reference r) = tt
+only_itself (named n) = tt
+only_itself (parens l e r) = tt
+only_itself (list_empty l r) = tt
+only_itself (list_of l a r) = tt
+only_itself (record_empty l r) = tt
+only_itself (record_of l a r) = tt
+
+only : (s : Shape) (X : Erased) (t : Tree Shown primary) → first_shape X ≡ s → X ≡ nodes_of (parts kind_of_shown t) → Only s t
+only s X t h e = subst (λ z. Only z t) (sym (shape_of_node X t e) ∙ h) (only_itself t)
+
 literal_is : (v : Literal) → label_shape (variant_label v) ≡ literals
 literal_is Literal.True = refl
 literal_is Literal.False = refl
@@ -171,31 +199,31 @@ literal_is (Literal.Str t) = refl
 
 -- what the node of each variant is, and which trees it can be
 module _ (p : Primary.Primary) (t : Tree Shown primary) (e : primary_parts p ≡ nodes_of (parts kind_of_shown t)) where
-  pub seen_literal : (n : Node Literal) → p ≡ Primary.Literal n → (node (variant_label n.inner) n.span (leaf (literal_text n.inner) none) none ≡ nodes_of (parts kind_of_shown t)) × (literals ≡ shape t)
-  seen_literal n h = let f = sym (ap primary_parts h) ∙ e in (f, sym (literal_is n.inner) ∙ shape_of_node (node (variant_label n.inner) n.span (leaf (literal_text n.inner) none) none) t f)
+  pub seen_literal : (n : Node Literal) → p ≡ Primary.Literal n → (node (variant_label n.inner) n.span (leaf (literal_text n.inner) none) none ≡ nodes_of (parts kind_of_shown t)) × Only literals t
+  seen_literal n h = let f = sym (ap primary_parts h) ∙ e in (f, only literals (node (variant_label n.inner) n.span (leaf (literal_text n.inner) none) none) t (literal_is n.inner) f)
 
-  pub seen_slot : (n : Node Slot) → p ≡ Primary.Slot n → (node Label.slot n.span (leaf (slot_text n.inner) none) none ≡ nodes_of (parts kind_of_shown t)) × (slots ≡ shape t)
-  seen_slot n h = let f = sym (ap primary_parts h) ∙ e in (f, shape_of_node (node Label.slot n.span (leaf (slot_text n.inner) none) none) t f)
+  pub seen_slot : (n : Node Slot) → p ≡ Primary.Slot n → (node Label.slot n.span (leaf (slot_text n.inner) none) none ≡ nodes_of (parts kind_of_shown t)) × Only slots t
+  seen_slot n h = let f = sym (ap primary_parts h) ∙ e in (f, only slots (node Label.slot n.span (leaf (slot_text n.inner) none) none) t refl f)
 
-  pub seen_ref : (n : Node Ref) → p ≡ Primary.Ref n → (ref_tree n none ≡ nodes_of (parts kind_of_shown t)) × (refs ≡ shape t)
-  seen_ref n h = let f = sym (ap primary_parts h) ∙ e in (f, shape_of_node (ref_tree n none) t f)
+  pub seen_ref : (n : Node Ref) → p ≡ Primary.Ref n → (ref_tree n none ≡ nodes_of (parts kind_of_shown t)) × Only refs t
+  seen_ref n h = let f = sym (ap primary_parts h) ∙ e in (f, only refs (ref_tree n none) t refl f)
 
-  pub seen_name : (n : Node Name) → p ≡ Primary.Name n → (name_tree n none ≡ nodes_of (parts kind_of_shown t)) × (names ≡ shape t)
-  seen_name n h = let f = sym (ap primary_parts h) ∙ e in (f, shape_of_node (name_tree n none) t f)
+  pub seen_name : (n : Node Name) → p ≡ Primary.Name n → (name_tree n none ≡ nodes_of (parts kind_of_shown t)) × Only names t
+  seen_name n h = let f = sym (ap primary_parts h) ∙ e in (f, only names (name_tree n none) t refl f)
 
 view_brackets : (b : Box (Node Expr.Expr) Global) → primary_parts (Primary.Expr b) ≡ variant Label.parens (leaf (codes "(") (node Label.expr b.value.span (expr_parts b.value.inner) (leaf (codes ")") none))) none
 view_brackets b = search (rules, Or.the_lemmas)
 
 module _ (p : Primary.Primary) (t : Tree Shown primary) (e : primary_parts p ≡ nodes_of (parts kind_of_shown t)) where
   pub seen_brackets : (b : Box (Node Expr.Expr) Global) → p ≡ Primary.Expr b
-      → (variant Label.parens (leaf (codes "(") (node Label.expr b.value.span (expr_parts b.value.inner) (leaf (codes ")") none))) none ≡ nodes_of (parts kind_of_shown t)) × (brackets ≡ shape t)
-  seen_brackets b h = let f = sym (view_brackets b) ∙ sym (ap primary_parts h) ∙ e in (f, shape_of_node (variant Label.parens (leaf (codes "(") (node Label.expr b.value.span (expr_parts b.value.inner) (leaf (codes ")") none))) none) t f)
+      → (variant Label.parens (leaf (codes "(") (node Label.expr b.value.span (expr_parts b.value.inner) (leaf (codes ")") none))) none ≡ nodes_of (parts kind_of_shown t)) × Only brackets t
+  seen_brackets b h = let f = sym (view_brackets b) ∙ sym (ap primary_parts h) ∙ e in (f, only brackets (variant Label.parens (leaf (codes "(") (node Label.expr b.value.span (expr_parts b.value.inner) (leaf (codes ")") none))) none) t refl f)
 
-  pub seen_list : (v : Vec (Node Expr.Expr) Global) → p ≡ Primary.EList v → (variant Label.list (leaf (codes "[") (join (item_trees Label.expr expr_parts v.items) (leaf (codes "]") none))) none ≡ nodes_of (parts kind_of_shown t)) × (lists ≡ shape t)
-  seen_list v h = let f = sym (view_list v) ∙ sym (ap primary_parts h) ∙ e in (f, shape_of_node (variant Label.list (leaf (codes "[") (join (item_trees Label.expr expr_parts v.items) (leaf (codes "]") none))) none) t f)
+  pub seen_list : (v : Vec (Node Expr.Expr) Global) → p ≡ Primary.EList v → (variant Label.list (leaf (codes "[") (join (item_trees Label.expr expr_parts v.items) (leaf (codes "]") none))) none ≡ nodes_of (parts kind_of_shown t)) × Only lists t
+  seen_list v h = let f = sym (view_list v) ∙ sym (ap primary_parts h) ∙ e in (f, only lists (variant Label.list (leaf (codes "[") (join (item_trees Label.expr expr_parts v.items) (leaf (codes "]") none))) none) t refl f)
 
-  pub seen_record : (v : Vec (Node RecInit.RecInit) Global) → p ≡ Primary.RInits v → (variant Label.fields (leaf (codes "{") (join (item_trees Label.rec_init init_parts v.items) (leaf (codes "}") none))) none ≡ nodes_of (parts kind_of_shown t)) × (records ≡ shape t)
-  seen_record v h = let f = sym (view_record v) ∙ sym (ap primary_parts h) ∙ e in (f, shape_of_node (variant Label.fields (leaf (codes "{") (join (item_trees Label.rec_init init_parts v.items) (leaf (codes "}") none))) none) t f)
+  pub seen_record : (v : Vec (Node RecInit.RecInit) Global) → p ≡ Primary.RInits v → (variant Label.fields (leaf (codes "{") (join (item_trees Label.rec_init init_parts v.items) (leaf (codes "}") none))) none ≡ nodes_of (parts kind_of_shown t)) × Only records t
+  seen_record v h = let f = sym (view_record v) ∙ sym (ap primary_parts h) ∙ e in (f, only records (variant Label.fields (leaf (codes "{") (join (item_trees Label.rec_init init_parts v.items) (leaf (codes "}") none))) none) t refl f)
 
 -- ---- expressions
 
@@ -213,6 +241,12 @@ module _ (x : Expr.Expr) (F : Erased) (e : expr_parts x ≡ F) where
   pub seen_if : (a b c : Box (Node Expr.Expr) Global) → x ≡ Expr.If a b c
       → leaf (codes "if") (node Label.expr a.value.span (expr_parts a.value.inner) (leaf (codes "then") (node Label.expr b.value.span (expr_parts b.value.inner) (leaf (codes "else") (node Label.expr c.value.span (expr_parts c.value.inner) none))))) ≡ F
   seen_if a b c h = sym (view_if a b c) ∙ sym (ap expr_parts h) ∙ e
+
+pub no_leaf : (l : Label × Option Span) (p r : Erased) (x : Shown) (f : Forest Label Shown) → branch l p r ≡ nodes_of (leaf x f) → ⊥
+no_leaf l p r x f e = cc
+
+pub no_branch : (s : List ℕ) (r : Erased) (l : Label) (f g : Forest Label Shown) → leaf s r ≡ nodes_of (branch l f g) → ⊥
+no_branch s r l f g e = cc
 
 -- the document of `if`, as it is put together
 pub three_lines : (w : ℤ) (i c t a e b r1 r2 r3 r4 n g nl ln : Doc) → nl ≡ nil → ln ≡ line → r1 ≡ e · nest w (line · b) · nl → r2 ≡ ln · r1 → r3 ≡ t · nest w (line · a) · r2 → r4 ≡ ln · r3 → n ≡ i · nest w (line · c) · r4 → g ≡ group n
