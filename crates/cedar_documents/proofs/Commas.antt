@@ -1,5 +1,5 @@
 -- Items with commas between them, and the loops that make their documents.
-use Rattle.std.proofs.Common.{◌≡◌, ℕ, ℤ, List, [], ◌∷◌, ◌++◌, map, length, drop, get_or, ◌+◌, ◌<◌, ◌≤◌, Option, Some, None, Bool, true, false, refl, sym, ap, ◌∙◌, subst, arith, append-nil, append_assoc}
+use Rattle.std.proofs.Common.{◌≡◌, ℕ, ℤ, List, [], ◌∷◌, ◌++◌, map, length, drop, get_or, ◌+◌, ◌<◌, ◌≤◌, Option, Some, None, true, refl, sym, ap, ◌∙◌, arith, append-nil, append_assoc}
 use Rattle.std.specs.Prelude.{codes}
 use Rattle.std.proofs.lemmas.List.{map-append, at_drop_more, at_drop_all}
 use Rattle.cedar_tokens.specs.Listing.{token_value}
@@ -79,7 +79,7 @@ module _ (X : Type 0) (k : NodeKind) (l : Label) (inside : X → Erased) (i : �
       let v = hc t o.0 front ((ts ++ row_yield xs) ++ a) p st in
       let w = hd x.1 u.1 u.0 (front ++ (emptied t ∷ [])) (row_yield xs ++ a) (v.1 ∙ ap (λ z. (front ++ (emptied t ∷ [])) ++ z) (append_assoc ts (row_yield xs) a)) in
       let moved : (front ++ (emptied t ∷ [])) ++ map emptied ts ≡ b ++ map emptied (finished ++ (t ∷ ts)) =
-          append_assoc front (emptied t ∷ []) (map emptied ts) ∙ append_assoc b (map emptied finished) (emptied t ∷ map emptied ts) ∙ ap (λ z. b ++ z) (sym (map-append emptied finished (t ∷ ts))) in
+      append_assoc front (emptied t ∷ []) (map emptied ts) ∙ append_assoc b (map emptied finished) (emptied t ∷ map emptied ts) ∙ ap (λ z. b ++ z) (sym (map-append emptied finished (t ∷ ts))) in
       record {
         finished = finished ++ (t ∷ ts);
         rest = xs;
@@ -103,10 +103,12 @@ module _ (X : Type 0) (k : NodeKind) (l : Label) (inside : X → Erased) (i : �
   next_item whole None n left ns docs docs' c d old now mid new e ne p hn hs hd q =
       let r = hn refl [] now refl in
       (ne, λ f row g b a st. first_stage n ns docs' d mid new hd (q ∙ ap (λ z. (z · c) · d) p.1 ∙ ap (λ z. z · d) r.0) f row (ap (item_trees l inside) (sym e ∙ p.0) ∙ g) b a (r.1 ∙ p.2 ∙ st))
-  next_item whole (Some s) n left ns docs docs' c d old now mid new e ne p hn hs hd q =
-      (ne, λ f row g b a st.
-      let y = p.1 f row g b a st in
-      next_stage s n ns docs docs' c d now mid new f row b a (hs s refl) hd q y.finished y.rest y.tokens (ap (more_trees l inside) (sym e) ∙ y.nodes) y.place y.shown_now y.made)
+  next_item whole (Some s) n left ns docs docs' c d old now mid new e ne p hn hs hd q = (
+    ne,
+    λ f row g b a st.
+        let y = p.1 f row g b a st in
+        next_stage s n ns docs docs' c d now mid new f row b a (hs s refl) hd q y.finished y.rest y.tokens (ap (more_trees l inside) (sym e) ∙ y.nodes) y.place y.shown_now y.made,
+  )
 
   last_stage : (s : Span) (docs : Doc) (now : List Shown) (f : Tree Shown k) (row : List (Shown × Tree Shown k)) (b a : List Shown) (finished : List Shown) (rest : List (Shown × Tree Shown k)) → yield f ++ row_yield row ≡ finished ++ row_yield rest
       → more_trees l inside [] ≡ nodes_of (row_parts l rest) → now ≡ (b ++ map emptied finished) ++ (row_yield rest ++ a) → docs · row_document i rest ≡ document i f · row_document i row

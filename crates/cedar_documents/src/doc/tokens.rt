@@ -155,8 +155,8 @@ pub(super) fn between_lines<'src>(
     Document::Line.append(alloc, keyword.append(alloc, Document::Line)?)
 }
 
-/// The comma behind an item, and a line.
-pub(super) fn comma_and_line<'src>(
+// The comma behind an item, and a line.
+fn comma_and_line<'src>(
     alloc: Global,
     span: Span,
     context: &mut Context<'_, 'src>,

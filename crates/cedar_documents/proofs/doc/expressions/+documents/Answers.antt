@@ -1,11 +1,12 @@
 -- What the functions of expressions show: each opens its node's equation, and puts the documents of its parts together.
-use Rattle.std.proofs.Common.{◌≡◌, ◌+◌, [], ◌∷◌, ◌++◌, map, drop, length, vec_len, Some, refl, sym, ap, ◌∙◌, rules}
+use Rattle.std.proofs.Common.{◌≡◌, ◌+◌, [], ◌∷◌, ◌++◌, map, drop, length, vec_len, Some, refl, sym, ap, ◌∙◌, rules, to_z, of_z, w64, arith}
+use Rattle.std.proofs.lemmas.Int.{ints}
 use Rattle.std.specs.Prelude.{pos}
 use Rattle.cedar_grammar.specs.Trees.{Label, leaf, branch, none, join}
 use Rattle.cedar_grammar.specs.TypedTrees.{parts, yield, init_of, literal, slot, reference, named, parens, list_empty, list_of, record_empty, record_of, plain_expr, if_expr}
 use Rattle.cedar_grammar.specs.TypedTrees as kind
 use Rattle.cedar_layout.specs.Comments.{space}
-use Rattle.cedar_layout.specs.Layout.{◌·◌, nil, line, nest, group}
+use Rattle.cedar_layout.specs.Layout.{◌·◌, line, nest, group}
 use Rattle.cedar_layout.specs.Lookups.{shown}
 use Rattle.cedar_layout.specs.Value.{doc_of, docs_of}
 use Rattle.cedar_layout.proofs.Values.{doc_of_nil, doc_of_line, doc_of_text, doc_of_seq}
@@ -13,7 +14,7 @@ use Rattle.cedar_tree.specs.Erased.{expr_parts, or_parts}
 use Rattle.cedar_tree.specs.NodeLists.{item_trees, init_parts}
 use Rattle.cedar_tree.specs.declared.tree.Expr as Expr
 use Rattle.cedar_tree.specs.declared.tree.RecInit as RecInit
-use Rattle.cedar_documents.specs.NodeDocuments.{IsAt, nodes_of, kind_of_shown, as_leaf, document}
+use Rattle.cedar_documents.specs.NodeDocuments.{IsAt, kind_of_shown, as_leaf, document}
 use Rattle.cedar_documents.specs.Table as table
 use Rattle.cedar_documents.proofs.Opened.{opened_tree, opened_token, opened_leaf, opened_variant, starts_here, ends_here, in_turn, freely, rewritten, nothing_behind, Always, Behind}
 use Rattle.cedar_documents.proofs.Commas.{next_item, no_item, all_args, all_inits, from_index, none_from, some_at, pushed_two}
@@ -24,13 +25,15 @@ pub expr_doc-returns-in-Or-clause-shows : goal.expr_doc-returns-in-Or-clause-sho
 expr_doc-returns-in-Or-clause-shows _ c (plain_expr o) at e =
     let q = opened_tree Label.or c.in-Or.or.value.span _ _ o none refl (seen_plain c.args.expr.now _ e c.in-Or.or c.in-Or.is) in
     c.or_doc.ensures.shows o (ap (λ n. or_parts n.inner) c.deref-in-Or.ensures ∙ q.0)
-expr_doc-returns-in-Or-clause-shows _ c (if_expr i p t a f b) at e = absurd (no_leaf _ _ _ i _ (seen_plain c.args.expr.now _ e c.in-Or.or c.in-Or.is))
+expr_doc-returns-in-Or-clause-shows _ c (if_expr i p t a f b) at e = absurd (no_leaf _ _ _ i (branch Label.expr (parts kind_of_shown p) (leaf t (branch Label.expr (parts kind_of_shown a) (leaf f (branch Label.expr (parts kind_of_shown b) none))))) (seen_plain c.args.expr.now _ e c.in-Or.or c.in-Or.is))
 
 pub expr_doc-returns-in_ok-group-in-If-clause-shows : goal.expr_doc-returns-in_ok-group-in-If-clause-shows
-expr_doc-returns-in_ok-group-in-If-clause-shows _ c (plain_expr o) at e = absurd (no_branch _ _ Label.or _ none (seen_if c.args.expr.now _ e c.in-If.test c.in-If.yes c.in-If.no c.in-If.is))
+expr_doc-returns-in_ok-group-in-If-clause-shows _ c (plain_expr o) at e = absurd (no_branch _ _ Label.or (parts kind_of_shown o) none (seen_if c.args.expr.now _ e c.in-If.test c.in-If.yes c.in-If.no c.in-If.is))
 expr_doc-returns-in_ok-group-in-If-clause-shows _ c (if_expr i p t a f b) at e =
     let width = c.args.context.now.config.now.indent_width in
-    let w = c.expr_doc-in-If-2.new.context.config.now.indent_width in
+    let indent = c.expr_doc-in-If-2.new.context.config.now.indent_width in
+    let w = to_z w64 (of_z w64 indent) in
+    let fits : w ≡ indent = omega (arith, ints) in
     let third = branch Label.expr (parts kind_of_shown b) none in
     let second = branch Label.expr (parts kind_of_shown a) (leaf f third) in
     let o1 = opened_token _ _ i (branch Label.expr (parts kind_of_shown p) (leaf t second)) (seen_if c.args.expr.now _ e c.in-If.test c.in-If.yes c.in-If.no c.in-If.is) in
@@ -44,7 +47,7 @@ expr_doc-returns-in_ok-group-in-If-clause-shows _ c (if_expr i p t a f b) at e =
     let w1 : c.mark_at_start.new.context.config.now.indent_width ≡ width = ap (λ g. g.now.indent_width) c.in_ok-if_word-in-If.ensures.config in
     let w2 : c.mark_after.new.context.config.now.indent_width ≡ width = ap (λ g. g.now.indent_width) s2 in
     let w3 : c.mark_after-in-If.new.context.config.now.indent_width ≡ width = ap (λ g. g.now.indent_width) s3 in
-    let w4 : w ≡ width = ap (λ g. g.now.indent_width) (c.in_ok-second-in-If.ensures.config ∙ s3) in
+    let w4 : w ≡ width = fits ∙ ap (λ g. g.now.indent_width) (c.in_ok-second-in-If.ensures.config ∙ s3) in
     let test_end = c.deref-in-If-2.result.now.span in
     let yes_end = c.deref-in-If-5.result.now.span in
     let at1 : IsAt c.deref-in-If.result.now.span (yield p) = o2.1 ∙ ap (λ n. Some n.span) (sym c.deref-in-If.ensures) in
@@ -68,8 +71,8 @@ expr_doc-returns-in_ok-group-in-If-clause-shows _ c (if_expr i p t a f b) at e =
     let lf = table.leaf (as_leaf f) in
     let all = rewritten (i ∷ (yield p ++ (t ∷ (yield a ++ (f ∷ yield b))))) (ap (λ j. group (li · nest j (line · document width p) · line · lt · nest j (line · document width a) · line · lf · nest j (line · document width b))) w4) g1 in
     let made = three_lines w (doc_of c.in_ok-if_word-in-If.if_word) (doc_of c.in_ok-condition-in-If.condition) (doc_of c.in_ok-then_word-in-If.then_word) (doc_of c.in_ok-first-in-If.first) (doc_of c.in_ok-else_word-in-If.else_word) (doc_of c.in_ok-second-in-If.second)
-        (doc_of c.in_ok-rest-in-If.rest) (doc_of c.in_ok-rest-in-If-2.rest) (doc_of c.in_ok-rest-in-If-3.rest) (doc_of c.in_ok-rest-in-If-4.rest) (doc_of c.in_ok-on_next_line-in-If.field-0) (doc_of c.in_ok-group-in-If.field-0) _ _ doc_of_nil doc_of_line
-        c.in_ok-rest-in-If.ensures c.in_ok-rest-in-If-2.ensures c.in_ok-rest-in-If-3.ensures c.in_ok-rest-in-If-4.ensures c.in_ok-on_next_line-in-If.ensures c.in_ok-group-in-If.ensures in
+    (doc_of c.in_ok-rest-in-If.rest) (doc_of c.in_ok-rest-in-If-2.rest) (doc_of c.in_ok-rest-in-If-3.rest) (doc_of c.in_ok-rest-in-If-4.rest) (doc_of c.in_ok-on_next_line-in-If.field-0) (doc_of c.in_ok-group-in-If.field-0) _ _ doc_of_nil doc_of_line
+    c.in_ok-rest-in-If.ensures c.in_ok-rest-in-If-2.ensures c.in_ok-rest-in-If-3.ensures c.in_ok-rest-in-If-4.ensures c.in_ok-on_next_line-in-If.ensures c.in_ok-group-in-If.ensures in
     λ before after st.
     let r = all before after tt st in
     (made ∙ r.0, r.1)
@@ -162,9 +165,11 @@ primary_doc-returns-in_ok-record_doc-in-RInits-clause-shows _ c (record_of l x r
     let full = some_inits c.in-RInits.inits.items x q.0 in
     let len : vec_len c.in-RInits.inits ≡ length c.in-RInits.inits.items = search rules in
     let width = c.args.context.now.config.now.indent_width in
-    let indent = c.mark_at_end-in-RInits.new.context.config.now.indent_width in
+    let given = c.mark_at_end-in-RInits.new.context.config.now.indent_width in
+    let indent = to_z w64 (of_z w64 given) in
+    let fits : indent ≡ given = omega (arith, ints) in
     let w : c.mark_at_start-in-RInits.new.context.config.now.indent_width ≡ width = ap (λ g. g.now.indent_width) c.in_ok-open-in-RInits.ensures.config in
-    let w2 : indent ≡ width = ap (λ g. g.now.indent_width) (c.in_ok-close-in-RInits.ensures.config ∙ c.in_ok-items-in-RInits.ensures.config ∙ c.in_ok-open-in-RInits.ensures.config) in
+    let w2 : indent ≡ width = fits ∙ ap (λ g. g.now.indent_width) (c.in_ok-close-in-RInits.ensures.config ∙ c.in_ok-items-in-RInits.ensures.config ∙ c.in_ok-open-in-RInits.ensures.config) in
     let first = rewritten (l ∷ []) (nothing_behind l) (freely (l ∷ []) (c.in_ok-open-in-RInits.ensures.shows l (starts_here c.args.span l (yield x ++ (r ∷ [])) at) p.0)) in
     let inside = rewritten (yield x) (ap (λ j. document j x) w) (freely (yield x) (c.in_ok-items-in-RInits.ensures.shows x (ap (λ ns. item_trees Label.rec_init init_parts ns) c.deref-in-RInits.ensures.value ∙ q.0))) in
     let last = rewritten (r ∷ []) (nothing_behind r) (freely (r ∷ []) (c.in_ok-close-in-RInits.ensures.shows r (ends_with c.args.span l (yield x) r at) q.1)) in
@@ -185,12 +190,15 @@ items_doc-loop-item-preserved _ c =
     let i = c.args.context.now.config.now.indent_width in
     let same = c.in_ok-comma.ensures.config ∙ c.loop-item.invariant.2 in
     let w : c.comma_before.new.context.config.now.indent_width ≡ i = ap (λ g. g.now.indent_width) same in
-    let made = pushed_two c.loop-item.docs.items c.push.new.self.items c.push-2.new.self.items c.in_ok-comma.comma c.in_ok-doc.doc c.in_ok-push.ensures.items c.in_ok-push-2.ensures.items in
-    (c.in_ok-doc.ensures.order, c.in_ok-doc.ensures.kept ∙ c.in_ok-comma.ensures.kept ∙ c.loop-item.invariant.1, c.in_ok-doc.ensures.config ∙ same,
-        next_item Expr.Expr kind.expr Label.expr expr_parts i refl items c.loop-item.before node (drop j items) (drop (j + 1) items) (docs_of c.loop-item.docs.items) (docs_of c.push-2.new.self.items) (doc_of c.in_ok-comma.comma) (doc_of c.in_ok-doc.doc)
-        (map shown c.args.context.now.tokens.items) (map shown c.loop-item.context.tokens.items) (map shown c.comma_before.new.context.tokens.items) (map shown c.expr_doc.new.context.tokens.items)
-        (from_index items j node c.loop-item-test.true c.item-item.is) (some_at items j c.loop-item-test.true) c.loop-item.invariant.3 (λ e b a st. c.in_ok-comma.ensures.none e b a st) (λ s e t text b a place st. c.in_ok-comma.ensures.shows s e t text b a place st)
-        (λ f at parts b a st. let r = c.in_ok-doc.ensures.shows f at parts b a st in (r.0 ∙ ap (λ z. document z f) w, r.1)) made)
+    let made = pushed_two c.loop-item.docs.items c.push.new.self.items c.push-in-loop-item.new.self.items c.in_ok-comma.comma c.in_ok-doc.doc c.in_ok-push.ensures.items c.in_ok-push-2.ensures.items in (
+      c.in_ok-doc.ensures.order,
+      c.in_ok-doc.ensures.kept ∙ c.in_ok-comma.ensures.kept ∙ c.loop-item.invariant.1,
+      c.in_ok-doc.ensures.config ∙ same,
+      next_item Expr.Expr kind.expr Label.expr expr_parts i refl items c.loop-item.before node (drop j items) (drop (j + 1) items) (docs_of c.loop-item.docs.items) (docs_of c.push-in-loop-item.new.self.items) (doc_of c.in_ok-comma.comma) (doc_of c.in_ok-doc.doc)
+          (map shown c.args.context.now.tokens.items) (map shown c.loop-item.context.tokens.items) (map shown c.comma_before.new.context.tokens.items) (map shown c.expr_doc.new.context.tokens.items)
+          (from_index items j node c.loop-item-test.true c.item-item.is) (some_at items j c.loop-item-test.true) c.loop-item.invariant.3 (λ e b a st. c.in_ok-comma.ensures.none e b a st) (λ s e t text b a place st. c.in_ok-comma.ensures.shows s e t text b a place st)
+          (λ f at parts b a st. let r = c.in_ok-doc.ensures.shows f at parts b a st in (r.0 ∙ ap (λ z. document z f) w, r.1)) made,
+    )
 
 pub items_doc-returns-clause-none : goal.items_doc-returns-clause-none
 items_doc-returns-clause-none _ c e before after st =
@@ -213,12 +221,15 @@ inits_doc-loop-init-preserved _ c =
     let i = c.args.context.now.config.now.indent_width in
     let same = c.in_ok-comma.ensures.config ∙ c.loop-init.invariant.2 in
     let w : c.comma_before.new.context.config.now.indent_width ≡ i = ap (λ g. g.now.indent_width) same in
-    let made = pushed_two c.loop-init.docs.items c.push.new.self.items c.push-2.new.self.items c.in_ok-comma.comma c.in_ok-doc.doc c.in_ok-push.ensures.items c.in_ok-push-2.ensures.items in
-    (c.in_ok-doc.ensures.order, c.in_ok-doc.ensures.kept ∙ c.in_ok-comma.ensures.kept ∙ c.loop-init.invariant.1, c.in_ok-doc.ensures.config ∙ same,
-        next_item RecInit.RecInit kind.init Label.rec_init init_parts i refl items c.loop-init.before node (drop j items) (drop (j + 1) items) (docs_of c.loop-init.docs.items) (docs_of c.push-2.new.self.items) (doc_of c.in_ok-comma.comma) (doc_of c.in_ok-doc.doc)
-        (map shown c.args.context.now.tokens.items) (map shown c.loop-init.context.tokens.items) (map shown c.comma_before.new.context.tokens.items) (map shown c.init_doc.new.context.tokens.items)
-        (from_index items j node c.loop-init-test.true c.init-item.is) (some_at items j c.loop-init-test.true) c.loop-init.invariant.3 (λ e b a st. c.in_ok-comma.ensures.none e b a st) (λ s e t text b a place st. c.in_ok-comma.ensures.shows s e t text b a place st)
-        (λ f at parts b a st. let r = c.in_ok-doc.ensures.shows f parts b a st in (r.0 ∙ ap (λ z. document z f) w, r.1)) made)
+    let made = pushed_two c.loop-init.docs.items c.push.new.self.items c.push-in-loop-init.new.self.items c.in_ok-comma.comma c.in_ok-doc.doc c.in_ok-push.ensures.items c.in_ok-push-2.ensures.items in (
+      c.in_ok-doc.ensures.order,
+      c.in_ok-doc.ensures.kept ∙ c.in_ok-comma.ensures.kept ∙ c.loop-init.invariant.1,
+      c.in_ok-doc.ensures.config ∙ same,
+      next_item RecInit.RecInit kind.init Label.rec_init init_parts i refl items c.loop-init.before node (drop j items) (drop (j + 1) items) (docs_of c.loop-init.docs.items) (docs_of c.push-in-loop-init.new.self.items) (doc_of c.in_ok-comma.comma) (doc_of c.in_ok-doc.doc)
+          (map shown c.args.context.now.tokens.items) (map shown c.loop-init.context.tokens.items) (map shown c.comma_before.new.context.tokens.items) (map shown c.init_doc.new.context.tokens.items)
+          (from_index items j node c.loop-init-test.true c.init-item.is) (some_at items j c.loop-init-test.true) c.loop-init.invariant.3 (λ e b a st. c.in_ok-comma.ensures.none e b a st) (λ s e t text b a place st. c.in_ok-comma.ensures.shows s e t text b a place st)
+          (λ f at parts b a st. let r = c.in_ok-doc.ensures.shows f parts b a st in (r.0 ∙ ap (λ z. document z f) w, r.1)) made,
+    )
 
 pub inits_doc-returns-clause-none : goal.inits_doc-returns-clause-none
 inits_doc-returns-clause-none _ c e before after st =
@@ -245,72 +256,3 @@ init_doc-returns-clause-shows _ c (init_of k x v) e =
     λ before after st.
     let r = all before after tt st in
     (c.in_ok-append-2.ensures ∙ ap (λ z. doc_of c.in_ok-key.key · z) (c.in_ok-append.ensures ∙ ap (λ z. doc_of c.in_ok-colon.colon · z) spaced) ∙ r.0, r.1)
-
-pub access_doc-returns-in_ok-append-in-Field-clause-shows : goal.access_doc-returns-in_ok-append-in-Field-clause-shows
-access_doc-returns-in_ok-append-in-Field-clause-shows _ c = ?
-
-pub access_doc-returns-in_ok-append-in-Index-2-clause-shows : goal.access_doc-returns-in_ok-append-in-Index-2-clause-shows
-access_doc-returns-in_ok-append-in-Index-2-clause-shows _ c = ?
-
-pub access_doc-returns-in_ok-call_doc-in-Call-clause-shows : goal.access_doc-returns-in_ok-call_doc-in-Call-clause-shows
-access_doc-returns-in_ok-call_doc-in-Call-clause-shows _ c = ?
-
-pub accesses_doc-returns-clause-shows : goal.accesses_doc-returns-clause-shows
-accesses_doc-returns-clause-shows _ c = ?
-
-pub add_doc-returns-clause-shows : goal.add_doc-returns-clause-shows
-add_doc-returns-clause-shows _ c = ?
-
-pub add_doc-returns-then-is_empty-clause-shows : goal.add_doc-returns-then-is_empty-clause-shows
-add_doc-returns-then-is_empty-clause-shows _ c = ?
-
-pub and_doc-returns-clause-shows : goal.and_doc-returns-clause-shows
-and_doc-returns-clause-shows _ c = ?
-
-pub and_doc-returns-then-is_empty-clause-shows : goal.and_doc-returns-then-is_empty-clause-shows
-and_doc-returns-then-is_empty-clause-shows _ c = ?
-
-pub comparison_doc-returns-clause-shows : goal.comparison_doc-returns-clause-shows
-comparison_doc-returns-clause-shows _ c = ?
-
-pub is_in_doc-returns-clause-shows : goal.is_in_doc-returns-clause-shows
-is_in_doc-returns-clause-shows _ c = ?
-
-pub keyword_doc-returns-clause-shows : goal.keyword_doc-returns-clause-shows
-keyword_doc-returns-clause-shows _ c = ?
-
-pub member_doc-returns-clause-shows : goal.member_doc-returns-clause-shows
-member_doc-returns-clause-shows _ c = ?
-
-pub mult_doc-returns-clause-shows : goal.mult_doc-returns-clause-shows
-mult_doc-returns-clause-shows _ c = ?
-
-pub mult_doc-returns-then-is_empty-clause-shows : goal.mult_doc-returns-then-is_empty-clause-shows
-mult_doc-returns-then-is_empty-clause-shows _ c = ?
-
-pub or_doc-returns-clause-shows : goal.or_doc-returns-clause-shows
-or_doc-returns-clause-shows _ c = ?
-
-pub or_doc-returns-then-is_empty-clause-shows : goal.or_doc-returns-then-is_empty-clause-shows
-or_doc-returns-then-is_empty-clause-shows _ c = ?
-
-pub relation_doc-returns-in-None-clause-shows : goal.relation_doc-returns-in-None-clause-shows
-relation_doc-returns-in-None-clause-shows _ c = ?
-
-pub relation_doc-returns-in-None-in_entity-clause-shows : goal.relation_doc-returns-in-None-in_entity-clause-shows
-relation_doc-returns-in-None-in_entity-clause-shows _ c = ?
-
-pub relation_doc-returns-in-Some-clause-shows : goal.relation_doc-returns-in-Some-clause-shows
-relation_doc-returns-in-Some-clause-shows _ c = ?
-
-pub relation_doc-returns-in-Some-in_entity-clause-shows : goal.relation_doc-returns-in-Some-in_entity-clause-shows
-relation_doc-returns-in-Some-in_entity-clause-shows _ c = ?
-
-pub relation_doc-returns-in_ok-first-in-Has-clause-shows : goal.relation_doc-returns-in_ok-first-in-Has-clause-shows
-relation_doc-returns-in_ok-first-in-Has-clause-shows _ c = ?
-
-pub relation_doc-returns-in_ok-first-in-Like-clause-shows : goal.relation_doc-returns-in_ok-first-in-Like-clause-shows
-relation_doc-returns-in_ok-first-in-Like-clause-shows _ c = ?
-
-pub unary_doc-returns-clause-shows : goal.unary_doc-returns-clause-shows
-unary_doc-returns-clause-shows _ c = ?
