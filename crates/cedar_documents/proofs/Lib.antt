@@ -37,3 +37,5 @@ pub mod ShownTrees
 pub mod StreamTrees
 pub mod Answered
 pub mod Scopes
+pub mod Commas
+pub mod Primaries

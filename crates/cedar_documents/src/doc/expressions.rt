@@ -20,7 +20,7 @@ use crate::doc::names::{
 };
 use crate::doc::taking::take_in_range;
 use crate::doc::tokens::{
-    between_lines, between_spaces, comma_and_line, mark_after, mark_at_end, mark_at_start,
+    between_lines, between_spaces, comma_before, mark_after, mark_at_end, mark_at_start,
     space_operator_and_line, space_operator_line,
 };
 use crate::doc::{Made, NoDocument};
@@ -552,10 +552,10 @@ fn items_doc<'src>(
     let mut docs = Vec::new(alloc);
     let mut before: Option<Span> = None;
     for item in items {
-        if let Some(span) = before {
-            docs.push(comma_and_line(alloc, span, context)?)?;
-        }
-        docs.push(expr_doc(alloc, &item.inner, item.span, context)?)?;
+        let comma = comma_before(alloc, before, context)?;
+        docs.push(comma)?;
+        let doc = expr_doc(alloc, &item.inner, item.span, context)?;
+        docs.push(doc)?;
         before = Some(item.span);
     }
     Ok(Document::Seq(docs))
@@ -608,20 +608,20 @@ pub(super) fn primary_doc<'src>(
 fn record_doc<'src>(
     alloc: Global,
     is_empty: bool,
-    open: Document<'src>,
+    opening: Document<'src>,
     items: Document<'src>,
-    close: Document<'src>,
+    closing: Document<'src>,
     indent: isize,
 ) -> Result<Document<'src>, AllocError>
-    ensures empty { IsTrue is_empty → IfOk result (λ d. doc_of d ≡ doc_of open.entry · doc_of close.entry) }
-    ensures items { IsFalse is_empty → IfOk result (λ d. doc_of d ≡ doc_of open.entry · nest indent (group (line · doc_of items.entry · line)) · doc_of close.entry) }
+    ensures empty { IsTrue is_empty → IfOk result (λ d. doc_of d ≡ doc_of opening.entry · doc_of closing.entry) }
+    ensures items { IsFalse is_empty → IfOk result (λ d. doc_of d ≡ doc_of opening.entry · nest indent (group (line · doc_of items.entry · line)) · doc_of closing.entry) }
 {
     if is_empty {
-        return open.append(alloc, close);
+        return opening.append(alloc, closing);
     }
     let inside = Document::Line.append(alloc, items.append(alloc, Document::Line)?)?;
     let inside = inside.group(alloc)?;
-    add_brackets(alloc, inside, open, close, indent)
+    add_brackets(alloc, inside, opening, closing, indent)
 }
 
 // Keys and values, with commas and lines between them.
@@ -641,10 +641,10 @@ fn inits_doc<'src>(
     let mut docs = Vec::new(alloc);
     let mut before: Option<Span> = None;
     for init in inits {
-        if let Some(span) = before {
-            docs.push(comma_and_line(alloc, span, context)?)?;
-        }
-        docs.push(init_doc(alloc, &init.inner, context)?)?;
+        let comma = comma_before(alloc, before, context)?;
+        docs.push(comma)?;
+        let doc = init_doc(alloc, &init.inner, context)?;
+        docs.push(doc)?;
         before = Some(init.span);
     }
     Ok(Document::Seq(docs))

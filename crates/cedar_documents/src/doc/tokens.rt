@@ -1,8 +1,9 @@
 //! The documents of single tokens: the leading lines, the token, and its trailing text or what stands in its place.
-ghost use Rattle.std.specs.Prelude.{◌≡◌, ◌∷◌, [], codes, IfOk, IsSomeAnd};
+ghost use Rattle.std.specs.Prelude.{◌≡◌, ◌∷◌, [], Some, None, codes, IfOk, IsSomeAnd};
 ghost use Rattle.cedar_tokens.specs.Listing.{token_value};
+ghost use Rattle.cedar_tokens.specs.declared.token.Span.{Span};
 ghost use Rattle.cedar_layout.specs.Comments.{space, lead_of, trail_of};
-ghost use Rattle.cedar_layout.specs.Layout.{◌·◌, line};
+ghost use Rattle.cedar_layout.specs.Layout.{◌·◌, line, nil};
 ghost use Rattle.cedar_layout.specs.Layout as layout;
 ghost use Rattle.cedar_layout.specs.Value.{doc_of};
 ghost use Rattle.cedar_layout.specs.Lookups.{AreInOrder, Parts, Shown, comment_parts};
@@ -154,8 +155,8 @@ pub(super) fn between_lines<'src>(
     Document::Line.append(alloc, keyword.append(alloc, Document::Line)?)
 }
 
-/// The comma behind an item, and a line.
-pub(super) fn comma_and_line<'src>(
+// The comma behind an item, and a line.
+fn comma_and_line<'src>(
     alloc: Global,
     span: Span,
     context: &mut Context<'_, 'src>,
@@ -168,4 +169,23 @@ pub(super) fn comma_and_line<'src>(
 {
     let comma = mark_after(alloc, ",", span, Document::Nil, context)?;
     comma.append(alloc, Document::Line)
+}
+
+/// The comma behind the item with this span, and a line; nothing where no item stands before.
+pub(super) fn comma_before<'src>(
+    alloc: Global,
+    before: Option<Span>,
+    context: &mut Context<'_, 'src>,
+) -> Result<Document<'src>, AllocError>
+    requires { AreInOrder context.old.tokens.items }
+    ensures order { AreInOrder context.new.tokens.items }
+    ensures kept { KeepsTokens context.old.tokens.items context.new.tokens.items }
+    ensures config { context.new.config ≡ context.old.config }
+    ensures none { before ≡ None → Shows result context.old.tokens.items context.new.tokens.items [] nil }
+    ensures shows { (span : Span) → before ≡ Some span → (t : Shown) → codes "," ≡ token_value (text_of t) → ShowsBehind span.end result context.old.tokens.items context.new.tokens.items (t ∷ []) (leaf (as_leaf t) · line) }
+{
+    match before {
+        Some(span) => comma_and_line(alloc, span, context),
+        None => Ok(Document::Nil),
+    }
 }
