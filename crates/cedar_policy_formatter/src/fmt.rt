@@ -1,7 +1,17 @@
 //! Formatting of whole texts.
-ghost use Rattle.std.specs.Prelude.{◌≡◌, IfOk, IfErr, MatchResult, string_bytes};
+ghost use Rattle.std.specs.Prelude.{◌≡◌, ◌++◌, ◌∷◌, List, map, IfOk, IfErr, OnOk, MatchResult, string_bytes};
+ghost use Rattle.std.specs.List.{flat_map};
+ghost use Rattle.cedar_tokens.specs.Tokens.{comments_left};
+ghost use Rattle.cedar_tree.specs.Erased as erased;
+ghost use Rattle.cedar_tree.specs.NodeTrees.{IsTreeOf};
 ghost use Rattle.cedar_grammar.specs.Texts.{Accepted};
-ghost use Rattle.cedar_layout.specs.Lookups.{AreInOrder};
+ghost use Rattle.cedar_grammar.specs.TypedTrees.{Clause, part_yield, policy_trees};
+ghost use Rattle.cedar_grammar.specs.TypedTrees as kind;
+ghost use Rattle.cedar_layout.specs.Lookups.{AreInOrder, Shown, emptied, shown};
+ghost use Rattle.cedar_documents.specs.Canonical.{IsOutputOf};
+ghost use Rattle.cedar_documents.specs.NodeDocuments.{IsAt, IsPartOf, kind_of_shown, nodes_of};
+ghost use Rattle.cedar_documents.specs.Output.{closing_text};
+ghost use Rattle.cedar_policy_formatter.specs.Written.{IsPolicyText, AreJoined, IsParted, IsPlainStream};
 ghost use Rattle.cedar_documents.specs.Kept.{KeepsTokens};
 ghost use Rattle.cedar_policy_formatter.specs.Refused.{IsOwn, RefusesText, RefusesOne};
 ghost use Rattle.cedar_policy_formatter.specs.Texts.{IsTextOf, KeepsPolicies, FailsCheck, KeptPoliciesHaveTheSameTokens};
@@ -41,6 +51,7 @@ pub fn policies_str_to_pretty(
 ) -> Result<String, FormatError>
     ensures answer { MatchResult result (λ _. Accepted ps.now) (RefusesText ps.now) }
     ensures kept { IfOk result (λ out. KeepsPolicies ps.now (string_bytes out)) }
+    ensures output { IfOk result (λ out. IsOutputOf config.now.line_width config.now.indent_width ps.now (string_bytes out)) }
 {
     tree_is_of_accepted();
     let tree = parse_policies(alloc, ps)?;
@@ -104,7 +115,8 @@ fn lay_out<'src>(
     tree: &Policies<'src>,
     config: &Config,
 ) -> Result<String, FormatError>
-    ensures { IfErr result IsOwn }
+    ensures refused { IfErr result IsOwn }
+    ensures output { IsTreeOf ps.now tree.now → IfOk result (λ out. IsOutputOf config.now.line_width config.now.indent_width ps.now (string_bytes out)) }
 {
     let (tokens, closing) = plain_stream(alloc, ps)?;
     let mut context = Context { config, tokens };
@@ -119,6 +131,7 @@ fn plain_stream<'src>(
     ps: &'src str,
 ) -> Result<(Vec<WrappedToken<'src>>, Comments<'src>), FormatError>
     ensures order { IfOk result (λ p. AreInOrder p.0.items) }
+    ensures stream { IfOk result (λ p. IsPlainStream ps.now p.0.items (comments_left p.1)) }
     ensures refused { IfErr result IsOwn }
 {
     let Some((mut tokens, closing)) = get_token_stream(alloc, ps)? else {
@@ -139,16 +152,28 @@ fn joined_policies<'src>(
     ensures kept { KeepsTokens context.old.tokens.items context.new.tokens.items }
     ensures config { context.new.config ≡ context.old.config }
     ensures refused { IfErr result IsOwn }
+    ensures joined { (ps : List (Clause Shown kind.policy)) → erased.policy_trees tree.now.policies.items ≡ nodes_of (policy_trees kind_of_shown ps) → map shown context.old.tokens.items ≡ flat_map part_yield ps
+        → IfOk result (λ out. AreJoined context.old.config.now.line_width context.old.config.now.indent_width ps (string_bytes out)) }
 {
     let mut text = String::new(alloc);
-    for (index, policy) in tree.policies.iter().enumerate() {
-        if index > 0 {
-            text.push_str("\n\n")?;
-        }
+    let mut is_first = true;
+    for policy in &tree.policies {
+        push_gap(is_first, &mut text)?;
+        is_first = false;
         let layout = policy_text(alloc, policy, context)?;
         text.push_str(layout.as_str())?;
     }
     Ok(text)
+}
+
+// An empty line, but before the first policy.
+fn push_gap(is_first: bool, text: &mut String) -> Result<(), AllocError>
+    ensures { OnOk result (IsParted is_first (string_bytes text.old) (string_bytes text.new)) }
+{
+    if !is_first {
+        text.push_str("\n\n")?;
+    }
+    Ok(())
 }
 
 // The layout of one policy, without empty lines.
@@ -162,6 +187,8 @@ fn policy_text<'src>(
     ensures kept { KeepsTokens context.old.tokens.items context.new.tokens.items }
     ensures config { context.new.config ≡ context.old.config }
     ensures refused { IfErr result IsOwn }
+    ensures text { (p : Clause Shown kind.policy) → IsAt policy.now.span (part_yield p) → IsPartOf (erased.policy_parts policy.now.inner) p → (before after : List Shown) → map shown context.old.tokens.items ≡ before ++ (part_yield p ++ after)
+        → IfOk result (λ out. IsPolicyText context.old.config.now.line_width context.old.config.now.indent_width p (string_bytes out) × (map shown context.new.tokens.items ≡ (before ++ map emptied (part_yield p)) ++ after)) }
 {
     let width = context.config.line_width;
     let Some(doc) = policy.to_doc(alloc, context)? else {
@@ -173,7 +200,9 @@ fn policy_text<'src>(
 }
 
 // A line feed, and each closing comment with a line feed.
-fn append_closing(closing: Comments<'_>, text: &mut String) -> Result<(), AllocError> {
+fn append_closing(closing: Comments<'_>, text: &mut String) -> Result<(), AllocError>
+    ensures { OnOk result (string_bytes text.new ≡ string_bytes text.old ++ (10 ∷ closing_text (comments_left closing.entry))) }
+{
     text.push('\n')?;
     for comment in closing {
         text.push_str(comment)?;

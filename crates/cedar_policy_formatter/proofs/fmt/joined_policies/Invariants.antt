@@ -1,7 +1,19 @@
-use Rattle.std.proofs.Common.{◌≡◌}
-use Rattle.cedar_layout.specs.Lookups.{AreInOrder}
+use Rattle.std.proofs.Common.{◌≡◌, List, map, drop}
+use Rattle.std.specs.Prelude.{string_bytes}
+use Rattle.std.specs.List.{flat_map}
+use Rattle.cedar_grammar.specs.TypedTrees.{Clause, policy, part_yield, policy_trees}
+use Rattle.cedar_layout.specs.Lookups.{AreInOrder, Shown, shown}
+use Rattle.cedar_tree.specs.Erased as erased
 use Rattle.cedar_documents.specs.Kept.{KeepsTokens}
+use Rattle.cedar_documents.specs.NodeDocuments.{kind_of_shown, nodes_of}
+use Rattle.cedar_policy_formatter.proofs.Outputs.{JoinedSoFar}
 use Rattle.cedar_policy_formatter.proofs.fmt.joined_policies.Given as goal
 
-abbrev pub invariant-loop-index : goal.invariant-loop-index
-invariant-loop-index l = AreInOrder l.context.tokens.items × KeepsTokens l.fn.context.tokens.items l.context.tokens.items × (l.context.config ≡ l.fn.context.config)
+abbrev pub invariant-loop-policy : goal.invariant-loop-policy
+invariant-loop-policy l = record {
+  order : AreInOrder l.context.tokens.items;
+  kept : KeepsTokens l.fn.context.tokens.items l.context.tokens.items;
+  config : l.context.config ≡ l.fn.context.config;
+  so_far : (ps : List (Clause Shown policy)) → erased.policy_trees l.fn.tree.policies.items ≡ nodes_of (policy_trees kind_of_shown ps) → map shown l.fn.context.tokens.items ≡ flat_map part_yield ps
+      → JoinedSoFar l.fn.context.config.now.line_width l.fn.context.config.now.indent_width ps (drop l.policy-index l.fn.tree.policies.items) (map shown l.context.tokens.items) (string_bytes l.text) l.is_first;
+}
