@@ -64,6 +64,7 @@ module _ (i : ℤ) (whole : Tree Shown kind.name) (before after : List Shown) (l
       go (name_more x c r) n t s k = absurd cc
       go (name_one x) n t s k =
           let o = opened_leaf Label.ident last.span last.inner.0.now forest.none x forest.none refl n in
-          let one = f x o.0 o.1 (before ++ map emptied h.done) after tt s in
-          (m ∙ ap (λ z. docs · z) one.0 ∙ k,
-          one.1 ∙ ap (λ z. z ++ after) (append_assoc before (map emptied h.done) (map emptied (x ∷ [])) ∙ ap (λ z. before ++ z) (sym (map-append emptied h.done (x ∷ [])) ∙ ap (map emptied) (sym t))))
+          let one = f x o.0 o.1 (before ++ map emptied h.done) after tt s in (
+            m ∙ ap (λ z. docs · z) one.0 ∙ k,
+            one.1 ∙ ap (λ z. z ++ after) (append_assoc before (map emptied h.done) (map emptied (x ∷ [])) ∙ ap (λ z. before ++ z) (sym (map-append emptied h.done (x ∷ [])) ∙ ap (map emptied) (sym t))),
+          )

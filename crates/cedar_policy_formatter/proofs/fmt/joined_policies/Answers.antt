@@ -28,12 +28,12 @@ loop-policy-preserved c = record {
       let indent = c.args.context.now.config.now.indent_width in
       let before = map shown c.loop-policy.context.tokens.items in
       let e = ap (drop index) (sym c.deref-policy-items.ensures.value) ∙ drop-cons items index item (search rules) ∙ ap (λ z. z ∷ drop (suc index) items) (sym c.policy-item.is) ∙ ap (λ j. item ∷ drop j items) (sym (add-one index))
-          ∙ ap (λ z. item ∷ drop (index + 1) z) c.deref-policy-items.ensures.value in
+      ∙ ap (λ z. item ∷ drop (index + 1) z) c.deref-policy-items.ensures.value in
       joined_more width indent ps item (drop (index + 1) all) before (map shown c.policy_text.new.context.tokens.items) (string_bytes c.loop-policy.text) (string_bytes c.push_gap.new.text) _ (string_bytes c.in_ok-layout.layout) c.loop-policy.is_first
-          (subst (λ z. JoinedSoFar width indent ps z before (string_bytes c.loop-policy.text) c.loop-policy.is_first) e (c.loop-policy.invariant.so_far ps n s))
-          (λ p u v b a w. let r = c.in_ok-layout.ensures.text p u v b a w in (subst (λ z. IsPolicyText z.now.line_width z.now.indent_width p (string_bytes c.in_ok-layout.layout)) c.loop-policy.invariant.config r.0, r.1))
-          c.in_ok-push_gap.ensures
-          (c.in_ok-push_str.ensures.bytes ∙ ap (λ z. string_bytes c.push_gap.new.text ++ z) c.as_str.ensures.value);
+      (subst (λ z. JoinedSoFar width indent ps z before (string_bytes c.loop-policy.text) c.loop-policy.is_first) e (c.loop-policy.invariant.so_far ps n s))
+      (λ p u v b a w. let r = c.in_ok-layout.ensures.text p u v b a w in (subst (λ z. IsPolicyText z.now.line_width z.now.indent_width p (string_bytes c.in_ok-layout.layout)) c.loop-policy.invariant.config r.0, r.1))
+      c.in_ok-push_gap.ensures
+      (c.in_ok-push_str.ensures.bytes ∙ ap (λ z. string_bytes c.push_gap.new.text ++ z) c.as_str.ensures.value);
 }
 
 pub returns-clause-joined : goal.returns-clause-joined
@@ -41,4 +41,4 @@ returns-clause-joined c = λ ps n s.
     let width = c.args.context.now.config.now.line_width in
     let indent = c.args.context.now.config.now.indent_width in
     joined_ends width indent ps (map shown c.loop-policy.context.tokens.items) (string_bytes c.loop-policy.text) c.loop-policy.is_first
-        (subst (λ z. JoinedSoFar width indent ps z (map shown c.loop-policy.context.tokens.items) (string_bytes c.loop-policy.text) c.loop-policy.is_first) (drop_all c.loop-policy.policy-index c.args.tree.now.policies.items (search rules)) (c.loop-policy.invariant.so_far ps n s))
+    (subst (λ z. JoinedSoFar width indent ps z (map shown c.loop-policy.context.tokens.items) (string_bytes c.loop-policy.text) c.loop-policy.is_first) (drop_all c.loop-policy.policy-index c.args.tree.now.policies.items (search rules)) (c.loop-policy.invariant.so_far ps n s))

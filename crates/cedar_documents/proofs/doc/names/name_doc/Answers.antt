@@ -27,11 +27,11 @@ loop-word-preserved c = record {
       let k = c.loop-word.invariant.so_far i t n before after s in
       let e = ap (drop c.loop-word.word-index) (sym c.deref-word-items.ensures.value) ∙ drop-cons items c.loop-word.word-index no_word (search rules) ∙ ap (λ j. word ∷ drop j items) (sym (add-one c.loop-word.word-index)) ∙ ap (λ z. word ∷ drop (c.loop-word.word-index + 1) z) c.deref-word-items.ensures.value in
       name_goes_on i t before after last word (drop (c.loop-word.word-index + 1) path) (docs_of c.loop-word.docs.items) (doc_of c.in_ok-leaf_doc.field-0) (doc_of c.in_ok-mark_after.field-0) _
-          (map shown c.loop-word.context.tokens.items) (map shown c.leaf_doc.new.context.tokens.items) (map shown c.mark_after.new.context.tokens.items)
-          (subst (λ z. NameSoFar i t before after last z (docs_of c.loop-word.docs.items) (map shown c.loop-word.context.tokens.items)) e k)
-          (λ x u v. freely (x ∷ []) (c.in_ok-leaf_doc.ensures.shows x u v))
-          (λ x u. rewritten (x ∷ []) (nothing_behind x) (c.in_ok-mark_after.ensures.shows x u))
-          (ap docs_of c.in_ok-push-2.ensures.items ∙ docs_of-push _ _ ∙ ap (λ z. z · doc_of c.in_ok-mark_after.field-0) (ap docs_of c.in_ok-push.ensures.items ∙ docs_of-push _ _));
+      (map shown c.loop-word.context.tokens.items) (map shown c.leaf_doc.new.context.tokens.items) (map shown c.mark_after.new.context.tokens.items)
+      (subst (λ z. NameSoFar i t before after last z (docs_of c.loop-word.docs.items) (map shown c.loop-word.context.tokens.items)) e k)
+      (λ x u v. freely (x ∷ []) (c.in_ok-leaf_doc.ensures.shows x u v))
+      (λ x u. rewritten (x ∷ []) (nothing_behind x) (c.in_ok-mark_after.ensures.shows x u))
+      (ap docs_of c.in_ok-push-2.ensures.items ∙ docs_of-push _ _ ∙ ap (λ z. z · doc_of c.in_ok-mark_after.field-0) (ap docs_of c.in_ok-push.ensures.items ∙ docs_of-push _ _));
 }
 
 pub returns-clause-shows : goal.returns-clause-shows
@@ -40,6 +40,6 @@ returns-clause-shows c = λ i t n before after s.
     let last = c.args.name.now.name in
     let k = c.loop-word.invariant.so_far i t n before after s in
     name_ends i t before after last (docs_of c.loop-word.docs.items) (doc_of c.in_ok-leaf_doc-2.field-0) _ (map shown c.loop-word.context.tokens.items) (map shown c.leaf_doc-2.new.context.tokens.items)
-        (subst (λ z. NameSoFar i t before after last z (docs_of c.loop-word.docs.items) (map shown c.loop-word.context.tokens.items)) (drop_all c.loop-word.word-index path (search rules)) k)
-        (λ x u v. freely (x ∷ []) (c.in_ok-leaf_doc-2.ensures.shows x u v))
-        (doc_of_seq _ ∙ ap docs_of c.in_ok-push-3.ensures.items ∙ docs_of-push _ _)
+    (subst (λ z. NameSoFar i t before after last z (docs_of c.loop-word.docs.items) (map shown c.loop-word.context.tokens.items)) (drop_all c.loop-word.word-index path (search rules)) k)
+    (λ x u v. freely (x ∷ []) (c.in_ok-leaf_doc-2.ensures.shows x u v))
+    (doc_of_seq _ ∙ ap docs_of c.in_ok-push-3.ensures.items ∙ docs_of-push _ _)
