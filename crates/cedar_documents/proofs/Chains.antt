@@ -1,6 +1,7 @@
 -- Chains of operands: what of a chain is made into documents, and what is left.
-use Rattle.std.proofs.Common.{◌≡◌, ℕ, ℤ, List, [], ◌∷◌, ◌++◌, map, true, Some, refl, sym, ap, ◌∙◌, subst}
-use Rattle.std.proofs.lemmas.List.{append_assoc, map-append, append-nil}
+use Rattle.std.proofs.Common.{◌≡◌, ℕ, ℤ, List, [], ◌∷◌, ◌++◌, ◌<◌, ◌≤◌, ◌+◌, Bool, map, length, get_or, drop, nat_eq, true, Some, arith, refl, sym, ap, ◌∙◌, subst}
+use Rattle.std.proofs.lemmas.Bool.{eqb-true}
+use Rattle.std.proofs.lemmas.List.{append_assoc, map-append, append-nil, at_drop_more, drop_all}
 use Rattle.cedar_tokens.specs.Listing.{token_value}
 use Rattle.cedar_tokens.specs.declared.token.Span.{Span}
 use Rattle.cedar_grammar.specs.Trees.{Label, Forest, leaf, branch, none}
@@ -12,7 +13,9 @@ use Rattle.cedar_layout.specs.Value.{doc_of, docs_of}
 use Rattle.cedar_layout.specs.declared.layout.Document.{Document}
 use Rattle.cedar_layout.proofs.Values.{dot_assoc, dot-nil, docs_of-push}
 use Rattle.cedar_tree.specs.Erased.{Erased}
+use Rattle.cedar_tree.specs.NodeLists.{operand_trees}
 use Rattle.cedar_tree.specs.NodeTrees.{is_node}
+use Rattle.cedar_tree.specs.declared.tree.Node.{Node}
 use Rattle.cedar_documents.specs.Table.{C}
 use Rattle.cedar_documents.specs.Table as table
 use Rattle.cedar_documents.specs.NodeDocuments.{IsAt, IsNodeOf, as_leaf, document, end_of_tokens, kind_of_shown, nodes_of, text_of}
@@ -176,3 +179,52 @@ module _ (k : NodeKind) (l : Label) (is : is_node l ≡ true) (sign : Shown → 
   -- nothing is left
   pub finished : (last : Span) (ds : List Document) (now : List Shown) (left : Erased) → left ≡ none → Progress k l sign i before after ts whole last ds now left → (docs_of ds ≡ whole) × (now ≡ (before ++ map emptied ts) ++ after)
   finished last ds now left e h = ended last ds now h.done h.rest h.tokens h.changed (sym e ∙ h.nodes) h.made
+
+-- ---- whole nodes
+
+-- the same of every tree that a node with these parts is, wherever its tokens stand
+abbrev pub MadeSoFar : (m k : NodeKind) → Label → (Shown → Doc) → ℤ → (Tree Shown m → Doc) → Erased → List Shown → Span → List Document → List Shown → Erased → Type 0
+MadeSoFar m k l sign i inside whole old last docs now left =
+    (t : Tree Shown m) → IsNodeOf whole t → (before after : List Shown) → old ≡ before ++ (yield t ++ after) → Progress k l sign i before after (yield t) (inside t) last docs now left
+
+module _ (m k : NodeKind) (l : Label) (is : is_node l ≡ true) (sign : Shown → Doc) (i : ℤ) (inside : Tree Shown m → Doc) (chain : (t : Tree Shown m) → IsChain k l sign i (yield t) (parts kind_of_shown t) (inside t)) (whole : Erased) (old : List Shown) where
+  -- the first operand
+  pub made_first : (place : Span) (p others : Erased) (d : Document) (docs : List Document) (new : List Shown) → whole ≡ branch (l, Some place) p others → docs ≡ d ∷ []
+      → ((x : Tree Shown k) → IsAt place (yield x) → IsNodeOf p x → GivesIf Always (doc_of d) (document i x) old new (yield x))
+      → MadeSoFar m k l sign i inside whole old place docs new others
+  made_first place p others d docs new v e first t n before after st =
+      subst (λ z. Progress k l sign i before after (yield t) (inside t) place z new others) (sym e)
+      (begun k l is sign i before after (yield t) (inside t) (parts kind_of_shown t) place p others d old new (chain t) (sym v ∙ n) st first)
+
+  -- a sign and an operand more
+  pub made_more : (last place : Span) (text : List ℕ) (p left others : Erased) (s d : Document) (ds es fs : List Document) (now mid new : List Shown) (j : ℤ)
+      → left ≡ leaf text (branch (l, Some place) p others) → es ≡ ds ++ s ∷ [] → fs ≡ es ++ d ∷ [] → j ≡ i
+      → ((o : Shown) → text ≡ token_value (text_of o) → GivesIf (Behind last) (doc_of s) (sign o) now mid (o ∷ []))
+      → ((x : Tree Shown k) → IsAt place (yield x) → IsNodeOf p x → GivesIf Always (doc_of d) (document j x) mid new (yield x))
+      → MadeSoFar m k l sign i inside whole old last ds now left → MadeSoFar m k l sign i inside whole old place fs new others
+  made_more last place text p left others s d ds es fs now mid new j v e f same sign_clause clause h t n before after st =
+      subst (λ z. Progress k l sign i before after (yield t) (inside t) place z new others) (sym (f ∙ ap (λ z. z ++ d ∷ []) e))
+      (stepped k l is sign i before after (yield t) (inside t) last place text p others ds s d now mid new sign_clause
+      (subst (λ z. (x : Tree Shown k) → IsAt place (yield x) → IsNodeOf p x → GivesIf Always (doc_of d) (document z x) mid new (yield x)) same clause)
+      (subst (λ z. Progress k l sign i before after (yield t) (inside t) last ds now z) v (h t n before after st)))
+
+  -- nothing is left
+  pub made_all : (last : Span) (docs : List Document) (new : List Shown) (left : Erased) → left ≡ none → MadeSoFar m k l sign i inside whole old last docs new left
+      → (t : Tree Shown m) → IsNodeOf whole t → (before after : List Shown) → old ≡ before ++ (yield t ++ after) → (docs_of docs ≡ inside t) × (new ≡ (before ++ map emptied (yield t)) ++ after)
+  made_all last docs new left e h t n before after st = finished k l is sign i before after (yield t) (inside t) last docs new left e (h t n before after st)
+
+-- ---- what is left in a list
+
+module _ {X Y : Type 0} (l : Label) (p : X → Erased) (sign : Y → List ℕ) (operand : Y → Node X) (xs ys : List Y) (q : ys ≡ xs) where
+  left_at : (i : ℕ) (y : Y) → i < length ys → y ≡ get_or ys i y → operand_trees l p sign operand (drop i ys) ≡ leaf (sign y) (branch (l, Some (operand y).span) (p (operand y).inner) (operand_trees l p sign operand (drop (i + 1) ys)))
+  left_at i y n e = at_drop_more (operand_trees l p sign operand) ys i y n ∙ ap (λ z. operand_trees l p sign operand (z ∷ drop (i + 1) ys)) (sym e)
+
+  pub one_left : (i : ℕ) (y : Y) → i < length ys → y ≡ get_or ys i y → operand_trees l p sign operand (drop i xs) ≡ leaf (sign y) (branch (l, Some (operand y).span) (p (operand y).inner) (operand_trees l p sign operand (drop (i + 1) xs)))
+  one_left i y n e = subst (λ z. operand_trees l p sign operand (drop i z) ≡ leaf (sign y) (branch (l, Some (operand y).span) (p (operand y).inner) (operand_trees l p sign operand (drop (i + 1) z)))) q (left_at i y n e)
+
+  pub none_left : (i : ℕ) → length ys ≤ i → operand_trees l p sign operand (drop i xs) ≡ none
+  none_left i n = ap (λ z. operand_trees l p sign operand (drop i z)) (sym q) ∙ ap (operand_trees l p sign operand) (drop_all i ys n)
+
+pub is_nil : {X : Type 0} (xs : List X) (n : ℕ) (b : Bool) → n ≡ length xs → b ≡ nat_eq n 0 → b ≡ true → xs ≡ []
+is_nil [] n b h e f = refl
+is_nil (x ∷ xs) n b h e f = absurd (omega (arith, eqb-true n 0 (sym e ∙ f)))
