@@ -34,3 +34,4 @@ pub mod Marks
 pub mod Opened
 pub mod Chains
 pub mod Operands
+pub mod Relations
