@@ -58,11 +58,12 @@ lone k l sign i x = record { first = x; rest = []; tokens = sym (append-nil (yie
 longer : (k : NodeKind) (l : Label) (sign : Shown → Doc) (i : ℤ) (x : Tree Shown k) (o : Shown) (ts : List Shown) (f : Forest Label Shown) (d : Doc) → IsChain k l sign i ts f d
     → IsChain k l sign i (yield x ++ (o ∷ ts)) (branch l (parts kind_of_shown x) (leaf o f)) (document i x · sign o · d)
 longer k l sign i x o ts f d c = record {
-    first = x;
-    rest = (o, c.first) ∷ c.rest;
-    tokens = ap (λ z. yield x ++ (o ∷ z)) c.tokens;
-    nodes = ap (λ z. branch l (parts kind_of_shown x) (leaf o z)) c.nodes;
-    doc = ap (λ z. document i x · sign o · z) c.doc }
+  first = x;
+  rest = (o, c.first) ∷ c.rest;
+  tokens = ap (λ z. yield x ++ (o ∷ z)) c.tokens;
+  nodes = ap (λ z. branch l (parts kind_of_shown x) (leaf o z)) c.nodes;
+  doc = ap (λ z. document i x · sign o · z) c.doc;
+}
 
 pub or_chain : (i : ℤ) (t : Tree Shown ors) → IsChain ands Label.and breaking_sign i (yield t) (parts kind_of_shown t) (document i t)
 or_chain i (ors_one x) = lone ands Label.and breaking_sign i x
@@ -136,7 +137,8 @@ module _ (k : NodeKind) (l : Label) (is : is_node l ≡ true) (sign : Shown → 
         changed = r.1;
         ends = ends_here place (yield c.first) o.1 before;
         nodes = o.2;
-        made = ap (λ z. z · rest_document sign i c.rest) (dot-nil (doc_of d) ∙ r.0) ∙ sym c.doc }
+        made = ap (λ z. z · rest_document sign i c.rest) (dot-nil (doc_of d) ∙ r.0) ∙ sym c.doc;
+      }
 
   -- a sign and an operand more
   module _ (last place : Span) (text : List ℕ) (p others : Erased) (ds : List Document) (s d : Document) (old mid new : List Shown)
@@ -162,10 +164,11 @@ module _ (k : NodeKind) (l : Label) (is : is_node l ≡ true) (sign : Shown → 
           ends = ap end_of_tokens behind ∙ ends_here place (yield x.1) o.1 (b ++ (emptied x.0 ∷ []));
           nodes = o.2;
           made =
-            ap (λ z. z · rest_document sign i r) (docs_of-push (ds ++ s ∷ []) d ∙ ap (λ z. z · doc_of d) (docs_of-push ds s) ∙ dot_assoc (docs_of ds) (doc_of s) (doc_of d) ∙ ap (λ z. docs_of ds · z) q.0)
-            ∙ dot_assoc (docs_of ds) (sign x.0 · document i x.1) (rest_document sign i r)
-            ∙ ap (λ z. docs_of ds · z) (dot_assoc (sign x.0) (document i x.1) (rest_document sign i r))
-            ∙ made }
+              ap (λ z. z · rest_document sign i r) (docs_of-push (ds ++ s ∷ []) d ∙ ap (λ z. z · doc_of d) (docs_of-push ds s) ∙ dot_assoc (docs_of ds) (doc_of s) (doc_of d) ∙ ap (λ z. docs_of ds · z) q.0)
+              ∙ dot_assoc (docs_of ds) (sign x.0 · document i x.1) (rest_document sign i r)
+              ∙ ap (λ z. docs_of ds · z) (dot_assoc (sign x.0) (document i x.1) (rest_document sign i r))
+              ∙ made;
+        }
 
     pub stepped : Progress k l sign i before after ts whole last ds old (leaf text (branch (l, Some place) p others)) → Progress k l sign i before after ts whole place ((ds ++ s ∷ []) ++ d ∷ []) new others
     stepped h = further h.done h.rest h.tokens h.changed h.ends h.nodes h.made
@@ -189,29 +192,29 @@ MadeSoFar m k l sign i inside whole old last docs now left =
 
 module _ (m k : NodeKind) (l : Label) (is : is_node l ≡ true) (sign : Shown → Doc) (i : ℤ) (inside : Tree Shown m → Doc) (chain : (t : Tree Shown m) → IsChain k l sign i (yield t) (parts kind_of_shown t) (inside t)) (whole : Erased) (old : List Shown) where
   -- the first operand
-  pub made_first : (place : Span) (p others : Erased) (d : Document) (docs : List Document) (new : List Shown) → whole ≡ branch (l, Some place) p others → docs ≡ d ∷ []
+  pub made_first : {place : Span} {p others : Erased} {docs : List Document} {new : List Shown} (d : Document) → whole ≡ branch (l, Some place) p others → docs ≡ d ∷ []
       → ((x : Tree Shown k) → IsAt place (yield x) → IsNodeOf p x → GivesIf Always (doc_of d) (document i x) old new (yield x))
       → MadeSoFar m k l sign i inside whole old place docs new others
-  made_first place p others d docs new v e first t n before after st =
+  made_first {place = place} {p = p} {others = others} {new = new} d v e first t n before after st =
       subst (λ z. Progress k l sign i before after (yield t) (inside t) place z new others) (sym e)
       (begun k l is sign i before after (yield t) (inside t) (parts kind_of_shown t) place p others d old new (chain t) (sym v ∙ n) st first)
 
   -- a sign and an operand more
-  pub made_more : (last place : Span) (text : List ℕ) (p left others : Erased) (s d : Document) (ds es fs : List Document) (now mid new : List Shown) (j : ℤ)
+  pub made_more : {last place : Span} {text : List ℕ} {p left others : Erased} {ds es fs : List Document} {now mid new : List Shown} {j : ℤ} (s d : Document)
       → left ≡ leaf text (branch (l, Some place) p others) → es ≡ ds ++ s ∷ [] → fs ≡ es ++ d ∷ [] → j ≡ i
       → ((o : Shown) → text ≡ token_value (text_of o) → GivesIf (Behind last) (doc_of s) (sign o) now mid (o ∷ []))
       → ((x : Tree Shown k) → IsAt place (yield x) → IsNodeOf p x → GivesIf Always (doc_of d) (document j x) mid new (yield x))
       → MadeSoFar m k l sign i inside whole old last ds now left → MadeSoFar m k l sign i inside whole old place fs new others
-  made_more last place text p left others s d ds es fs now mid new j v e f same sign_clause clause h t n before after st =
+  made_more {last = last} {place = place} {text = text} {p = p} {others = others} {ds = ds} {now = now} {mid = mid} {new = new} s d v e f same sign_clause clause h t n before after st =
       subst (λ z. Progress k l sign i before after (yield t) (inside t) place z new others) (sym (f ∙ ap (λ z. z ++ d ∷ []) e))
       (stepped k l is sign i before after (yield t) (inside t) last place text p others ds s d now mid new sign_clause
       (subst (λ z. (x : Tree Shown k) → IsAt place (yield x) → IsNodeOf p x → GivesIf Always (doc_of d) (document z x) mid new (yield x)) same clause)
       (subst (λ z. Progress k l sign i before after (yield t) (inside t) last ds now z) v (h t n before after st)))
 
   -- nothing is left
-  pub made_all : (last : Span) (docs : List Document) (new : List Shown) (left : Erased) → left ≡ none → MadeSoFar m k l sign i inside whole old last docs new left
+  pub made_all : {last : Span} {docs : List Document} {new : List Shown} {left : Erased} → left ≡ none → MadeSoFar m k l sign i inside whole old last docs new left
       → (t : Tree Shown m) → IsNodeOf whole t → (before after : List Shown) → old ≡ before ++ (yield t ++ after) → (docs_of docs ≡ inside t) × (new ≡ (before ++ map emptied (yield t)) ++ after)
-  made_all last docs new left e h t n before after st = finished k l is sign i before after (yield t) (inside t) last docs new left e (h t n before after st)
+  made_all {last = last} {docs = docs} {new = new} {left = left} e h t n before after st = finished k l is sign i before after (yield t) (inside t) last docs new left e (h t n before after st)
 
 -- ---- what is left in a list
 

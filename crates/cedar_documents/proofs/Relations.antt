@@ -1,5 +1,5 @@
 -- Relations: one operand, or two parts with a sign between them, the second part made behind the first.
-use Rattle.std.proofs.Common.{◌≡◌, codes, ℕ, ℤ, List, [], ◌∷◌, ◌++◌, map, Bool, true, Option, Some, None, Result, Ok, Err, refl, sym, ap, ◌∙◌, rules}
+use Rattle.std.proofs.Common.{◌≡◌, codes, ℕ, ℤ, List, [], ◌∷◌, ◌++◌, map, Option, Some, None, Result, Ok, Err, refl, sym, ap, ◌∙◌, subst, rules}
 use Rattle.std.specs.Prelude.{IfOk, if◌then◌else◌}
 use Rattle.std.proofs.lemmas.List.{append_assoc, map-append}
 use Rattle.cedar_tokens.specs.Listing.{token_value}
@@ -12,7 +12,7 @@ use Rattle.cedar_layout.specs.Layout.{Doc, line, nest, group, ◌·◌}
 use Rattle.cedar_layout.specs.Lookups.{Shown, emptied}
 use Rattle.cedar_layout.specs.Value.{doc_of}
 use Rattle.cedar_layout.specs.declared.layout.Document.{Document}
-use Rattle.cedar_tree.specs.Erased.{Erased, node, variant, add_parts, name_tree, path_parts, relation_parts, relop_text}
+use Rattle.cedar_tree.specs.Erased.{Erased, node, variant, add_parts, name_tree, relation_parts, relop_text}
 use Rattle.cedar_tree.specs.NodeTrees.{is_node, span_of}
 use Rattle.cedar_tree.specs.declared.tree.Add as Add
 use Rattle.cedar_tree.specs.declared.tree.Name.{Name}
@@ -24,6 +24,7 @@ use Rattle.cedar_documents.specs.Table as table
 use Rattle.cedar_documents.specs.NodeDocuments.{IsAt, IsNodeOf, as_leaf, document, end_of_tokens, kind_of_shown, nodes_of, text_of}
 use Rattle.cedar_documents.proofs.Opened.{Always, GivesIf, ends_here, opened_token, opened_tree, opened_variant}
 
+-- the nodes' parts
 pub view_alone : (a : Node Add.Add) → relation_parts (Relation.Common a None) ≡ node Label.add a.span (add_parts a.inner) none
 view_alone a = search (rules, Or.the_lemmas)
 
@@ -67,41 +68,44 @@ no_leaf x f e = cc
 leaf_is_some : (text : List ℕ) (r : Erased) → leaf text r ≡ none → ⊥
 leaf_is_some text r e = cc
 
+-- tokens are shown, those behind this place or all
+abbrev pub Follows : {E : Type 0} → Result Document E → Span → List Shown → List Shown → List Shown → Doc → Type 0
+Follows result s mid new ts d = (before after : List Shown) → end_of_tokens before ≡ s.end → mid ≡ before ++ (ts ++ after) → IfOk result (λ r. (doc_of r ≡ d) × (new ≡ (before ++ map emptied ts) ++ after))
+
+abbrev pub All : {E : Type 0} → Result Document E → List Shown → List Shown → List Shown → Doc → Type 0
+All result old new ts d = (before after : List Shown) → old ≡ before ++ (ts ++ after) → IfOk result (λ r. (doc_of r ≡ d) × (new ≡ (before ++ map emptied ts) ++ after))
+
 -- a made document, and a result that goes on from it
-pub going_on : {E : Type 0} (result : Result Document E) (F : Doc → Doc) (s : Span) (first : Document) (d : Doc) (old mid new xs ys : List Shown) → IsAt s xs → GivesIf Always (doc_of first) d old mid xs
-    → ((before after : List Shown) → end_of_tokens before ≡ s.end → mid ≡ before ++ (ys ++ after) → IfOk result (λ r. (doc_of r ≡ F (doc_of first)) × (new ≡ (before ++ map emptied ys) ++ after)))
-    → (before after : List Shown) → old ≡ before ++ ((xs ++ ys) ++ after) → IfOk result (λ r. (doc_of r ≡ F d) × (new ≡ (before ++ map emptied (xs ++ ys)) ++ after))
+going_on : {E : Type 0} (result : Result Document E) (F : Doc → Doc) (s : Span) (first : Document) (d : Doc) (old mid new xs ys : List Shown) → IsAt s xs → GivesIf Always (doc_of first) d old mid xs
+    → Follows result s mid new ys (F (doc_of first)) → All result old new (xs ++ ys) (F d)
 going_on result F s first d old mid new xs ys at h k before after st =
     let r = h before (ys ++ after) tt (st ∙ ap (λ z. before ++ z) (append_assoc xs ys after)) in
     let b = before ++ map emptied xs in
     rewrite_ok result (F (doc_of first)) (F d) new ((b ++ map emptied ys) ++ after) ((before ++ map emptied (xs ++ ys)) ++ after) (ap F r.0)
     (ap (λ z. z ++ after) (append_assoc before (map emptied xs) (map emptied ys) ∙ ap (λ z. before ++ z) (sym (map-append emptied xs ys)))) (k b after (ends_here s xs at before) r.1)
 
-module _ {E : Type 0} (result : Result Document E) (i : ℤ) (s : Span) (p : Erased) (first : Document) (old mid new : List Shown)
+-- a relation is shown where its first operand is made and the rest follows
+module _ {E : Type 0} {i j : ℤ} {s : Span} {p : Erased} {old mid : List Shown} (result : Result Document E) (new : List Shown) (same : j ≡ i) (first : Document)
     (clause : (a : Tree Shown add) → IsNodeOf p a → GivesIf Always (doc_of first) (document i a) old mid (yield a)) where
-  -- of tokens behind the first operand, and of all
-  abbrev pub Follows : List Shown → Doc → Type 0
-  Follows ts d = (before after : List Shown) → end_of_tokens before ≡ s.end → mid ≡ before ++ (ts ++ after) → IfOk result (λ r. (doc_of r ≡ d) × (new ≡ (before ++ map emptied ts) ++ after))
-
-  abbrev pub All : List Shown → Doc → Type 0
-  All ts d = (before after : List Shown) → old ≡ before ++ (ts ++ after) → IfOk result (λ r. (doc_of r ≡ d) × (new ≡ (before ++ map emptied ts) ++ after))
-
-  module _ (q : Erased) (at : Span) (text : List ℕ) where
+  module _ {q : Erased} {at : Span} {text : List ℕ} where
+    -- a comparison
     pub compared : (t : Tree Shown relation) → branch (Label.add, Some s) p (branch (Label.compare, None) (leaf text (branch (Label.add, Some at) q none)) none) ≡ nodes_of (parts kind_of_shown t)
-        → ((o : Shown) (b : Tree Shown add) → text ≡ token_value (text_of o) → IsNodeOf q b → Follows (o ∷ yield b) (doc_of first · space · table.leaf (as_leaf o) · space · document i b)) → All (yield t) (document i t)
+        → ((o : Shown) (b : Tree Shown add) → text ≡ token_value (text_of o) → IsNodeOf q b → Follows result s mid new (o ∷ yield b) (doc_of first · space · table.leaf (as_leaf o) · space · document j b)) → All result old new (yield t) (document i t)
     compared (single a) e k = absurd cc
     compared (compare a o b) e k =
         let x = opened_tree Label.add s p _ a (branch Label.compare (leaf o (branch Label.add (parts kind_of_shown b) none)) none) refl e in
         let v = opened_variant Label.compare _ _ (leaf o (branch Label.add (parts kind_of_shown b) none)) none x.2 in
         let w = opened_token text _ o (branch Label.add (parts kind_of_shown b) none) v.0 in
         let y = opened_tree Label.add at q none b none refl w.1 in
-        going_on result (λ z. z · space · table.leaf (as_leaf o) · space · document i b) s first (document i a) old mid new (yield a) (o ∷ yield b) x.1 (clause a x.0) (k o b w.0 y.0)
+        going_on result (λ z. z · space · table.leaf (as_leaf o) · space · document i b) s first (document i a) old mid new (yield a) (o ∷ yield b) x.1 (clause a x.0)
+        (subst (λ z. Follows result s mid new (o ∷ yield b) (doc_of first · space · table.leaf (as_leaf o) · space · document z b)) same (k o b w.0 y.0))
     compared (has_or_like a o b) e k = let h = label_behind Label.compare Label.has_or_like s p _ _ a (leaf o (branch Label.add (parts kind_of_shown b) none)) e in absurd cc
     compared (is_type a o n) e k = let h = label_behind Label.compare Label.is_type s p _ _ a (leaf o (branch Label.name (parts kind_of_shown n) none)) e in absurd cc
     compared (is_in a o n x b) e k = let h = label_behind Label.compare Label.is_type s p _ _ a (leaf o (branch Label.name (parts kind_of_shown n) (leaf x (branch Label.add (parts kind_of_shown b) none)))) e in absurd cc
 
+    -- `has` or `like`
     pub worded : (t : Tree Shown relation) → branch (Label.add, Some s) p (branch (Label.has_or_like, None) (leaf text (branch (Label.add, Some at) q none)) none) ≡ nodes_of (parts kind_of_shown t)
-        → ((o : Shown) (b : Tree Shown add) → text ≡ token_value (text_of o) → IsNodeOf q b → Follows (o ∷ yield b) (group (doc_of first · line · table.leaf (as_leaf o) · line · nest i (document i b)))) → All (yield t) (document i t)
+        → ((o : Shown) (b : Tree Shown add) → text ≡ token_value (text_of o) → IsNodeOf q b → Follows result s mid new (o ∷ yield b) (group (doc_of first · line · table.leaf (as_leaf o) · line · nest j (document j b)))) → All result old new (yield t) (document i t)
     worded (single a) e k = absurd cc
     worded (compare a o b) e k = let h = label_behind Label.has_or_like Label.compare s p _ _ a (leaf o (branch Label.add (parts kind_of_shown b) none)) e in absurd cc
     worded (has_or_like a o b) e k =
@@ -109,13 +113,15 @@ module _ {E : Type 0} (result : Result Document E) (i : ℤ) (s : Span) (p : Era
         let v = opened_variant Label.has_or_like _ _ (leaf o (branch Label.add (parts kind_of_shown b) none)) none x.2 in
         let w = opened_token text _ o (branch Label.add (parts kind_of_shown b) none) v.0 in
         let y = opened_tree Label.add at q none b none refl w.1 in
-        going_on result (λ z. group (z · line · table.leaf (as_leaf o) · line · nest i (document i b))) s first (document i a) old mid new (yield a) (o ∷ yield b) x.1 (clause a x.0) (k o b w.0 y.0)
+        going_on result (λ z. group (z · line · table.leaf (as_leaf o) · line · nest i (document i b))) s first (document i a) old mid new (yield a) (o ∷ yield b) x.1 (clause a x.0)
+        (subst (λ z. Follows result s mid new (o ∷ yield b) (group (doc_of first · line · table.leaf (as_leaf o) · line · nest z (document z b)))) same (k o b w.0 y.0))
     worded (is_type a o n) e k = let h = label_behind Label.has_or_like Label.is_type s p _ _ a (leaf o (branch Label.name (parts kind_of_shown n) none)) e in absurd cc
     worded (is_in a o n x b) e k = let h = label_behind Label.has_or_like Label.is_type s p _ _ a (leaf o (branch Label.name (parts kind_of_shown n) (leaf x (branch Label.add (parts kind_of_shown b) none)))) e in absurd cc
 
-  module _ (path : Erased) (type : Span) (is_text : List ℕ) where
+  module _ {path : Erased} {type : Span} {is_text : List ℕ} where
+    -- `is` and a type
     pub typed : (t : Tree Shown relation) → branch (Label.add, Some s) p (branch (Label.is_type, None) (leaf is_text (branch (Label.name, Some type) path none)) none) ≡ nodes_of (parts kind_of_shown t)
-        → ((o : Shown) (n : Tree Shown name) → is_text ≡ token_value (text_of o) → IsNodeOf path n → Follows (o ∷ yield n) (group (doc_of first · space · table.leaf (as_leaf o) · space · nest i (document i n)))) → All (yield t) (document i t)
+        → ((o : Shown) (n : Tree Shown name) → is_text ≡ token_value (text_of o) → IsNodeOf path n → Follows result s mid new (o ∷ yield n) (group (doc_of first · space · table.leaf (as_leaf o) · space · nest j (document j n)))) → All result old new (yield t) (document i t)
     typed (single a) e k = absurd cc
     typed (compare a o b) e k = let h = label_behind Label.is_type Label.compare s p _ _ a (leaf o (branch Label.add (parts kind_of_shown b) none)) e in absurd cc
     typed (has_or_like a o b) e k = let h = label_behind Label.is_type Label.has_or_like s p _ _ a (leaf o (branch Label.add (parts kind_of_shown b) none)) e in absurd cc
@@ -124,7 +130,8 @@ module _ {E : Type 0} (result : Result Document E) (i : ℤ) (s : Span) (p : Era
         let v = opened_variant Label.is_type _ _ (leaf o (branch Label.name (parts kind_of_shown n) none)) none x.2 in
         let w = opened_token is_text _ o (branch Label.name (parts kind_of_shown n) none) v.0 in
         let y = opened_tree Label.name type path none n none refl w.1 in
-        going_on result (λ z. group (z · space · table.leaf (as_leaf o) · space · nest i (document i n))) s first (document i a) old mid new (yield a) (o ∷ yield n) x.1 (clause a x.0) (k o n w.0 y.0)
+        going_on result (λ z. group (z · space · table.leaf (as_leaf o) · space · nest i (document i n))) s first (document i a) old mid new (yield a) (o ∷ yield n) x.1 (clause a x.0)
+        (subst (λ z. Follows result s mid new (o ∷ yield n) (group (doc_of first · space · table.leaf (as_leaf o) · space · nest z (document z n)))) same (k o n w.0 y.0))
     typed (is_in a o n x b) e k =
         let y = opened_tree Label.add s p _ a (branch Label.is_type (leaf o (branch Label.name (parts kind_of_shown n) (leaf x (branch Label.add (parts kind_of_shown b) none)))) none) refl e in
         let v = opened_variant Label.is_type _ _ (leaf o (branch Label.name (parts kind_of_shown n) (leaf x (branch Label.add (parts kind_of_shown b) none)))) none y.2 in
@@ -132,11 +139,12 @@ module _ {E : Type 0} (result : Result Document E) (i : ℤ) (s : Span) (p : Era
         let z = opened_tree Label.name type path none n (leaf x (branch Label.add (parts kind_of_shown b) none)) refl w.1 in
         absurd (no_leaf x (branch Label.add (parts kind_of_shown b) none) z.2)
 
-    module _ (q : Erased) (at : Span) (in_text : List ℕ) where
+    module _ {q : Erased} {at : Span} {in_text : List ℕ} where
+      -- and `in` with an operand
       pub placed : (t : Tree Shown relation)
           → branch (Label.add, Some s) p (branch (Label.is_type, None) (leaf is_text (branch (Label.name, Some type) path (leaf in_text (branch (Label.add, Some at) q none)))) none) ≡ nodes_of (parts kind_of_shown t)
           → ((o x : Shown) (n : Tree Shown name) (b : Tree Shown add) → is_text ≡ token_value (text_of o) → in_text ≡ token_value (text_of x) → IsNodeOf path n → IsAt type (yield n) → IsNodeOf q b
-            → Follows (o ∷ (yield n ++ (x ∷ yield b))) (group (doc_of first · space · table.leaf (as_leaf o) · space · nest i (document i n) · line · table.leaf (as_leaf x) · space · nest i (document i b)))) → All (yield t) (document i t)
+          → Follows result s mid new (o ∷ (yield n ++ (x ∷ yield b))) (group (doc_of first · space · table.leaf (as_leaf o) · space · nest j (document j n) · line · table.leaf (as_leaf x) · space · nest j (document j b)))) → All result old new (yield t) (document i t)
       placed (single a) e k = absurd cc
       placed (compare a o b) e k = let h = label_behind Label.is_type Label.compare s p _ _ a (leaf o (branch Label.add (parts kind_of_shown b) none)) e in absurd cc
       placed (has_or_like a o b) e k = let h = label_behind Label.is_type Label.has_or_like s p _ _ a (leaf o (branch Label.add (parts kind_of_shown b) none)) e in absurd cc
@@ -154,13 +162,14 @@ module _ {E : Type 0} (result : Result Document E) (i : ℤ) (s : Span) (p : Era
           let u = opened_token in_text _ x (branch Label.add (parts kind_of_shown b) none) z.2 in
           let y = opened_tree Label.add at q none b none refl u.1 in
           going_on result (λ z. group (z · space · table.leaf (as_leaf o) · space · nest i (document i n) · line · table.leaf (as_leaf x) · space · nest i (document i b))) s first (document i a) old mid new
-          (yield a) (o ∷ (yield n ++ (x ∷ yield b))) f.1 (clause a f.0) (k o x n b w.0 u.0 z.0 z.1 y.0)
+          (yield a) (o ∷ (yield n ++ (x ∷ yield b))) f.1 (clause a f.0)
+          (subst (λ z. Follows result s mid new (o ∷ (yield n ++ (x ∷ yield b))) (group (doc_of first · space · table.leaf (as_leaf o) · space · nest z (document z n) · line · table.leaf (as_leaf x) · space · nest z (document z b)))) same (k o x n b w.0 u.0 z.0 z.1 y.0))
 
 -- one operand alone
-pub alone : (i : ℤ) (s : Span) (p : Erased) (first : Document) (old new : List Shown) → ((a : Tree Shown add) → IsNodeOf p a → GivesIf Always (doc_of first) (document i a) old new (yield a))
+pub alone : {s : Span} {p : Erased} {old new : List Shown} (i : ℤ) (first : Document) → ((a : Tree Shown add) → IsNodeOf p a → GivesIf Always (doc_of first) (document i a) old new (yield a))
     → (t : Tree Shown relation) → branch (Label.add, Some s) p none ≡ nodes_of (parts kind_of_shown t) → GivesIf Always (doc_of first) (document i t) old new (yield t)
-alone i s p first old new clause (single a) e = let x = opened_tree Label.add s p none a none refl e in clause a x.0
-alone i s p first old new clause (compare a o b) e = absurd (nothing_follows Label.compare s p a (leaf o (branch Label.add (parts kind_of_shown b) none)) e)
-alone i s p first old new clause (has_or_like a o b) e = absurd (nothing_follows Label.has_or_like s p a (leaf o (branch Label.add (parts kind_of_shown b) none)) e)
-alone i s p first old new clause (is_type a o n) e = absurd (nothing_follows Label.is_type s p a (leaf o (branch Label.name (parts kind_of_shown n) none)) e)
-alone i s p first old new clause (is_in a o n x b) e = absurd (nothing_follows Label.is_type s p a (leaf o (branch Label.name (parts kind_of_shown n) (leaf x (branch Label.add (parts kind_of_shown b) none)))) e)
+alone {s = s} {p = p} i first clause (single a) e = let x = opened_tree Label.add s p none a none refl e in clause a x.0
+alone {s = s} {p = p} i first clause (compare a o b) e = absurd (nothing_follows Label.compare s p a (leaf o (branch Label.add (parts kind_of_shown b) none)) e)
+alone {s = s} {p = p} i first clause (has_or_like a o b) e = absurd (nothing_follows Label.has_or_like s p a (leaf o (branch Label.add (parts kind_of_shown b) none)) e)
+alone {s = s} {p = p} i first clause (is_type a o n) e = absurd (nothing_follows Label.is_type s p a (leaf o (branch Label.name (parts kind_of_shown n) none)) e)
+alone {s = s} {p = p} i first clause (is_in a o n x b) e = absurd (nothing_follows Label.is_type s p a (leaf o (branch Label.name (parts kind_of_shown n) (leaf x (branch Label.add (parts kind_of_shown b) none)))) e)

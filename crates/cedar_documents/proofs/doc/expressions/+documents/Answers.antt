@@ -1,16 +1,14 @@
-use Rattle.std.proofs.Common.{◌≡◌, ◌+◌, codes, ◌∷◌, [], map, drop, length, vec_len, refl, sym, ap, ◌∙◌, rules, subst, to_z, of_z, w64, arith, ◌++◌}
+use Rattle.std.proofs.Common.{◌≡◌, codes, ◌∷◌, [], length, vec_len, refl, sym, ap, ◌∙◌, rules, to_z, of_z, w64, arith, ◌++◌}
 use Rattle.std.proofs.lemmas.Int.{ints}
-use Rattle.std.specs.Prelude.{IfOk}
 use Rattle.cedar_grammar.specs.Trees.{Label}
 use Rattle.cedar_grammar.specs.TypedTrees.{yield}
 use Rattle.cedar_grammar.specs.TypedTrees as kind
-use Rattle.cedar_tree.specs.Erased.{add_parts, addop_text, mult_parts, or_parts, relation_parts, unary_parts, path_parts, relop_text}
+use Rattle.cedar_tree.specs.Erased.{add_parts, addop_text, mult_parts, or_parts, relation_parts, unary_parts}
 use Rattle.cedar_tree.specs.NodeLists.{and_parts}
 use Rattle.cedar_tree.specs.declared.tree.Expr.TheViews.{out-Add, out-Mult, out-Or}
 use Rattle.cedar_tree.proofs.Views.{add_items, and_items, mult_items, relation_items}
 use Rattle.cedar_tree.specs.declared.tree.Relation as Relation
 use Rattle.cedar_layout.specs.Layout.{group, ◌·◌, line, nest}
-use Rattle.cedar_layout.specs.Lookups.{shown, emptied}
 use Rattle.cedar_layout.specs.Value.{doc_of}
 use Rattle.cedar_layout.proofs.Values.{dot-nil, doc_of_seq, dot_assoc}
 use Rattle.cedar_layout.specs.Comments.{space}
@@ -29,56 +27,40 @@ or_doc-returns-then-is_empty-clause-shows _ c t n before after st =
     let node = c.args.or.now in
     let xs = (out-Or node).extended.items in
     let i = c.args.context.now.config.now.indent_width in
-    let old = map shown c.args.context.now.tokens.items in
-    let new = map shown c.and_doc.new.context.tokens.items in
-    let place = (out-Or node).initial.span in
     let first = c.in_ok-first.first in
     let len : vec_len (out-Or node).extended ≡ length xs = search rules in
-    let begun = made_first kind.ors kind.ands Label.and refl breaking_sign i (document i) (or_chain i) (or_parts node) old place (and_parts (out-Or node).initial.inner) (and_items xs) first (first ∷ []) new (or_view node) refl (λ x at e. freely (yield x) (c.in_ok-first.ensures.shows x e)) in
-    let r = made_all kind.ors kind.ands Label.and refl breaking_sign i (document i) (or_chain i) (or_parts node) old place (first ∷ []) new (and_items xs) (ap and_items (is_nil xs _ c.is_empty.result len c.is_empty.ensures c.if-is_empty.true)) begun t n before after st in
+    let begun = made_first kind.ors kind.ands Label.and refl breaking_sign i (document i) (or_chain i) (or_parts node) _ {docs = first ∷ []} first (or_view node) refl (λ x at e. freely (yield x) (c.in_ok-first.ensures.shows x e)) in
+    let r = made_all kind.ors kind.ands Label.and refl breaking_sign i (document i) (or_chain i) (or_parts node) _ (ap and_items (is_nil xs _ c.is_empty.result len c.is_empty.ensures c.if-is_empty.true)) begun t n before after st in
     (sym (dot-nil (doc_of first)) ∙ r.0, r.1)
 
 pub or_doc-loop-operand-init : goal.or_doc-loop-operand-init
 or_doc-loop-operand-init _ c =
     let node = c.args.or.now in
     let i = c.args.context.now.config.now.indent_width in
-    let made = made_first kind.ors kind.ands Label.and refl breaking_sign i (document i) (or_chain i) (or_parts node) (map shown c.args.context.now.tokens.items)
-        (out-Or node).initial.span (and_parts (out-Or node).initial.inner) (and_items (out-Or node).extended.items) c.in_ok-first.first c.in_ok-docs.docs.items (map shown c.and_doc.new.context.tokens.items)
-        (or_view node) c.in_ok-docs.ensures.items (λ x at e. freely (yield x) (c.in_ok-first.ensures.shows x e)) in
+    let made = made_first kind.ors kind.ands Label.and refl breaking_sign i (document i) (or_chain i) (or_parts node) _ c.in_ok-first.first (or_view node) c.in_ok-docs.ensures.items (λ x at e. freely (yield x) (c.in_ok-first.ensures.shows x e)) in
     record { order = c.and_doc.ensures.order; kept = c.and_doc.ensures.kept; config = c.and_doc.ensures.config; shown = made }
 
 pub or_doc-loop-operand-preserved : goal.or_doc-loop-operand-preserved
 or_doc-loop-operand-preserved _ c =
     let node = c.args.or.now in
-    let xs = (out-Or node).extended.items in
     let i = c.args.context.now.config.now.indent_width in
-    let y = c.operand-item.result in
-    let index = c.loop-operand.operand-index in
-    let left = one_left Label.and and_parts (λ _. codes "||") (λ x. x) xs c.deref-operand-items.result.now c.deref-operand-items.ensures.value index y c.loop-operand-test.true c.operand-item.is in
+    let left = one_left Label.and and_parts (λ _. codes "||") (λ x. x) (out-Or node).extended.items _ c.deref-operand-items.ensures.value c.loop-operand.operand-index c.operand-item.result c.loop-operand-test.true c.operand-item.is in
     let config = c.space_operator_line.ensures.config ∙ c.loop-operand.invariant.config in
-    let made = made_more kind.ors kind.ands Label.and refl breaking_sign i (document i) (or_chain i) (or_parts node) (map shown c.args.context.now.tokens.items)
-        c.loop-operand.last y.span (codes "||") (and_parts y.inner) (and_items (drop index xs)) (and_items (drop (index + 1) xs)) c.in_ok-space_operator_line.field-0 c.in_ok-and_doc.field-0
-        c.loop-operand.docs.items c.push.new.self.items c.push-in-loop-operand.new.self.items
-        (map shown c.loop-operand.context.tokens.items) (map shown c.space_operator_line.new.context.tokens.items) (map shown c.and_doc-in-loop-operand.new.context.tokens.items)
-        c.space_operator_line.new.context.config.now.indent_width
-        left c.in_ok-push.ensures.items c.in_ok-push-2.ensures.items (ap (λ z. z.now.indent_width) config)
-        (λ o f. c.in_ok-space_operator_line.ensures.shows o f) (λ x at e. freely (yield x) (c.in_ok-and_doc.ensures.shows x e)) c.loop-operand.invariant.shown in
+    let made = made_more kind.ors kind.ands Label.and refl breaking_sign i (document i) (or_chain i) (or_parts node) _ c.in_ok-space_operator_line.field-0 c.in_ok-and_doc.field-0 left c.in_ok-push.ensures.items c.in_ok-push-2.ensures.items (ap (λ z. z.now.indent_width) config)
+    c.in_ok-space_operator_line.ensures.shows (λ x at e. freely (yield x) (c.in_ok-and_doc.ensures.shows x e)) c.loop-operand.invariant.shown in
     record {
       order = c.and_doc-in-loop-operand.ensures.order;
       kept = c.and_doc-in-loop-operand.ensures.kept ∙ c.space_operator_line.ensures.kept ∙ c.loop-operand.invariant.kept;
       config = c.and_doc-in-loop-operand.ensures.config ∙ config;
-      shown = made }
+      shown = made;
+    }
 
 pub or_doc-returns-clause-shows : goal.or_doc-returns-clause-shows
 or_doc-returns-clause-shows _ c t n before after st =
     let node = c.args.or.now in
-    let xs = (out-Or node).extended.items in
     let i = c.args.context.now.config.now.indent_width in
-    let index = c.loop-operand.operand-index in
-    let r = made_all kind.ors kind.ands Label.and refl breaking_sign i (document i) (or_chain i) (or_parts node) (map shown c.args.context.now.tokens.items)
-        c.loop-operand.last c.loop-operand.docs.items (map shown c.loop-operand.context.tokens.items) (and_items (drop index xs))
-        (none_left Label.and and_parts (λ _. codes "||") (λ x. x) xs c.deref-operand-items.result.now c.deref-operand-items.ensures.value index c.loop-operand-test.false)
-        c.loop-operand.invariant.shown t n before after st in
+    let left = none_left Label.and and_parts (λ _. codes "||") (λ x. x) (out-Or node).extended.items _ c.deref-operand-items.ensures.value c.loop-operand.operand-index c.loop-operand-test.false in
+    let r = made_all kind.ors kind.ands Label.and refl breaking_sign i (document i) (or_chain i) (or_parts node) _ left c.loop-operand.invariant.shown t n before after st in
     (doc_of_seq c.loop-operand.docs ∙ r.0, r.1)
 
 -- operands of `&&`
@@ -88,71 +70,51 @@ and_doc-returns-then-is_empty-clause-shows _ c t n before after st =
     let node = c.args.and.now in
     let xs = node.extended.items in
     let i = c.args.context.now.config.now.indent_width in
-    let old = map shown c.args.context.now.tokens.items in
-    let new = map shown c.relation_doc.new.context.tokens.items in
-    let place = node.initial.span in
     let first = c.in_ok-first.first in
     let len : vec_len node.extended ≡ length xs = search rules in
-    let begun = made_first kind.ands kind.relation Label.relation refl breaking_sign i (document i) (and_chain i) (and_parts node) old place (relation_parts node.initial.inner) (relation_items xs) first (first ∷ []) new (refl) refl (λ x at e. freely (yield x) (c.in_ok-first.ensures.shows x e)) in
-    let r = made_all kind.ands kind.relation Label.relation refl breaking_sign i (document i) (and_chain i) (and_parts node) old place (first ∷ []) new (relation_items xs) (ap relation_items (is_nil xs _ c.is_empty.result len c.is_empty.ensures c.if-is_empty.true)) begun t n before after st in
+    let begun = made_first kind.ands kind.relation Label.relation refl breaking_sign i (document i) (and_chain i) (and_parts node) _ {docs = first ∷ []} first refl refl (λ x at e. freely (yield x) (c.in_ok-first.ensures.shows x e)) in
+    let r = made_all kind.ands kind.relation Label.relation refl breaking_sign i (document i) (and_chain i) (and_parts node) _ (ap relation_items (is_nil xs _ c.is_empty.result len c.is_empty.ensures c.if-is_empty.true)) begun t n before after st in
     (sym (dot-nil (doc_of first)) ∙ r.0, r.1)
 
 pub and_doc-loop-operand-init : goal.and_doc-loop-operand-init
 and_doc-loop-operand-init _ c =
     let node = c.args.and.now in
     let i = c.args.context.now.config.now.indent_width in
-    let made = made_first kind.ands kind.relation Label.relation refl breaking_sign i (document i) (and_chain i) (and_parts node) (map shown c.args.context.now.tokens.items)
-        node.initial.span (relation_parts node.initial.inner) (relation_items node.extended.items) c.in_ok-first.first c.in_ok-docs.docs.items (map shown c.relation_doc.new.context.tokens.items)
-        (refl) c.in_ok-docs.ensures.items (λ x at e. freely (yield x) (c.in_ok-first.ensures.shows x e)) in
+    let made = made_first kind.ands kind.relation Label.relation refl breaking_sign i (document i) (and_chain i) (and_parts node) _ c.in_ok-first.first refl c.in_ok-docs.ensures.items (λ x at e. freely (yield x) (c.in_ok-first.ensures.shows x e)) in
     record { order = c.relation_doc.ensures.order; kept = c.relation_doc.ensures.kept; config = c.relation_doc.ensures.config; shown = made }
 
 pub and_doc-loop-operand-preserved : goal.and_doc-loop-operand-preserved
 and_doc-loop-operand-preserved _ c =
     let node = c.args.and.now in
-    let xs = node.extended.items in
     let i = c.args.context.now.config.now.indent_width in
-    let y = c.operand-item.result in
-    let index = c.loop-operand.operand-index in
-    let left = one_left Label.relation relation_parts (λ _. codes "&&") (λ x. x) xs c.deref-operand-items.result.now c.deref-operand-items.ensures.value index y c.loop-operand-test.true c.operand-item.is in
+    let left = one_left Label.relation relation_parts (λ _. codes "&&") (λ x. x) node.extended.items _ c.deref-operand-items.ensures.value c.loop-operand.operand-index c.operand-item.result c.loop-operand-test.true c.operand-item.is in
     let config = c.space_operator_line.ensures.config ∙ c.loop-operand.invariant.config in
-    let made = made_more kind.ands kind.relation Label.relation refl breaking_sign i (document i) (and_chain i) (and_parts node) (map shown c.args.context.now.tokens.items)
-        c.loop-operand.last y.span (codes "&&") (relation_parts y.inner) (relation_items (drop index xs)) (relation_items (drop (index + 1) xs)) c.in_ok-space_operator_line.field-0 c.in_ok-relation_doc.field-0
-        c.loop-operand.docs.items c.push.new.self.items c.push-in-loop-operand.new.self.items
-        (map shown c.loop-operand.context.tokens.items) (map shown c.space_operator_line.new.context.tokens.items) (map shown c.relation_doc-in-loop-operand.new.context.tokens.items)
-        c.space_operator_line.new.context.config.now.indent_width
-        left c.in_ok-push.ensures.items c.in_ok-push-2.ensures.items (ap (λ z. z.now.indent_width) config)
-        (λ o f. c.in_ok-space_operator_line.ensures.shows o f) (λ x at e. freely (yield x) (c.in_ok-relation_doc.ensures.shows x e)) c.loop-operand.invariant.shown in
+    let made = made_more kind.ands kind.relation Label.relation refl breaking_sign i (document i) (and_chain i) (and_parts node) _ c.in_ok-space_operator_line.field-0 c.in_ok-relation_doc.field-0 left c.in_ok-push.ensures.items c.in_ok-push-2.ensures.items (ap (λ z. z.now.indent_width) config)
+    c.in_ok-space_operator_line.ensures.shows (λ x at e. freely (yield x) (c.in_ok-relation_doc.ensures.shows x e)) c.loop-operand.invariant.shown in
     record {
       order = c.relation_doc-in-loop-operand.ensures.order;
       kept = c.relation_doc-in-loop-operand.ensures.kept ∙ c.space_operator_line.ensures.kept ∙ c.loop-operand.invariant.kept;
       config = c.relation_doc-in-loop-operand.ensures.config ∙ config;
-      shown = made }
+      shown = made;
+    }
 
 pub and_doc-returns-clause-shows : goal.and_doc-returns-clause-shows
 and_doc-returns-clause-shows _ c t n before after st =
     let node = c.args.and.now in
-    let xs = node.extended.items in
     let i = c.args.context.now.config.now.indent_width in
-    let index = c.loop-operand.operand-index in
-    let r = made_all kind.ands kind.relation Label.relation refl breaking_sign i (document i) (and_chain i) (and_parts node) (map shown c.args.context.now.tokens.items)
-        c.loop-operand.last c.loop-operand.docs.items (map shown c.loop-operand.context.tokens.items) (relation_items (drop index xs))
-        (none_left Label.relation relation_parts (λ _. codes "&&") (λ x. x) xs c.deref-operand-items.result.now c.deref-operand-items.ensures.value index c.loop-operand-test.false)
-        c.loop-operand.invariant.shown t n before after st in
+    let left = none_left Label.relation relation_parts (λ _. codes "&&") (λ x. x) node.extended.items _ c.deref-operand-items.ensures.value c.loop-operand.operand-index c.loop-operand-test.false in
+    let r = made_all kind.ands kind.relation Label.relation refl breaking_sign i (document i) (and_chain i) (and_parts node) _ left c.loop-operand.invariant.shown t n before after st in
     (doc_of_seq c.loop-operand.docs ∙ r.0, r.1)
 
 -- relations
 
 pub relation_doc-returns-in-Some-clause-shows : goal.relation_doc-returns-in-Some-clause-shows
 relation_doc-returns-in-Some-clause-shows _ c t n =
-    let i = c.args.context.now.config.now.indent_width in
     let a = c.in-Common.initial in
     let b = c.in-Some.other in
     let is = c.in-Common.is ∙ ap (λ z. Relation.Common a z) c.in-Some.is in
     let node = sym (view_compared a c.in-Some.op b) ∙ ap relation_parts (sym is) ∙ n in
-    compared c.comparison_doc.result i a.span (add_parts a.inner) c.in_ok-first-in-Common.first (map shown c.args.context.now.tokens.items) (map shown c.add_doc.new.context.tokens.items) (map shown c.comparison_doc.new.context.tokens.items)
-    (λ x e. freely (yield x) (c.in_ok-first-in-Common.ensures.shows x e)) (add_parts b.inner) b.span (relop_text c.in-Some.op) t node
-    (λ o x f e before after p st. subst (λ z. IfOk c.comparison_doc.result (λ r. (doc_of r ≡ doc_of c.in_ok-first-in-Common.first · space · leaf (as_leaf o) · space · document z.now.indent_width x) × (map shown c.comparison_doc.new.context.tokens.items ≡ (before ++ map emptied (o ∷ yield x)) ++ after))) c.add_doc.ensures.config
-    (c.comparison_doc.ensures.shows o x f e before after p st))
+    compared c.comparison_doc.result _ (ap (λ z. z.now.indent_width) c.add_doc.ensures.config) c.in_ok-first-in-Common.first (λ x e. freely (yield x) (c.in_ok-first-in-Common.ensures.shows x e)) t node c.comparison_doc.ensures.shows
 
 pub relation_doc-returns-in-None-clause-shows : goal.relation_doc-returns-in-None-clause-shows
 relation_doc-returns-in-None-clause-shows _ c t n before after st =
@@ -160,55 +122,38 @@ relation_doc-returns-in-None-clause-shows _ c t n before after st =
     let a = c.in-Common.initial in
     let is = c.in-Common.is ∙ ap (λ z. Relation.Common a z) c.in-None.is in
     let node = sym (view_alone a) ∙ ap relation_parts (sym is) ∙ n in
-    alone i a.span (add_parts a.inner) c.in_ok-first-in-Common.first (map shown c.args.context.now.tokens.items) (map shown c.add_doc.new.context.tokens.items)
-    (λ x e. freely (yield x) (c.in_ok-first-in-Common.ensures.shows x e)) t node before after tt st
+    alone i c.in_ok-first-in-Common.first (λ x e. freely (yield x) (c.in_ok-first-in-Common.ensures.shows x e)) t node before after tt st
 
 pub relation_doc-returns-in_ok-first-in-Has-clause-shows : goal.relation_doc-returns-in_ok-first-in-Has-clause-shows
 relation_doc-returns-in_ok-first-in-Has-clause-shows _ c t n =
-    let i = c.args.context.now.config.now.indent_width in
     let a = c.in-Has.target in
     let b = c.in-Has.field in
     let node = sym (view_has a b) ∙ ap relation_parts (sym c.in-Has.is) ∙ n in
-    worded c.keyword_doc.result i a.span (add_parts a.inner) c.in_ok-first-in-Has.first (map shown c.args.context.now.tokens.items) (map shown c.add_doc-in-Has.new.context.tokens.items) (map shown c.keyword_doc.new.context.tokens.items)
-    (λ x e. freely (yield x) (c.in_ok-first-in-Has.ensures.shows x e)) (add_parts b.inner) b.span (codes "has") t node
-    (λ o x f e before after p st. subst (λ z. IfOk c.keyword_doc.result (λ r. (doc_of r ≡ group (doc_of c.in_ok-first-in-Has.first · line · leaf (as_leaf o) · line · nest z.now.indent_width (document z.now.indent_width x))) × (map shown c.keyword_doc.new.context.tokens.items ≡ (before ++ map emptied (o ∷ yield x)) ++ after))) c.add_doc-in-Has.ensures.config
-    (c.keyword_doc.ensures.shows o x f e before after p st))
+    worded c.keyword_doc.result _ (ap (λ z. z.now.indent_width) c.add_doc-in-Has.ensures.config) c.in_ok-first-in-Has.first (λ x e. freely (yield x) (c.in_ok-first-in-Has.ensures.shows x e)) t node c.keyword_doc.ensures.shows
 
 pub relation_doc-returns-in_ok-first-in-Like-clause-shows : goal.relation_doc-returns-in_ok-first-in-Like-clause-shows
 relation_doc-returns-in_ok-first-in-Like-clause-shows _ c t n =
-    let i = c.args.context.now.config.now.indent_width in
     let a = c.in-Like.target in
     let b = c.in-Like.pattern in
     let node = sym (view_like a b) ∙ ap relation_parts (sym c.in-Like.is) ∙ n in
-    worded c.keyword_doc-in-Like.result i a.span (add_parts a.inner) c.in_ok-first-in-Like.first (map shown c.args.context.now.tokens.items) (map shown c.add_doc-in-Like.new.context.tokens.items) (map shown c.keyword_doc-in-Like.new.context.tokens.items)
-    (λ x e. freely (yield x) (c.in_ok-first-in-Like.ensures.shows x e)) (add_parts b.inner) b.span (codes "like") t node
-    (λ o x f e before after p st. subst (λ z. IfOk c.keyword_doc-in-Like.result (λ r. (doc_of r ≡ group (doc_of c.in_ok-first-in-Like.first · line · leaf (as_leaf o) · line · nest z.now.indent_width (document z.now.indent_width x))) × (map shown c.keyword_doc-in-Like.new.context.tokens.items ≡ (before ++ map emptied (o ∷ yield x)) ++ after))) c.add_doc-in-Like.ensures.config
-    (c.keyword_doc-in-Like.ensures.shows o x f e before after p st))
+    worded c.keyword_doc-in-Like.result _ (ap (λ z. z.now.indent_width) c.add_doc-in-Like.ensures.config) c.in_ok-first-in-Like.first (λ x e. freely (yield x) (c.in_ok-first-in-Like.ensures.shows x e)) t node c.keyword_doc-in-Like.ensures.shows
 
 pub relation_doc-returns-in-Some-in_entity-clause-shows : goal.relation_doc-returns-in-Some-in_entity-clause-shows
 relation_doc-returns-in-Some-in_entity-clause-shows _ c t n =
-    let i = c.args.context.now.config.now.indent_width in
     let a = c.in-IsIn.target in
     let k = c.in-IsIn.entity_type in
     let b = c.in-Some-in_entity.entity in
     let is = c.in-IsIn.is ∙ ap (λ z. Relation.IsIn a k z) c.in-Some-in_entity.is in
     let node = sym (view_is_in a k b) ∙ ap relation_parts (sym is) ∙ n in
-    placed c.is_in_doc.result i a.span (add_parts a.inner) c.in_ok-first-in-IsIn.first (map shown c.args.context.now.tokens.items) (map shown c.add_doc-in-IsIn.new.context.tokens.items) (map shown c.is_in_doc.new.context.tokens.items)
-    (λ x e. freely (yield x) (c.in_ok-first-in-IsIn.ensures.shows x e)) (path_parts k.inner.path.items k.inner.name) k.span (codes "is") (add_parts b.inner) b.span (codes "in") t node
-    (λ o x m y f g e at h before after p st. subst (λ z. IfOk c.is_in_doc.result (λ r. (doc_of r ≡ group (doc_of c.in_ok-first-in-IsIn.first · space · leaf (as_leaf o) · space · nest z.now.indent_width (document z.now.indent_width m) · line · leaf (as_leaf x) · space · nest z.now.indent_width (document z.now.indent_width y))) × (map shown c.is_in_doc.new.context.tokens.items ≡ (before ++ map emptied (o ∷ (yield m ++ (x ∷ yield y)))) ++ after))) c.add_doc-in-IsIn.ensures.config
-    (c.is_in_doc.ensures.shows o x m y f g e at h before after p st))
+    placed c.is_in_doc.result _ (ap (λ z. z.now.indent_width) c.add_doc-in-IsIn.ensures.config) c.in_ok-first-in-IsIn.first (λ x e. freely (yield x) (c.in_ok-first-in-IsIn.ensures.shows x e)) t node c.is_in_doc.ensures.shows
 
 pub relation_doc-returns-in-None-in_entity-clause-shows : goal.relation_doc-returns-in-None-in_entity-clause-shows
 relation_doc-returns-in-None-in_entity-clause-shows _ c t n =
-    let i = c.args.context.now.config.now.indent_width in
     let a = c.in-IsIn.target in
     let k = c.in-IsIn.entity_type in
     let is = c.in-IsIn.is ∙ ap (λ z. Relation.IsIn a k z) c.in-None-in_entity.is in
     let node = sym (view_is a k) ∙ ap relation_parts (sym is) ∙ n in
-    typed c.is_doc.result i a.span (add_parts a.inner) c.in_ok-first-in-IsIn.first (map shown c.args.context.now.tokens.items) (map shown c.add_doc-in-IsIn.new.context.tokens.items) (map shown c.is_doc.new.context.tokens.items)
-    (λ x e. freely (yield x) (c.in_ok-first-in-IsIn.ensures.shows x e)) (path_parts k.inner.path.items k.inner.name) k.span (codes "is") t node
-    (λ o m f e before after p st. subst (λ z. IfOk c.is_doc.result (λ r. (doc_of r ≡ group (doc_of c.in_ok-first-in-IsIn.first · space · leaf (as_leaf o) · space · nest z.now.indent_width (document z.now.indent_width m))) × (map shown c.is_doc.new.context.tokens.items ≡ (before ++ map emptied (o ∷ yield m)) ++ after))) c.add_doc-in-IsIn.ensures.config
-    (c.is_doc.ensures.shows o m f e before after p st))
+    typed c.is_doc.result _ (ap (λ z. z.now.indent_width) c.add_doc-in-IsIn.ensures.config) c.in_ok-first-in-IsIn.first (λ x e. freely (yield x) (c.in_ok-first-in-IsIn.ensures.shows x e)) t node c.is_doc.ensures.shows
 
 pub comparison_doc-returns-clause-shows : goal.comparison_doc-returns-clause-shows
 comparison_doc-returns-clause-shows _ c o b f e =
@@ -229,11 +174,13 @@ keyword_doc-returns-clause-shows _ c o b f e =
     let same = value ∙ ap (λ z. z.now.indent_width) c.add_doc.ensures.config ∙ width in
     let second = rewritten (yield b) (ap (λ z. document z b) width) (freely (yield b) (c.in_ok-right.ensures.shows b e)) in
     let all = in_turn (λ x y. group (left · x · nest i y)) (Behind c.args.before) Always (o ∷ []) (yield b) (c.in_ok-middle.ensures.shows o f) (λ b h. tt) second in
-    λ before after p st. let r = all before after p st in
-    (c.in_ok-group.ensures
-    ∙ ap group (c.in_ok-whole.ensures ∙ ap (λ z. left · z) (c.in_ok-append.ensures ∙ ap (λ z. doc_of c.in_ok-middle.middle · z) (c.in_ok-indented.ensures ∙ ap (λ z. nest z (doc_of c.in_ok-right.right)) same)))
-    ∙ r.0
-    ∙ ap (λ z. group (left · line · z)) (dot_assoc (leaf (as_leaf o)) line (nest i (document i b))), r.1)
+    λ before after p st. let r = all before after p st in (
+      c.in_ok-group.ensures
+          ∙ ap group (c.in_ok-whole.ensures ∙ ap (λ z. left · z) (c.in_ok-append.ensures ∙ ap (λ z. doc_of c.in_ok-middle.middle · z) (c.in_ok-indented.ensures ∙ ap (λ z. nest z (doc_of c.in_ok-right.right)) same)))
+          ∙ r.0
+          ∙ ap (λ z. group (left · line · z)) (dot_assoc (leaf (as_leaf o)) line (nest i (document i b))),
+      r.1,
+    )
 
 pub is_in_doc-returns-clause-shows : goal.is_in_doc-returns-clause-shows
 is_in_doc-returns-clause-shows _ c o p n b f g e at h =
@@ -252,12 +199,14 @@ is_in_doc-returns-clause-shows _ c o p n b f g e at h =
     let more = in_turn (λ x y. nest i x · line · y) Always (Behind type_span) (yield n) (p ∷ yield b) (freely (yield n) (c.in_ok-type_name.ensures.shows i n e)) (λ b h. ends_here type_span (yield n) at b) behind in
     let all = in_turn (λ x y. group (left · x · y)) (Behind c.args.before) Always (o ∷ []) (yield n ++ (p ∷ yield b)) (c.in_ok-is_word.ensures.shows o f) (λ b h. tt) more in
     let made = c.in_ok-append.ensures ∙ ap (λ z. z · doc_of c.in_ok-container-2.container) (c.in_ok-type_name-2.ensures ∙ ap (λ z. nest z kind) same)
-        ∙ ap (λ z. nest i kind · z) (c.in_ok-container-2.ensures ∙ ap (λ z. line · doc_of c.in_ok-in_word.in_word · space · nest z inside) same) in
-    λ before after q st. let r = all before after q st in
-    (c.in_ok-group.ensures
-    ∙ ap group (c.in_ok-whole.ensures ∙ ap (λ z. left · z) (c.in_ok-append-2.ensures ∙ ap (λ z. doc_of c.in_ok-is_word.is_word · z) made))
-    ∙ r.0
-    ∙ ap (λ z. group (left · space · z)) (dot_assoc (leaf (as_leaf o)) space (nest i (document i n) · line · leaf (as_leaf p) · space · nest i (document i b))), r.1)
+    ∙ ap (λ z. nest i kind · z) (c.in_ok-container-2.ensures ∙ ap (λ z. line · doc_of c.in_ok-in_word.in_word · space · nest z inside) same) in
+    λ before after q st. let r = all before after q st in (
+      c.in_ok-group.ensures
+          ∙ ap group (c.in_ok-whole.ensures ∙ ap (λ z. left · z) (c.in_ok-append-2.ensures ∙ ap (λ z. doc_of c.in_ok-is_word.is_word · z) made))
+          ∙ r.0
+          ∙ ap (λ z. group (left · space · z)) (dot_assoc (leaf (as_leaf o)) space (nest i (document i n) · line · leaf (as_leaf p) · space · nest i (document i b))),
+      r.1,
+    )
 
 -- operands of `+` and `-`
 
@@ -266,56 +215,40 @@ add_doc-returns-then-is_empty-clause-shows _ c t n before after st =
     let node = c.args.add.now in
     let xs = (out-Add node).extended.items in
     let i = c.args.context.now.config.now.indent_width in
-    let old = map shown c.args.context.now.tokens.items in
-    let new = map shown c.mult_doc.new.context.tokens.items in
-    let place = (out-Add node).initial.span in
     let first = c.in_ok-first.first in
     let len : vec_len (out-Add node).extended ≡ length xs = search rules in
-    let begun = made_first kind.add kind.mult Label.mult refl sign_and_line i (inside_add i) (add_chain i) (add_parts node) old place (mult_parts (out-Add node).initial.inner) (add_items xs) first (first ∷ []) new (add_view node) refl (λ x at e. freely (yield x) (c.in_ok-first.ensures.shows x e)) in
-    let r = made_all kind.add kind.mult Label.mult refl sign_and_line i (inside_add i) (add_chain i) (add_parts node) old place (first ∷ []) new (add_items xs) (ap add_items (is_nil xs _ c.is_empty.result len c.is_empty.ensures c.if-is_empty.true)) begun t n before after st in
+    let begun = made_first kind.add kind.mult Label.mult refl sign_and_line i (inside_add i) (add_chain i) (add_parts node) _ {docs = first ∷ []} first (add_view node) refl (λ x at e. freely (yield x) (c.in_ok-first.ensures.shows x e)) in
+    let r = made_all kind.add kind.mult Label.mult refl sign_and_line i (inside_add i) (add_chain i) (add_parts node) _ (ap add_items (is_nil xs _ c.is_empty.result len c.is_empty.ensures c.if-is_empty.true)) begun t n before after st in
     (c.in_ok-group.ensures ∙ ap group (sym (dot-nil (doc_of first)) ∙ r.0) ∙ add_group i t, r.1)
 
 pub add_doc-loop-op-init : goal.add_doc-loop-op-init
 add_doc-loop-op-init _ c =
     let node = c.args.add.now in
     let i = c.args.context.now.config.now.indent_width in
-    let made = made_first kind.add kind.mult Label.mult refl sign_and_line i (inside_add i) (add_chain i) (add_parts node) (map shown c.args.context.now.tokens.items)
-        (out-Add node).initial.span (mult_parts (out-Add node).initial.inner) (add_items (out-Add node).extended.items) c.in_ok-first.first c.in_ok-docs.docs.items (map shown c.mult_doc.new.context.tokens.items)
-        (add_view node) c.in_ok-docs.ensures.items (λ x at e. freely (yield x) (c.in_ok-first.ensures.shows x e)) in
+    let made = made_first kind.add kind.mult Label.mult refl sign_and_line i (inside_add i) (add_chain i) (add_parts node) _ c.in_ok-first.first (add_view node) c.in_ok-docs.ensures.items (λ x at e. freely (yield x) (c.in_ok-first.ensures.shows x e)) in
     record { order = c.mult_doc.ensures.order; kept = c.mult_doc.ensures.kept; config = c.mult_doc.ensures.config; shown = made }
 
 pub add_doc-loop-op-preserved : goal.add_doc-loop-op-preserved
 add_doc-loop-op-preserved _ c =
     let node = c.args.add.now in
-    let xs = (out-Add node).extended.items in
     let i = c.args.context.now.config.now.indent_width in
-    let y = c.loop-op-item.result in
-    let index = c.loop-op.op-index in
-    let left = one_left Label.mult mult_parts (λ x. addop_text x.0) (λ x. x.1) xs c.deref-op-items.result.now c.deref-op-items.ensures.value index y c.loop-op-test.true c.loop-op-item.is in
+    let left = one_left Label.mult mult_parts (λ x. addop_text x.0) (λ x. x.1) (out-Add node).extended.items _ c.deref-op-items.ensures.value c.loop-op.op-index c.loop-op-item.result c.loop-op-test.true c.loop-op-item.is in
     let config = c.space_operator_and_line.ensures.config ∙ c.loop-op.invariant.config in
-    let made = made_more kind.add kind.mult Label.mult refl sign_and_line i (inside_add i) (add_chain i) (add_parts node) (map shown c.args.context.now.tokens.items)
-        c.loop-op.last y.1.span (addop_text y.0) (mult_parts y.1.inner) (add_items (drop index xs)) (add_items (drop (index + 1) xs)) c.in_ok-space_operator_and_line.field-0 c.in_ok-mult_doc.field-0
-        c.loop-op.docs.items c.push.new.self.items c.push-in-loop-op.new.self.items
-        (map shown c.loop-op.context.tokens.items) (map shown c.space_operator_and_line.new.context.tokens.items) (map shown c.mult_doc-in-loop-op.new.context.tokens.items)
-        c.space_operator_and_line.new.context.config.now.indent_width
-        left c.in_ok-push.ensures.items c.in_ok-push-2.ensures.items (ap (λ z. z.now.indent_width) config)
-        (λ o f. c.in_ok-space_operator_and_line.ensures.shows o (c.add_op_text.ensures ∙ f)) (λ x at e. freely (yield x) (c.in_ok-mult_doc.ensures.shows x e)) c.loop-op.invariant.shown in
+    let made = made_more kind.add kind.mult Label.mult refl sign_and_line i (inside_add i) (add_chain i) (add_parts node) _ c.in_ok-space_operator_and_line.field-0 c.in_ok-mult_doc.field-0 left c.in_ok-push.ensures.items c.in_ok-push-2.ensures.items (ap (λ z. z.now.indent_width) config)
+    (λ o f. c.in_ok-space_operator_and_line.ensures.shows o (c.add_op_text.ensures ∙ f)) (λ x at e. freely (yield x) (c.in_ok-mult_doc.ensures.shows x e)) c.loop-op.invariant.shown in
     record {
       order = c.mult_doc-in-loop-op.ensures.order;
       kept = c.mult_doc-in-loop-op.ensures.kept ∙ c.space_operator_and_line.ensures.kept ∙ c.loop-op.invariant.kept;
       config = c.mult_doc-in-loop-op.ensures.config ∙ config;
-      shown = made }
+      shown = made;
+    }
 
 pub add_doc-returns-clause-shows : goal.add_doc-returns-clause-shows
 add_doc-returns-clause-shows _ c t n before after st =
     let node = c.args.add.now in
-    let xs = (out-Add node).extended.items in
     let i = c.args.context.now.config.now.indent_width in
-    let index = c.loop-op.op-index in
-    let r = made_all kind.add kind.mult Label.mult refl sign_and_line i (inside_add i) (add_chain i) (add_parts node) (map shown c.args.context.now.tokens.items)
-        c.loop-op.last c.loop-op.docs.items (map shown c.loop-op.context.tokens.items) (add_items (drop index xs))
-        (none_left Label.mult mult_parts (λ x. addop_text x.0) (λ x. x.1) xs c.deref-op-items.result.now c.deref-op-items.ensures.value index c.loop-op-test.false)
-        c.loop-op.invariant.shown t n before after st in
+    let left = none_left Label.mult mult_parts (λ x. addop_text x.0) (λ x. x.1) (out-Add node).extended.items _ c.deref-op-items.ensures.value c.loop-op.op-index c.loop-op-test.false in
+    let r = made_all kind.add kind.mult Label.mult refl sign_and_line i (inside_add i) (add_chain i) (add_parts node) _ left c.loop-op.invariant.shown t n before after st in
     (c.in_ok-group-2.ensures ∙ ap group (doc_of_seq c.loop-op.docs ∙ r.0) ∙ add_group i t, r.1)
 
 -- operands of `*`
@@ -325,54 +258,38 @@ mult_doc-returns-then-is_empty-clause-shows _ c t n before after st =
     let node = c.args.mult.now in
     let xs = (out-Mult node).extended.items in
     let i = c.args.context.now.config.now.indent_width in
-    let old = map shown c.args.context.now.tokens.items in
-    let new = map shown c.unary_doc.new.context.tokens.items in
-    let place = (out-Mult node).initial.span in
     let first = c.in_ok-first.first in
     let len : vec_len (out-Mult node).extended ≡ length xs = search rules in
-    let begun = made_first kind.mult kind.unary Label.unary refl sign_and_line i (inside_mult i) (mult_chain i) (mult_parts node) old place (unary_parts (out-Mult node).initial.inner) (mult_items xs) first (first ∷ []) new (mult_view node) refl (λ x at e. freely (yield x) (c.in_ok-first.ensures.shows x at e)) in
-    let r = made_all kind.mult kind.unary Label.unary refl sign_and_line i (inside_mult i) (mult_chain i) (mult_parts node) old place (first ∷ []) new (mult_items xs) (ap mult_items (is_nil xs _ c.is_empty.result len c.is_empty.ensures c.if-is_empty.true)) begun t n before after st in
+    let begun = made_first kind.mult kind.unary Label.unary refl sign_and_line i (inside_mult i) (mult_chain i) (mult_parts node) _ {docs = first ∷ []} first (mult_view node) refl (λ x at e. freely (yield x) (c.in_ok-first.ensures.shows x at e)) in
+    let r = made_all kind.mult kind.unary Label.unary refl sign_and_line i (inside_mult i) (mult_chain i) (mult_parts node) _ (ap mult_items (is_nil xs _ c.is_empty.result len c.is_empty.ensures c.if-is_empty.true)) begun t n before after st in
     (c.in_ok-group.ensures ∙ ap group (sym (dot-nil (doc_of first)) ∙ r.0) ∙ mult_group i t, r.1)
 
 pub mult_doc-loop-operand-init : goal.mult_doc-loop-operand-init
 mult_doc-loop-operand-init _ c =
     let node = c.args.mult.now in
     let i = c.args.context.now.config.now.indent_width in
-    let made = made_first kind.mult kind.unary Label.unary refl sign_and_line i (inside_mult i) (mult_chain i) (mult_parts node) (map shown c.args.context.now.tokens.items)
-        (out-Mult node).initial.span (unary_parts (out-Mult node).initial.inner) (mult_items (out-Mult node).extended.items) c.in_ok-first.first c.in_ok-docs.docs.items (map shown c.unary_doc.new.context.tokens.items)
-        (mult_view node) c.in_ok-docs.ensures.items (λ x at e. freely (yield x) (c.in_ok-first.ensures.shows x at e)) in
+    let made = made_first kind.mult kind.unary Label.unary refl sign_and_line i (inside_mult i) (mult_chain i) (mult_parts node) _ c.in_ok-first.first (mult_view node) c.in_ok-docs.ensures.items (λ x at e. freely (yield x) (c.in_ok-first.ensures.shows x at e)) in
     record { order = c.unary_doc.ensures.order; kept = c.unary_doc.ensures.kept; config = c.unary_doc.ensures.config; shown = made }
 
 pub mult_doc-loop-operand-preserved : goal.mult_doc-loop-operand-preserved
 mult_doc-loop-operand-preserved _ c =
     let node = c.args.mult.now in
-    let xs = (out-Mult node).extended.items in
     let i = c.args.context.now.config.now.indent_width in
-    let y = c.loop-operand-item.result in
-    let index = c.loop-operand.operand-index in
-    let left = one_left Label.unary unary_parts (λ _. codes "*") (λ x. x.1) xs c.deref-operand-items.result.now c.deref-operand-items.ensures.value index y c.loop-operand-test.true c.loop-operand-item.is in
+    let left = one_left Label.unary unary_parts (λ _. codes "*") (λ x. x.1) (out-Mult node).extended.items _ c.deref-operand-items.ensures.value c.loop-operand.operand-index c.loop-operand-item.result c.loop-operand-test.true c.loop-operand-item.is in
     let config = c.space_operator_and_line.ensures.config ∙ c.loop-operand.invariant.config in
-    let made = made_more kind.mult kind.unary Label.unary refl sign_and_line i (inside_mult i) (mult_chain i) (mult_parts node) (map shown c.args.context.now.tokens.items)
-        c.loop-operand.last y.1.span (codes "*") (unary_parts y.1.inner) (mult_items (drop index xs)) (mult_items (drop (index + 1) xs)) c.in_ok-space_operator_and_line.field-0 c.in_ok-unary_doc.field-0
-        c.loop-operand.docs.items c.push.new.self.items c.push-in-loop-operand.new.self.items
-        (map shown c.loop-operand.context.tokens.items) (map shown c.space_operator_and_line.new.context.tokens.items) (map shown c.unary_doc-in-loop-operand.new.context.tokens.items)
-        c.space_operator_and_line.new.context.config.now.indent_width
-        left c.in_ok-push.ensures.items c.in_ok-push-2.ensures.items (ap (λ z. z.now.indent_width) config)
-        (λ o f. c.in_ok-space_operator_and_line.ensures.shows o f) (λ x at e. freely (yield x) (c.in_ok-unary_doc.ensures.shows x at e)) c.loop-operand.invariant.shown in
+    let made = made_more kind.mult kind.unary Label.unary refl sign_and_line i (inside_mult i) (mult_chain i) (mult_parts node) _ c.in_ok-space_operator_and_line.field-0 c.in_ok-unary_doc.field-0 left c.in_ok-push.ensures.items c.in_ok-push-2.ensures.items (ap (λ z. z.now.indent_width) config)
+    c.in_ok-space_operator_and_line.ensures.shows (λ x at e. freely (yield x) (c.in_ok-unary_doc.ensures.shows x at e)) c.loop-operand.invariant.shown in
     record {
       order = c.unary_doc-in-loop-operand.ensures.order;
       kept = c.unary_doc-in-loop-operand.ensures.kept ∙ c.space_operator_and_line.ensures.kept ∙ c.loop-operand.invariant.kept;
       config = c.unary_doc-in-loop-operand.ensures.config ∙ config;
-      shown = made }
+      shown = made;
+    }
 
 pub mult_doc-returns-clause-shows : goal.mult_doc-returns-clause-shows
 mult_doc-returns-clause-shows _ c t n before after st =
     let node = c.args.mult.now in
-    let xs = (out-Mult node).extended.items in
     let i = c.args.context.now.config.now.indent_width in
-    let index = c.loop-operand.operand-index in
-    let r = made_all kind.mult kind.unary Label.unary refl sign_and_line i (inside_mult i) (mult_chain i) (mult_parts node) (map shown c.args.context.now.tokens.items)
-        c.loop-operand.last c.loop-operand.docs.items (map shown c.loop-operand.context.tokens.items) (mult_items (drop index xs))
-        (none_left Label.unary unary_parts (λ _. codes "*") (λ x. x.1) xs c.deref-operand-items.result.now c.deref-operand-items.ensures.value index c.loop-operand-test.false)
-        c.loop-operand.invariant.shown t n before after st in
+    let left = none_left Label.unary unary_parts (λ _. codes "*") (λ x. x.1) (out-Mult node).extended.items _ c.deref-operand-items.ensures.value c.loop-operand.operand-index c.loop-operand-test.false in
+    let r = made_all kind.mult kind.unary Label.unary refl sign_and_line i (inside_mult i) (mult_chain i) (mult_parts node) _ left c.loop-operand.invariant.shown t n before after st in
     (c.in_ok-group-2.ensures ∙ ap group (doc_of_seq c.loop-operand.docs ∙ r.0) ∙ mult_group i t, r.1)

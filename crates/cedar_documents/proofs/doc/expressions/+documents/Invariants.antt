@@ -13,35 +13,39 @@ use Rattle.cedar_documents.proofs.doc.expressions.+documents.Given as goal
 
 abbrev pub invariant-or_doc-loop-operand : goal.invariant-or_doc-loop-operand
 invariant-or_doc-loop-operand l = record {
-    order : AreInOrder l.context.tokens.items;
-    kept : KeepsTokens l.fn.context.tokens.items l.context.tokens.items;
-    config : l.context.config ≡ l.fn.context.config;
-    shown : MadeSoFar kind.ors kind.ands Label.and breaking_sign l.fn.context.config.now.indent_width (document l.fn.context.config.now.indent_width) (or_parts l.or) (map shown l.fn.context.tokens.items)
-        l.last l.docs.items (map shown l.context.tokens.items) (and_items (drop l.operand-index (out-Or l.or).extended.items)) }
+  order : AreInOrder l.context.tokens.items;
+  kept : KeepsTokens l.fn.context.tokens.items l.context.tokens.items;
+  config : l.context.config ≡ l.fn.context.config;
+  shown : MadeSoFar kind.ors kind.ands Label.and breaking_sign l.fn.context.config.now.indent_width (document l.fn.context.config.now.indent_width) (or_parts l.or) (map shown l.fn.context.tokens.items)
+      l.last l.docs.items (map shown l.context.tokens.items) (and_items (drop l.operand-index (out-Or l.or).extended.items));
+}
 
 abbrev pub invariant-and_doc-loop-operand : goal.invariant-and_doc-loop-operand
 invariant-and_doc-loop-operand l = record {
-    order : AreInOrder l.context.tokens.items;
-    kept : KeepsTokens l.fn.context.tokens.items l.context.tokens.items;
-    config : l.context.config ≡ l.fn.context.config;
-    shown : MadeSoFar kind.ands kind.relation Label.relation breaking_sign l.fn.context.config.now.indent_width (document l.fn.context.config.now.indent_width) (and_parts l.and) (map shown l.fn.context.tokens.items)
-        l.last l.docs.items (map shown l.context.tokens.items) (relation_items (drop l.operand-index l.and.extended.items)) }
+  order : AreInOrder l.context.tokens.items;
+  kept : KeepsTokens l.fn.context.tokens.items l.context.tokens.items;
+  config : l.context.config ≡ l.fn.context.config;
+  shown : MadeSoFar kind.ands kind.relation Label.relation breaking_sign l.fn.context.config.now.indent_width (document l.fn.context.config.now.indent_width) (and_parts l.and) (map shown l.fn.context.tokens.items)
+      l.last l.docs.items (map shown l.context.tokens.items) (relation_items (drop l.operand-index l.and.extended.items));
+}
 
 abbrev pub invariant-add_doc-loop-op : goal.invariant-add_doc-loop-op
 invariant-add_doc-loop-op l = record {
-    order : AreInOrder l.context.tokens.items;
-    kept : KeepsTokens l.fn.context.tokens.items l.context.tokens.items;
-    config : l.context.config ≡ l.fn.context.config;
-    shown : MadeSoFar kind.add kind.mult Label.mult sign_and_line l.fn.context.config.now.indent_width (inside_add l.fn.context.config.now.indent_width) (add_parts l.add) (map shown l.fn.context.tokens.items)
-        l.last l.docs.items (map shown l.context.tokens.items) (add_items (drop l.op-index (out-Add l.add).extended.items)) }
+  order : AreInOrder l.context.tokens.items;
+  kept : KeepsTokens l.fn.context.tokens.items l.context.tokens.items;
+  config : l.context.config ≡ l.fn.context.config;
+  shown : MadeSoFar kind.add kind.mult Label.mult sign_and_line l.fn.context.config.now.indent_width (inside_add l.fn.context.config.now.indent_width) (add_parts l.add) (map shown l.fn.context.tokens.items)
+      l.last l.docs.items (map shown l.context.tokens.items) (add_items (drop l.op-index (out-Add l.add).extended.items));
+}
 
 abbrev pub invariant-mult_doc-loop-operand : goal.invariant-mult_doc-loop-operand
 invariant-mult_doc-loop-operand l = record {
-    order : AreInOrder l.context.tokens.items;
-    kept : KeepsTokens l.fn.context.tokens.items l.context.tokens.items;
-    config : l.context.config ≡ l.fn.context.config;
-    shown : MadeSoFar kind.mult kind.unary Label.unary sign_and_line l.fn.context.config.now.indent_width (inside_mult l.fn.context.config.now.indent_width) (mult_parts l.mult) (map shown l.fn.context.tokens.items)
-        l.last l.docs.items (map shown l.context.tokens.items) (mult_items (drop l.operand-index (out-Mult l.mult).extended.items)) }
+  order : AreInOrder l.context.tokens.items;
+  kept : KeepsTokens l.fn.context.tokens.items l.context.tokens.items;
+  config : l.context.config ≡ l.fn.context.config;
+  shown : MadeSoFar kind.mult kind.unary Label.unary sign_and_line l.fn.context.config.now.indent_width (inside_mult l.fn.context.config.now.indent_width) (mult_parts l.mult) (map shown l.fn.context.tokens.items)
+      l.last l.docs.items (map shown l.context.tokens.items) (mult_items (drop l.operand-index (out-Mult l.mult).extended.items));
+}
 
 abbrev pub invariant-accesses_doc-loop-access : goal.invariant-accesses_doc-loop-access
 invariant-accesses_doc-loop-access l = AreInOrder l.context.tokens.items × KeepsTokens l.fn.context.tokens.items l.context.tokens.items × (l.context.config ≡ l.fn.context.config)

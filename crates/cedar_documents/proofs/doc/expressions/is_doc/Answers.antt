@@ -17,8 +17,10 @@ returns-clause-shows c o n f e =
     let width : to_z w64 (of_z w64 c.name_doc.new.context.config.now.indent_width) ≡ c.name_doc.new.context.config.now.indent_width = omega (arith, ints) in
     let same = width ∙ ap (λ z. z.now.indent_width) (c.name_doc.ensures.config ∙ c.between_spaces.ensures.config) in
     let all = in_turn (λ a b. group (left · a · nest indent b)) (Behind c.args.before) Always (o ∷ []) (yield n) (c.in_ok-is_word.ensures.shows o f) (λ b h. tt) (freely (yield n) (c.in_ok-type_name.ensures.shows indent n e)) in
-    λ before after p st. let r = all before after p st in
-    (c.in_ok-group.ensures
-    ∙ ap group (c.in_ok-whole.ensures ∙ ap (λ z. left · z) (c.in_ok-append.ensures ∙ ap (λ z. doc_of c.in_ok-is_word.is_word · z) (c.in_ok-type_name-2.ensures ∙ ap (λ z. nest z (doc_of c.in_ok-type_name.type_name)) same)))
-    ∙ r.0
-    ∙ ap (λ z. group (left · space · z)) (dot_assoc (leaf (as_leaf o)) space (nest indent (document indent n))), r.1)
+    λ before after p st. let r = all before after p st in (
+      c.in_ok-group.ensures
+          ∙ ap group (c.in_ok-whole.ensures ∙ ap (λ z. left · z) (c.in_ok-append.ensures ∙ ap (λ z. doc_of c.in_ok-is_word.is_word · z) (c.in_ok-type_name-2.ensures ∙ ap (λ z. nest z (doc_of c.in_ok-type_name.type_name)) same)))
+          ∙ r.0
+          ∙ ap (λ z. group (left · space · z)) (dot_assoc (leaf (as_leaf o)) space (nest indent (document indent n))),
+      r.1,
+    )
