@@ -39,3 +39,6 @@ pub mod Answered
 pub mod Scopes
 pub mod Commas
 pub mod Primaries
+pub mod Chains
+pub mod Operands
+pub mod Relations

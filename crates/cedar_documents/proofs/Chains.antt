@@ -1,0 +1,233 @@
+-- Chains of operands: what of a chain is made into documents, and what is left.
+use Rattle.std.proofs.Common.{◌≡◌, ℕ, ℤ, List, [], ◌∷◌, ◌++◌, ◌<◌, ◌≤◌, ◌+◌, Bool, map, length, get_or, drop, nat_eq, true, Some, arith, refl, sym, ap, ◌∙◌, subst}
+use Rattle.std.proofs.lemmas.Bool.{eqb-true}
+use Rattle.std.proofs.lemmas.List.{append_assoc, map-append, append-nil, at_drop_more, drop_all}
+use Rattle.cedar_tokens.specs.Listing.{token_value}
+use Rattle.cedar_tokens.specs.declared.token.Span.{Span}
+use Rattle.cedar_grammar.specs.Trees.{Label, Forest, leaf, branch, none}
+use Rattle.cedar_grammar.specs.TypedTrees.{NodeKind, Tree, parts, yield, ors, ors_one, ors_more, ands, ands_one, ands_more, add, sums, add_of, sums_one, sums_more, mult, products, mult_of, products_one, products_more, relation, unary}
+use Rattle.cedar_layout.specs.Comments.{space}
+use Rattle.cedar_layout.specs.Layout.{Doc, nil, line, group, ◌·◌}
+use Rattle.cedar_layout.specs.Lookups.{Shown, emptied}
+use Rattle.cedar_layout.specs.Value.{doc_of, docs_of}
+use Rattle.cedar_layout.specs.declared.layout.Document.{Document}
+use Rattle.cedar_layout.proofs.Values.{dot_assoc, dot-nil, docs_of-push}
+use Rattle.cedar_tree.specs.Erased.{Erased}
+use Rattle.cedar_tree.specs.NodeLists.{operand_trees}
+use Rattle.cedar_tree.specs.NodeTrees.{is_node}
+use Rattle.cedar_tree.specs.declared.tree.Node.{Node}
+use Rattle.cedar_documents.specs.Table.{C}
+use Rattle.cedar_documents.specs.Table as table
+use Rattle.cedar_documents.specs.NodeDocuments.{IsAt, IsNodeOf, as_leaf, document, end_of_tokens, kind_of_shown, nodes_of, text_of}
+use Rattle.cedar_documents.proofs.Opened.{Always, Behind, GivesIf, ends_here, in_turn, opened_token, opened_tree}
+
+-- signs, each with the operand behind it
+abbrev pub Rest : NodeKind → Type 0
+Rest k = List (Shown × Tree Shown k)
+
+abbrev pub rest_yield : {k : NodeKind} → Rest k → List Shown
+rest_yield [] = []
+rest_yield (x ∷ r) = x.0 ∷ (yield x.1 ++ rest_yield r)
+
+abbrev pub rest_parts : {k : NodeKind} → Label → Rest k → Forest Label Shown
+rest_parts l [] = none
+rest_parts l (x ∷ r) = leaf x.0 (branch l (parts kind_of_shown x.1) (rest_parts l r))
+
+abbrev pub rest_document : {k : NodeKind} → (Shown → Doc) → ℤ → Rest k → Doc
+rest_document sign i [] = nil
+rest_document sign i (x ∷ r) = sign x.0 · document i x.1 · rest_document sign i r
+
+-- these are the tokens, the parts and the document of a first operand and a rest
+pub record IsChain (k : NodeKind) (l : Label) (sign : Shown → Doc) (i : ℤ) (ts : List Shown) (f : Forest Label Shown) (whole : Doc) : Type 0 where
+  pub first : Tree Shown k
+  pub rest : Rest k
+  pub tokens : ts ≡ yield first ++ rest_yield rest
+  pub nodes : f ≡ branch l (parts kind_of_shown first) (rest_parts l rest)
+  pub doc : whole ≡ document i first · rest_document sign i rest
+
+-- the documents of the signs
+abbrev pub breaking_sign : Shown → Doc
+breaking_sign o = space · C (as_leaf o) line
+
+abbrev pub sign_and_line : Shown → Doc
+sign_and_line o = space · table.leaf (as_leaf o) · line
+
+lone : (k : NodeKind) (l : Label) (sign : Shown → Doc) (i : ℤ) (x : Tree Shown k) → IsChain k l sign i (yield x) (branch l (parts kind_of_shown x) none) (document i x)
+lone k l sign i x = record { first = x; rest = []; tokens = sym (append-nil (yield x)); nodes = refl; doc = sym (dot-nil (document i x)) }
+
+longer : (k : NodeKind) (l : Label) (sign : Shown → Doc) (i : ℤ) (x : Tree Shown k) (o : Shown) (ts : List Shown) (f : Forest Label Shown) (d : Doc) → IsChain k l sign i ts f d
+    → IsChain k l sign i (yield x ++ (o ∷ ts)) (branch l (parts kind_of_shown x) (leaf o f)) (document i x · sign o · d)
+longer k l sign i x o ts f d c = record {
+  first = x;
+  rest = (o, c.first) ∷ c.rest;
+  tokens = ap (λ z. yield x ++ (o ∷ z)) c.tokens;
+  nodes = ap (λ z. branch l (parts kind_of_shown x) (leaf o z)) c.nodes;
+  doc = ap (λ z. document i x · sign o · z) c.doc;
+}
+
+pub or_chain : (i : ℤ) (t : Tree Shown ors) → IsChain ands Label.and breaking_sign i (yield t) (parts kind_of_shown t) (document i t)
+or_chain i (ors_one x) = lone ands Label.and breaking_sign i x
+or_chain i (ors_more x o m) = longer ands Label.and breaking_sign i x o (yield m) (parts kind_of_shown m) (document i m) (or_chain i m)
+
+pub and_chain : (i : ℤ) (t : Tree Shown ands) → IsChain relation Label.relation breaking_sign i (yield t) (parts kind_of_shown t) (document i t)
+and_chain i (ands_one x) = lone relation Label.relation breaking_sign i x
+and_chain i (ands_more x o m) = longer relation Label.relation breaking_sign i x o (yield m) (parts kind_of_shown m) (document i m) (and_chain i m)
+
+-- with a space and a line round the sign
+spaced : (a l d : Doc) → a · space · l · line · d ≡ a · (space · l · line) · d
+spaced a l d = ap (λ z. a · space · z) (sym (dot_assoc l line d))
+
+retold : {k : NodeKind} {l : Label} {sign : Shown → Doc} {i : ℤ} {ts : List Shown} {f : Forest Label Shown} (d e : Doc) → e ≡ d → IsChain k l sign i ts f d → IsChain k l sign i ts f e
+retold d e h c = record { first = c.first; rest = c.rest; tokens = c.tokens; nodes = c.nodes; doc = h ∙ c.doc }
+
+sum_chain : (i : ℤ) (t : Tree Shown sums) → IsChain mult Label.mult sign_and_line i (yield t) (parts kind_of_shown t) (document i t)
+sum_chain i (sums_one x) = lone mult Label.mult sign_and_line i x
+sum_chain i (sums_more x o m) =
+    retold (document i x · sign_and_line o · document i m) (document i (sums_more x o m)) (spaced (document i x) (table.leaf (as_leaf o)) (document i m))
+    (longer mult Label.mult sign_and_line i x o (yield m) (parts kind_of_shown m) (document i m) (sum_chain i m))
+
+product_chain : (i : ℤ) (t : Tree Shown products) → IsChain unary Label.unary sign_and_line i (yield t) (parts kind_of_shown t) (document i t)
+product_chain i (products_one x) = lone unary Label.unary sign_and_line i x
+product_chain i (products_more x o m) =
+    retold (document i x · sign_and_line o · document i m) (document i (products_more x o m)) (spaced (document i x) (table.leaf (as_leaf o)) (document i m))
+    (longer unary Label.unary sign_and_line i x o (yield m) (parts kind_of_shown m) (document i m) (product_chain i m))
+
+-- the document of these operands without the group round them
+abbrev pub inside_add : ℤ → Tree Shown add → Doc
+inside_add i (add_of s) = document i s
+
+abbrev pub inside_mult : ℤ → Tree Shown mult → Doc
+inside_mult i (mult_of p) = document i p
+
+pub add_chain : (i : ℤ) (t : Tree Shown add) → IsChain mult Label.mult sign_and_line i (yield t) (parts kind_of_shown t) (inside_add i t)
+add_chain i (add_of s) = sum_chain i s
+
+pub mult_chain : (i : ℤ) (t : Tree Shown mult) → IsChain unary Label.unary sign_and_line i (yield t) (parts kind_of_shown t) (inside_mult i t)
+mult_chain i (mult_of p) = product_chain i p
+
+pub add_group : (i : ℤ) (t : Tree Shown add) → group (inside_add i t) ≡ document i t
+add_group i (add_of s) = refl
+
+pub mult_group : (i : ℤ) (t : Tree Shown mult) → group (inside_mult i t) ≡ document i t
+mult_group i (mult_of p) = refl
+
+-- Of the tokens ts of a chain, between before and after, some are done and have no comments, the last of them at `last`; the documents so far, and those of the
+-- rest, whose trees are these, make the whole.
+pub record Progress (k : NodeKind) (l : Label) (sign : Shown → Doc) (i : ℤ) (before after ts : List Shown) (whole : Doc) (last : Span) (docs : List Document) (now : List Shown) (left : Erased) : Type 0 where
+  pub done : List Shown
+  pub rest : Rest k
+  pub tokens : ts ≡ done ++ rest_yield rest
+  pub changed : now ≡ (before ++ map emptied done) ++ (rest_yield rest ++ after)
+  pub ends : end_of_tokens (before ++ map emptied done) ≡ last.end
+  pub nodes : left ≡ nodes_of (rest_parts l rest)
+  pub made : docs_of docs · rest_document sign i rest ≡ whole
+
+module _ (k : NodeKind) (l : Label) (is : is_node l ≡ true) (sign : Shown → Doc) (i : ℤ) (before after ts : List Shown) (whole : Doc) where
+  -- the first operand
+  pub begun : (f : Forest Label Shown) (place : Span) (p others : Erased) (d : Document) (old new : List Shown) → IsChain k l sign i ts f whole → branch (l, Some place) p others ≡ nodes_of f → old ≡ before ++ (ts ++ after)
+      → ((x : Tree Shown k) → IsAt place (yield x) → IsNodeOf p x → GivesIf Always (doc_of d) (document i x) old new (yield x))
+      → Progress k l sign i before after ts whole place (d ∷ []) new others
+  begun f place p others d old new c e st first =
+      let o = opened_tree l place p others c.first (rest_parts l c.rest) is (e ∙ ap nodes_of c.nodes) in
+      let r = first c.first o.1 o.0 before (rest_yield c.rest ++ after) tt (st ∙ ap (λ z. before ++ (z ++ after)) c.tokens ∙ ap (λ z. before ++ z) (append_assoc (yield c.first) (rest_yield c.rest) after)) in
+      record {
+        done = yield c.first;
+        rest = c.rest;
+        tokens = c.tokens;
+        changed = r.1;
+        ends = ends_here place (yield c.first) o.1 before;
+        nodes = o.2;
+        made = ap (λ z. z · rest_document sign i c.rest) (dot-nil (doc_of d) ∙ r.0) ∙ sym c.doc;
+      }
+
+  -- a sign and an operand more
+  module _ (last place : Span) (text : List ℕ) (p others : Erased) (ds : List Document) (s d : Document) (old mid new : List Shown)
+      (sign_clause : (o : Shown) → text ≡ token_value (text_of o) → GivesIf (Behind last) (doc_of s) (sign o) old mid (o ∷ []))
+      (clause : (x : Tree Shown k) → IsAt place (yield x) → IsNodeOf p x → GivesIf Always (doc_of d) (document i x) mid new (yield x)) where
+    further : (done : List Shown) (rest : Rest k) → ts ≡ done ++ rest_yield rest → old ≡ (before ++ map emptied done) ++ (rest_yield rest ++ after) → end_of_tokens (before ++ map emptied done) ≡ last.end
+        → leaf text (branch (l, Some place) p others) ≡ nodes_of (rest_parts l rest) → docs_of ds · rest_document sign i rest ≡ whole → Progress k l sign i before after ts whole place ((ds ++ s ∷ []) ++ d ∷ []) new others
+    further done [] tokens changed ends nodes made = absurd cc
+    further done (x ∷ r) tokens changed ends nodes made =
+        let t = opened_token text (branch (l, Some place) p others) x.0 (branch l (parts kind_of_shown x.1) (rest_parts l r)) nodes in
+        let o = opened_tree l place p others x.1 (rest_parts l r) is t.1 in
+        let both = in_turn (λ a b. a · b) (Behind last) Always (x.0 ∷ []) (yield x.1) (sign_clause x.0 t.0) (λ b h. tt) (clause x.1 o.1 o.0) in
+        let b = before ++ map emptied done in
+        let q = both b (rest_yield r ++ after) ends (changed ∙ ap (λ z. b ++ (x.0 ∷ z)) (append_assoc (yield x.1) (rest_yield r) after)) in
+        let now = done ++ (x.0 ∷ yield x.1) in
+        let grown : before ++ map emptied now ≡ b ++ map emptied (x.0 ∷ yield x.1) = ap (λ z. before ++ z) (map-append emptied done (x.0 ∷ yield x.1)) ∙ sym (append_assoc before (map emptied done) (map emptied (x.0 ∷ yield x.1))) in
+        let behind : before ++ map emptied now ≡ (b ++ (emptied x.0 ∷ [])) ++ map emptied (yield x.1) = grown ∙ sym (append_assoc b (emptied x.0 ∷ []) (map emptied (yield x.1))) in
+        record {
+          done = now;
+          rest = r;
+          tokens = tokens ∙ sym (append_assoc done (x.0 ∷ yield x.1) (rest_yield r));
+          changed = q.1 ∙ ap (λ z. z ++ (rest_yield r ++ after)) (sym grown);
+          ends = ap end_of_tokens behind ∙ ends_here place (yield x.1) o.1 (b ++ (emptied x.0 ∷ []));
+          nodes = o.2;
+          made =
+              ap (λ z. z · rest_document sign i r) (docs_of-push (ds ++ s ∷ []) d ∙ ap (λ z. z · doc_of d) (docs_of-push ds s) ∙ dot_assoc (docs_of ds) (doc_of s) (doc_of d) ∙ ap (λ z. docs_of ds · z) q.0)
+              ∙ dot_assoc (docs_of ds) (sign x.0 · document i x.1) (rest_document sign i r)
+              ∙ ap (λ z. docs_of ds · z) (dot_assoc (sign x.0) (document i x.1) (rest_document sign i r))
+              ∙ made;
+        }
+
+    pub stepped : Progress k l sign i before after ts whole last ds old (leaf text (branch (l, Some place) p others)) → Progress k l sign i before after ts whole place ((ds ++ s ∷ []) ++ d ∷ []) new others
+    stepped h = further h.done h.rest h.tokens h.changed h.ends h.nodes h.made
+
+  ended : (last : Span) (ds : List Document) (now : List Shown) (done : List Shown) (rest : Rest k) → ts ≡ done ++ rest_yield rest → now ≡ (before ++ map emptied done) ++ (rest_yield rest ++ after)
+      → none ≡ nodes_of (rest_parts l rest) → docs_of ds · rest_document sign i rest ≡ whole → (docs_of ds ≡ whole) × (now ≡ (before ++ map emptied ts) ++ after)
+  ended last ds now done [] tokens changed nodes made =
+      (sym (dot-nil (docs_of ds)) ∙ made, changed ∙ ap (λ z. (before ++ map emptied z) ++ after) (sym (append-nil done) ∙ sym tokens))
+  ended last ds now done (x ∷ r) tokens changed nodes made = absurd cc
+
+  -- nothing is left
+  pub finished : (last : Span) (ds : List Document) (now : List Shown) (left : Erased) → left ≡ none → Progress k l sign i before after ts whole last ds now left → (docs_of ds ≡ whole) × (now ≡ (before ++ map emptied ts) ++ after)
+  finished last ds now left e h = ended last ds now h.done h.rest h.tokens h.changed (sym e ∙ h.nodes) h.made
+
+-- ---- whole nodes
+
+-- the same of every tree that a node with these parts is, wherever its tokens stand
+abbrev pub MadeSoFar : (m k : NodeKind) → Label → (Shown → Doc) → ℤ → (Tree Shown m → Doc) → Erased → List Shown → Span → List Document → List Shown → Erased → Type 0
+MadeSoFar m k l sign i inside whole old last docs now left =
+    (t : Tree Shown m) → IsNodeOf whole t → (before after : List Shown) → old ≡ before ++ (yield t ++ after) → Progress k l sign i before after (yield t) (inside t) last docs now left
+
+module _ (m k : NodeKind) (l : Label) (is : is_node l ≡ true) (sign : Shown → Doc) (i : ℤ) (inside : Tree Shown m → Doc) (chain : (t : Tree Shown m) → IsChain k l sign i (yield t) (parts kind_of_shown t) (inside t)) (whole : Erased) (old : List Shown) where
+  -- the first operand
+  pub made_first : {place : Span} {p others : Erased} {docs : List Document} {new : List Shown} (d : Document) → whole ≡ branch (l, Some place) p others → docs ≡ d ∷ []
+      → ((x : Tree Shown k) → IsAt place (yield x) → IsNodeOf p x → GivesIf Always (doc_of d) (document i x) old new (yield x))
+      → MadeSoFar m k l sign i inside whole old place docs new others
+  made_first {place = place} {p = p} {others = others} {new = new} d v e first t n before after st =
+      subst (λ z. Progress k l sign i before after (yield t) (inside t) place z new others) (sym e)
+      (begun k l is sign i before after (yield t) (inside t) (parts kind_of_shown t) place p others d old new (chain t) (sym v ∙ n) st first)
+
+  -- a sign and an operand more
+  pub made_more : {last place : Span} {text : List ℕ} {p left others : Erased} {ds es fs : List Document} {now mid new : List Shown} {j : ℤ} (s d : Document)
+      → left ≡ leaf text (branch (l, Some place) p others) → es ≡ ds ++ s ∷ [] → fs ≡ es ++ d ∷ [] → j ≡ i
+      → ((o : Shown) → text ≡ token_value (text_of o) → GivesIf (Behind last) (doc_of s) (sign o) now mid (o ∷ []))
+      → ((x : Tree Shown k) → IsAt place (yield x) → IsNodeOf p x → GivesIf Always (doc_of d) (document j x) mid new (yield x))
+      → MadeSoFar m k l sign i inside whole old last ds now left → MadeSoFar m k l sign i inside whole old place fs new others
+  made_more {last = last} {place = place} {text = text} {p = p} {others = others} {ds = ds} {now = now} {mid = mid} {new = new} s d v e f same sign_clause clause h t n before after st =
+      subst (λ z. Progress k l sign i before after (yield t) (inside t) place z new others) (sym (f ∙ ap (λ z. z ++ d ∷ []) e))
+      (stepped k l is sign i before after (yield t) (inside t) last place text p others ds s d now mid new sign_clause
+      (subst (λ z. (x : Tree Shown k) → IsAt place (yield x) → IsNodeOf p x → GivesIf Always (doc_of d) (document z x) mid new (yield x)) same clause)
+      (subst (λ z. Progress k l sign i before after (yield t) (inside t) last ds now z) v (h t n before after st)))
+
+  -- nothing is left
+  pub made_all : {last : Span} {docs : List Document} {new : List Shown} {left : Erased} → left ≡ none → MadeSoFar m k l sign i inside whole old last docs new left
+      → (t : Tree Shown m) → IsNodeOf whole t → (before after : List Shown) → old ≡ before ++ (yield t ++ after) → (docs_of docs ≡ inside t) × (new ≡ (before ++ map emptied (yield t)) ++ after)
+  made_all {last = last} {docs = docs} {new = new} {left = left} e h t n before after st = finished k l is sign i before after (yield t) (inside t) last docs new left e (h t n before after st)
+
+-- ---- what is left in a list
+
+module _ {X Y : Type 0} (l : Label) (p : X → Erased) (sign : Y → List ℕ) (operand : Y → Node X) (xs ys : List Y) (q : ys ≡ xs) where
+  left_at : (i : ℕ) (y : Y) → i < length ys → y ≡ get_or ys i y → operand_trees l p sign operand (drop i ys) ≡ leaf (sign y) (branch (l, Some (operand y).span) (p (operand y).inner) (operand_trees l p sign operand (drop (i + 1) ys)))
+  left_at i y n e = at_drop_more (operand_trees l p sign operand) ys i y n ∙ ap (λ z. operand_trees l p sign operand (z ∷ drop (i + 1) ys)) (sym e)
+
+  pub one_left : (i : ℕ) (y : Y) → i < length ys → y ≡ get_or ys i y → operand_trees l p sign operand (drop i xs) ≡ leaf (sign y) (branch (l, Some (operand y).span) (p (operand y).inner) (operand_trees l p sign operand (drop (i + 1) xs)))
+  one_left i y n e = subst (λ z. operand_trees l p sign operand (drop i z) ≡ leaf (sign y) (branch (l, Some (operand y).span) (p (operand y).inner) (operand_trees l p sign operand (drop (i + 1) z)))) q (left_at i y n e)
+
+  pub none_left : (i : ℕ) → length ys ≤ i → operand_trees l p sign operand (drop i xs) ≡ none
+  none_left i n = ap (λ z. operand_trees l p sign operand (drop i z)) (sym q) ∙ ap (operand_trees l p sign operand) (drop_all i ys n)
+
+pub is_nil : {X : Type 0} (xs : List X) (n : ℕ) (b : Bool) → n ≡ length xs → b ≡ nat_eq n 0 → b ≡ true → xs ≡ []
+is_nil [] n b h e f = refl
+is_nil (x ∷ xs) n b h e f = absurd (omega (arith, eqb-true n 0 (sym e ∙ f)))
