@@ -1,5 +1,5 @@
 //! The documents of expressions.
-ghost use Rattle.std.specs.Prelude.{◌≡◌, ◌∷◌, ◌++◌, [], Some, codes, IfOk, IsTrue, IsFalse};
+ghost use Rattle.std.specs.Prelude.{◌≡◌, ◌<◌, ◌∷◌, ◌++◌, [], List, map, Some, codes, IfOk, IsTrue, IsFalse};
 ghost use Rattle.cedar_tokens.specs.Listing.{token_value};
 ghost use Rattle.cedar_grammar.specs.Trees.{Label, branch, none};
 ghost use Rattle.cedar_grammar.specs.TypedTrees.{Tree, yield};
@@ -9,9 +9,10 @@ ghost use Rattle.cedar_tree.specs.NodeLists.{access_items, and_parts, init_parts
 ghost use Rattle.cedar_layout.specs.Comments.{space};
 ghost use Rattle.cedar_layout.specs.Layout.{◌·◌, group, line, line_or_nil, nest, nil};
 ghost use Rattle.cedar_layout.specs.Value.{doc_of};
-ghost use Rattle.cedar_layout.specs.Lookups.{AreInOrder, Shown};
+ghost use Rattle.cedar_layout.specs.Lookups.{AreInOrder, Shown, comment_parts, emptied, shown};
 ghost use Rattle.cedar_documents.specs.Kept.{KeepsTokens};
 ghost use Rattle.cedar_documents.specs.NodeDocuments.{IsAt, IsNodeOf, Shows, ShowsBehind, as_leaf, document, text_of};
+ghost use Rattle.cedar_documents.specs.Signs.{sign_count, sign_text, signs_of};
 ghost use Rattle.cedar_documents.specs.Table.{leaf};
 
 use crate::config::Context;
@@ -393,11 +394,11 @@ fn signs_doc<'src>(
     ensures order { AreInOrder context.new.tokens.items }
     ensures kept { KeepsTokens context.old.tokens.items context.new.tokens.items }
     ensures config { context.new.config ≡ context.old.config }
+    ensures shows { (s : Shown) (ss : List Shown) (m : Shown) (before after : List Shown) → 0 < sign_count op → s.span.start ≡ span.start → m.span.start ≡ member.start
+        → map shown context.old.tokens.items ≡ before ++ ((s ∷ ss) ++ (m ∷ after))
+        → IfOk result (λ d. (doc_of d ≡ signs_of (sign_text op) (map (λ t. t.comment) (s ∷ ss))) × (map shown context.new.tokens.items ≡ (before ++ map emptied (s ∷ ss)) ++ (m ∷ after))) }
 {
-    let (text, count) = match op {
-        NegOp::Bang(count) => ("!", count),
-        NegOp::Dash(count) => ("-", count),
-    };
+    let (text, count) = sign_parts(op);
     if count == 0 {
         return Ok(Document::Nil);
     }
@@ -412,12 +413,25 @@ fn signs_doc<'src>(
     commented_signs(alloc, text, &comments)
 }
 
+// The text of signs, and how many they are.
+fn sign_parts(op: NegOp) -> (&'static str, u8)
+    ensures text { result.0.now ≡ sign_text op }
+    ensures count { result.1 ≡ sign_count op }
+{
+    match op {
+        NegOp::Bang(count) => ("!", count),
+        NegOp::Dash(count) => ("-", count),
+    }
+}
+
 // A sign for each of these comments.
 fn commented_signs<'src>(
     alloc: Global,
     text: &'static str,
     comments: &[Comment<'src>],
-) -> Made<'src> {
+) -> Made<'src>
+    ensures { IfOk result (λ d. doc_of d ≡ signs_of text.now (map comment_parts comments.now)) }
+{
     let mut docs = Vec::new(alloc);
     for comment in comments {
         docs.push(add_comment(alloc, Document::Text(text), comment, Document::Nil)?)?;
