@@ -33,3 +33,4 @@ pub mod Focus
 pub mod Marks
 pub mod Opened
 pub mod Signs
+pub mod Accesses

@@ -14,3 +14,4 @@ pub mod Canonical
 pub mod Kept
 pub mod NodeDocuments
 pub mod Signs
+pub mod Breaks

@@ -10,6 +10,7 @@ ghost use Rattle.cedar_layout.specs.Comments.{space};
 ghost use Rattle.cedar_layout.specs.Layout.{◌·◌, group, line, line_or_nil, nest, nil};
 ghost use Rattle.cedar_layout.specs.Value.{doc_of};
 ghost use Rattle.cedar_layout.specs.Lookups.{AreInOrder, Shown, comment_parts, emptied, shown};
+ghost use Rattle.cedar_documents.specs.Breaks.{breaks, form_before, form_of};
 ghost use Rattle.cedar_documents.specs.Kept.{KeepsTokens};
 ghost use Rattle.cedar_documents.specs.NodeDocuments.{IsAt, IsNodeOf, Shows, ShowsBehind, as_leaf, document, text_of};
 ghost use Rattle.cedar_documents.specs.Signs.{sign_count, sign_text, signs_of};
@@ -484,7 +485,9 @@ fn accesses_doc<'src>(
 }
 
 // Whether there is a place to break between the access before, if there is one, and this one.
-fn breaks_between(before: Option<&MemAccess<'_>>, access: &MemAccess<'_>) -> bool {
+fn breaks_between(before: Option<&MemAccess<'_>>, access: &MemAccess<'_>) -> bool
+    ensures { result ≡ breaks (form_before before.entry) (Some (form_of access.now)) }
+{
     match (before, access) {
         (None, _) => false,
         (Some(MemAccess::Field(_)), MemAccess::Call(_)) => false,
