@@ -1,7 +1,8 @@
 -- Signs: the tokens between a span's start and a member's, and their documents.
-use Rattle.std.proofs.Common.{◌≡◌, ℕ, suc, ◌+◌, ◌<◌, ◌≤◌, List, [], ◌∷◌, ◌++◌, map, length, take, get_or, Bool, true, false, refl, sym, ap, ◌∙◌, subst, arith, ◌==◌}
-use Rattle.std.specs.Prelude.{IsTrue, IsFalse, if◌then◌else◌, Result, Ok, Err, IfOk}
+use Rattle.std.proofs.Common.{◌≡◌, ℕ, ℤ, zero, suc, Option, Some, None, ◌+◌, ◌<◌, ◌≤◌, List, [], ◌∷◌, ◌++◌, map, length, take, get_or, Bool, true, false, refl, sym, ap, ◌∙◌, subst, arith, ◌==◌}
+use Rattle.std.specs.Prelude.{IsTrue, IsFalse, if◌then◌else◌, Result, Ok, Err, IfOk, codes}
 use Rattle.std.specs.List.{AllByRecursion, filter}
+use Rattle.std.proofs.lemmas.Bool.{false≢true}
 use Rattle.std.proofs.lemmas.Bool.Decides.{nat_tests}
 use Rattle.std.proofs.lemmas.List.{append_assoc, append-nil, map-append, take_more}
 use Rattle.cedar_tokens.specs.Places.{InOrderFrom}
@@ -14,8 +15,21 @@ use Rattle.cedar_layout.specs.Lookups.{AreInOrder, Shown, Parts, shown, emptied,
 use Rattle.cedar_layout.specs.Value.{doc_of, docs_of}
 use Rattle.cedar_layout.specs.declared.layout.Document.{Document}
 use Rattle.cedar_layout.proofs.Values.{dot_assoc, dot-nil, docs_of-push}
-use Rattle.cedar_documents.specs.Signs.{signs_of}
+use Rattle.cedar_tokens.specs.Listing.{token_value}
+use Rattle.cedar_grammar.specs.Trees.{Label, none}
+use Rattle.cedar_grammar.specs.TypedTrees.{Tree, unary, unsigned, signed, parts, yield}
+use Rattle.cedar_tree.specs.Erased.{Erased, node, variant, times, signs, primary_parts, unary_parts}
+use Rattle.cedar_tree.specs.NodeLists.{access_items, member_parts}
+use Rattle.cedar_tree.specs.NodeTrees.{is_node}
+use Rattle.cedar_tree.specs.declared.tree.NegOp.{NegOp}
+use Rattle.cedar_tree.specs.declared.tree.Unary as Unary
+use Rattle.cedar_tree.specs.declared.tree.Expr.TheViews.{out-Unary}
+use Rattle.cedar_tree.specs.declared.tree.Expr.TheBlock.{items_shown-the_row-Member-access-2-4}
+use Rattle.cedar_tree.proofs.Views.{access_row}
+use Rattle.cedar_documents.specs.NodeDocuments.{IsAt, IsNodeOf, text_of, kind_of_shown, document}
+use Rattle.cedar_documents.specs.Signs.{sign_text, sign_count, signs_of, signs_in, member_in}
 use Rattle.cedar_documents.proofs.Focus.{places, shown_order, starts_late}
+use Rattle.cedar_documents.proofs.Opened.{opened_tree, opened_token, starts_here}
 
 -- ---- the tokens in a span
 
@@ -117,3 +131,87 @@ sign_step sign old new comments i c d l e f h =
 pub with_tokens : {E Q : Type 0} (m : Result Document E) (a d : Doc) → IfOk m (λ x. doc_of x ≡ a) → a ≡ d → Q → IfOk m (λ x. (doc_of x ≡ d) × Q)
 with_tokens (Err e) a d h f q = tt
 with_tokens (Ok x) a d h f q = (h ∙ f, q)
+
+-- ---- signs and their member
+
+yield_in : (u : Tree Shown unary) → yield u ≡ signs_in u ++ yield (member_in u)
+yield_in (unsigned m) = refl
+yield_in (signed s u) = ap (λ z. s ∷ z) (yield_in u)
+
+-- what the nodes of signs tell
+pub record AreSigns (n : ℕ) (sign : List ℕ) (s : Span) (p : Erased) (u : Tree Shown unary) : Type 0 where
+  pub texts : AllByRecursion (λ t. sign ≡ token_value (text_of t)) (signs_in u)
+  pub count : n ≡ length (signs_in u)
+  pub is_node : IsNodeOf p (member_in u)
+  pub is_at : IsAt s (yield (member_in u))
+
+opened_signs : (n : ℕ) (sign : List ℕ) (s : Span) (p : Erased) (u : Tree Shown unary) → IsNodeOf (times n sign (node Label.member s p none)) u → AreSigns n sign s p u
+opened_signs zero sign s p (unsigned m) e = let o = opened_tree Label.member s p none m none refl e in record { texts = tt; count = refl; is_node = o.0; is_at = o.1 }
+opened_signs zero sign s p (signed x u) e = absurd cc
+opened_signs (suc n) sign s p (unsigned m) e = absurd cc
+opened_signs (suc n) sign s p (signed x u) e =
+    let o = opened_token sign (times n sign (node Label.member s p none)) x (parts kind_of_shown u) e in
+    let r = opened_signs n sign s p u o.1 in
+    record { texts = (o.0, r.texts); count = ap suc r.count; is_node = r.is_node; is_at = r.is_at }
+
+signs_or_none : (l : Label) (s : Span) (p : Erased) (u : Tree Shown unary) → is_node l ≡ false → IsNodeOf (variant l none (node Label.member s p none)) u → ⊥
+signs_or_none l s p (unsigned m) n e = let k : l ≡ Label.member = cc in let h : true ≡ false = ap is_node (sym k) ∙ n in false≢true (sym h)
+signs_or_none l s p (signed x u) n e = absurd cc
+
+-- the signs that an operator stands for
+pub opened_unary : (op : Option NegOp) (s : Span) (p : Erased) (u : Tree Shown unary) → IsNodeOf (signs op (node Label.member s p none)) u → IsNodeOf p (member_in u) × IsAt s (yield (member_in u))
+opened_unary None s p u e = let r = opened_signs zero [] s p u e in (r.is_node, r.is_at)
+opened_unary (Some (NegOp.Bang zero)) s p u e = absurd (signs_or_none Label.bang s p u refl e)
+opened_unary (Some (NegOp.Bang (suc n))) s p u e = let r = opened_signs (suc n) (codes "!") s p u e in (r.is_node, r.is_at)
+opened_unary (Some (NegOp.Dash zero)) s p u e = absurd (signs_or_none Label.dash s p u refl e)
+opened_unary (Some (NegOp.Dash (suc n))) s p u e = let r = opened_signs (suc n) (codes "-") s p u e in (r.is_node, r.is_at)
+
+opened_operator : (op : NegOp) (s : Span) (p : Erased) (u : Tree Shown unary) → IsNodeOf (signs (Some op) (node Label.member s p none)) u → (0 < sign_count op) × AreSigns (sign_count op) (sign_text op) s p u
+opened_operator (NegOp.Bang zero) s p u e = absurd (signs_or_none Label.bang s p u refl e)
+opened_operator (NegOp.Bang (suc n)) s p u e = (omega arith, opened_signs (suc n) (codes "!") s p u e)
+opened_operator (NegOp.Dash zero) s p u e = absurd (signs_or_none Label.dash s p u refl e)
+opened_operator (NegOp.Dash (suc n)) s p u e = (omega arith, opened_signs (suc n) (codes "-") s p u e)
+
+-- the document of signs and their member
+document_signs : (i : ℤ) (sign : List ℕ) (u : Tree Shown unary) → AllByRecursion (λ t. sign ≡ token_value (text_of t)) (signs_in u) → signs_of sign (map (λ t. t.comment) (signs_in u)) · document i (member_in u) ≡ document i u
+document_signs i sign (unsigned m) h = refl
+document_signs i sign (signed s u) h =
+    let d = λ (w : List ℕ). lead_of s.comment.leading · text w · trail_of s.comment.trailing nil in
+    dot_assoc (d sign) (signs_of sign (map (λ (t : Shown). t.comment) (signs_in u))) (document i (member_in u)) ∙ ap (λ z. d sign · z) (document_signs i sign u h.1) ∙ ap (λ w. d w · document i u) h.0
+
+-- a made document with other facts
+if_ok : {E : Type 0} {P Q : Document → Type 0} (m : Result Document E) → ((d : Document) → P d → Q d) → IfOk m P → IfOk m Q
+if_ok (Err e) f h = tt
+if_ok (Ok d) f h = f d h
+
+-- no signs
+pub no_signs : (i : ℤ) (u : Tree Shown unary) (s : Span) (p : Erased) (d : Document) → doc_of d ≡ nil → IsNodeOf (signs None (node Label.member s p none)) u → (tokens before after : List Shown) → tokens ≡ before ++ (yield u ++ after)
+    → (doc_of d · document i (member_in u) ≡ document i u) × (tokens ≡ (before ++ map emptied (signs_in u)) ++ (yield (member_in u) ++ after))
+no_signs i (unsigned m) s p d n e tokens before after h = (ap (λ z. z · document i m) n, h ∙ ap (λ z. z ++ (yield m ++ after)) (sym (append-nil before)))
+no_signs i (signed x u) s p d n e tokens before after h = absurd cc
+
+-- signs whose comments are handed out together
+pub some_signs : {E : Type 0} (m : Result Document E) (op : NegOp) (span member : Span) (old new : List Shown)
+    → ((s : Shown) (ss : List Shown) (x : Shown) (before after : List Shown) → 0 < sign_count op → s.span.start ≡ span.start → x.span.start ≡ member.start → old ≡ before ++ ((s ∷ ss) ++ (x ∷ after))
+    → IfOk m (λ d. (doc_of d ≡ signs_of (sign_text op) (map (λ t. t.comment) (s ∷ ss))) × (new ≡ (before ++ map emptied (s ∷ ss)) ++ (x ∷ after))))
+    → (i : ℤ) (u : Tree Shown unary) (inner : Erased) → IsAt span (yield u) → IsNodeOf (signs (Some op) (node Label.member member inner none)) u → (before after : List Shown) → old ≡ before ++ (yield u ++ after)
+    → IfOk m (λ d. (doc_of d · document i (member_in u) ≡ document i u) × (new ≡ (before ++ map emptied (signs_in u)) ++ (yield (member_in u) ++ after)))
+some_signs m op span member old new h i u inner at e before after st =
+    let o = opened_operator op member inner u e in
+    go (signs_in u) (yield (member_in u)) refl refl (omega (arith, o.0, o.1.count)) (o.1.is_at) (subst (λ z. IsAt span z) (yield_in u) at) (st ∙ ap (λ z. before ++ (z ++ after)) (yield_in u))
+  where
+    go : (ss ms : List Shown) → ss ≡ signs_in u → ms ≡ yield (member_in u) → 0 < length ss → IsAt member ms → IsAt span (ss ++ ms) → old ≡ before ++ ((ss ++ ms) ++ after)
+        → IfOk m (λ d. (doc_of d · document i (member_in u) ≡ document i u) × (new ≡ (before ++ map emptied (signs_in u)) ++ (yield (member_in u) ++ after)))
+    go [] ms se me n am starts st' = absurd (omega (arith, n))
+    go (s ∷ ss) [] se me n am starts st' = absurd cc
+    go (s ∷ ss) (x ∷ ms) se me n am starts st' =
+        let o = opened_operator op member inner u e in
+        if_ok m (λ d r. (ap (λ z. z · document i (member_in u)) (r.0 ∙ ap (λ z. signs_of (sign_text op) (map (λ (t : Shown). t.comment) z)) se) ∙ document_signs i (sign_text op) u o.1.texts,
+        r.1 ∙ ap (λ z. (before ++ map emptied z) ++ (x ∷ (ms ++ after))) se ∙ ap (λ z. (before ++ map emptied (signs_in u)) ++ (z ++ after)) me))
+        (h s ss x before (ms ++ after) o.0 (starts_here span s (ss ++ (x ∷ ms)) starts) (starts_here member x ms am) (st' ∙ ap (λ z. before ++ z) (append_assoc (s ∷ ss) (x ∷ ms) after)))
+
+-- a unary seen as its signs and its member
+pub view_of_unary : (u : Unary.Unary) → unary_parts u ≡ signs (out-Unary u).op (node Label.member (out-Unary u).item.span (member_parts (out-Unary u).item.inner) none)
+unfolding out-Unary denote.Hole.Carrier.out
+view_of_unary (Unary.Unary' op p s v row t) =
+    ap (λ z. signs op (node Label.member t (node Label.primary s (primary_parts p) z) none)) (access_row _ row ∙ ap access_items (sym (items_shown-the_row-Member-access-2-4 v row)))

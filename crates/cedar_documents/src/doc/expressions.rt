@@ -1,19 +1,19 @@
 //! The documents of expressions.
-ghost use Rattle.std.specs.Prelude.{◌≡◌, ◌<◌, ◌∷◌, ◌++◌, [], List, map, Some, codes, IfOk, IsTrue, IsFalse};
+ghost use Rattle.std.specs.Prelude.{◌≡◌, ℤ, ◌<◌, ◌∷◌, ◌++◌, [], List, map, Some, codes, IfOk, IsTrue, IsFalse};
 ghost use Rattle.cedar_tokens.specs.Listing.{token_value};
 ghost use Rattle.cedar_grammar.specs.Trees.{Label, branch, none};
 ghost use Rattle.cedar_grammar.specs.TypedTrees.{Tree, yield};
 ghost use Rattle.cedar_grammar.specs.TypedTrees as kind;
-ghost use Rattle.cedar_tree.specs.Erased.{access_parts, add_parts, expr_parts, mult_parts, or_parts, path_parts, primary_parts, relation_parts, relop_text, unary_parts};
+ghost use Rattle.cedar_tree.specs.Erased.{Erased, access_parts, add_parts, expr_parts, mult_parts, node, or_parts, path_parts, primary_parts, relation_parts, relop_text, signs, unary_parts};
 ghost use Rattle.cedar_tree.specs.NodeLists.{access_items, and_parts, init_parts, item_trees, member_parts};
 ghost use Rattle.cedar_layout.specs.Comments.{space};
 ghost use Rattle.cedar_layout.specs.Layout.{◌·◌, group, line, line_or_nil, nest, nil};
-ghost use Rattle.cedar_layout.specs.Value.{doc_of};
+ghost use Rattle.cedar_layout.specs.Value.{doc_of, docs_of};
 ghost use Rattle.cedar_layout.specs.Lookups.{AreInOrder, Shown, comment_parts, emptied, shown};
-ghost use Rattle.cedar_documents.specs.Breaks.{breaks, form_before, form_of};
+ghost use Rattle.cedar_documents.specs.Breaks.{break_if, breaks, form_before, form_of};
 ghost use Rattle.cedar_documents.specs.Kept.{KeepsTokens};
 ghost use Rattle.cedar_documents.specs.NodeDocuments.{IsAt, IsNodeOf, Shows, ShowsBehind, as_leaf, document, text_of};
-ghost use Rattle.cedar_documents.specs.Signs.{sign_count, sign_text, signs_of};
+ghost use Rattle.cedar_documents.specs.Signs.{member_in, sign_count, sign_text, signs_in, signs_of};
 ghost use Rattle.cedar_documents.specs.Table.{leaf};
 
 use crate::config::Context;
@@ -375,16 +375,35 @@ pub(super) fn unary_doc<'src>(
     ensures config { context.new.config ≡ context.old.config }
     ensures shows { (t : Tree Shown kind.unary) → IsAt span (yield t) → IsNodeOf (unary_parts unary.now) t → Shows result context.old.tokens.items context.new.tokens.items (yield t) (document context.old.config.now.indent_width t) }
 {
-    let signs = match unary.op {
-        Some(op) => signs_doc(alloc, op, span, unary.item.span, context)?,
-        None => Document::Nil,
-    };
+    let signs = signs_doc(alloc, unary.op, span, unary.item.span, context)?;
     let member = member_doc(alloc, &unary.item.inner, context)?;
     Ok(signs.append(alloc, member)?)
 }
 
-// The signs between the start of `span` and that of their member; no document where they aren't so many.
+// The signs, if there are any, before their member; `span` is that of them all.
 fn signs_doc<'src>(
+    alloc: Global,
+    op: Option<NegOp>,
+    span: Span,
+    member: Span,
+    context: &mut Context<'_, 'src>,
+) -> Made<'src>
+    requires { AreInOrder context.old.tokens.items }
+    ensures order { AreInOrder context.new.tokens.items }
+    ensures kept { KeepsTokens context.old.tokens.items context.new.tokens.items }
+    ensures config { context.new.config ≡ context.old.config }
+    ensures shows { (i : ℤ) (u : Tree Shown kind.unary) (inner : Erased) → IsAt span (yield u) → IsNodeOf (signs op (node Label.member member inner none)) u
+        → (before after : List Shown) → map shown context.old.tokens.items ≡ before ++ (yield u ++ after)
+        → IfOk result (λ d. (doc_of d · document i (member_in u) ≡ document i u) × (map shown context.new.tokens.items ≡ (before ++ map emptied (signs_in u)) ++ (yield (member_in u) ++ after))) }
+{
+    match op {
+        Some(op) => counted_signs_doc(alloc, op, span, member, context),
+        None => Ok(Document::Nil),
+    }
+}
+
+// The signs between the start of `span` and that of their member; no document where they aren't so many.
+fn counted_signs_doc<'src>(
     alloc: Global,
     op: NegOp,
     span: Span,
@@ -475,13 +494,25 @@ fn accesses_doc<'src>(
     let mut docs = Vec::new(alloc);
     let mut before: Option<&MemAccess<'src>> = None;
     for access in accesses {
-        if breaks_between(before, &access.inner) {
-            docs.push(Document::LineOrNil)?;
-        }
+        push_break(&mut docs, before, &access.inner)?;
         docs.push(access_doc(alloc, &access.inner, access.span, context)?)?;
         before = Some(&access.inner);
     }
     Ok(Document::Seq(docs))
+}
+
+// A place to break before this access, if there is one between the access before and it.
+fn push_break<'src>(
+    docs: &mut Vec<Document<'src>>,
+    before: Option<&MemAccess<'src>>,
+    access: &MemAccess<'src>,
+) -> Result<(), AllocError>
+    ensures { IfOk result (λ u. docs_of docs.new.items ≡ docs_of docs.old.items · break_if (breaks (form_before before.entry) (Some (form_of access.now)))) }
+{
+    if breaks_between(before, access) {
+        docs.push(Document::LineOrNil)?;
+    }
+    Ok(())
 }
 
 // Whether there is a place to break between the access before, if there is one, and this one.
