@@ -3,15 +3,15 @@ use Rattle.std.proofs.Common.{◌≡◌, ℕ, ℤ, suc, ◌+◌, ◌<◌, ◌≤
 use Rattle.std.specs.Prelude.{if◌then◌else◌, codes, IsTrue, IsFalse}
 use Rattle.std.proofs.lemmas.Bool.Decides.{nat_tests}
 use Rattle.std.proofs.lemmas.Bool.{false≢true}
-use Rattle.std.proofs.lemmas.List.{append_assoc, append-nil, map-append}
+use Rattle.std.proofs.lemmas.List.{append_assoc, append-nil, map-append, at_drop_more, at_drop_all}
 use Rattle.cedar_tokens.specs.Listing.{Decorated, token_value}
 use Rattle.cedar_tokens.specs.declared.token.Span.{Span}
 use Rattle.cedar_grammar.specs.Trees.{Label, Forest, leaf, branch, join, none}
 use Rattle.cedar_grammar.specs.Trees as forest
-use Rattle.cedar_grammar.specs.TypedTrees.{Tree, accesses, args, no_access, field, call_empty, call, index, args_one, args_more, parts, yield, tree_map}
+use Rattle.cedar_grammar.specs.TypedTrees.{NodeKind, Tree, primary, accesses, args, member_of, no_access, field, call_empty, call, index, args_one, args_more, parts, yield, tree_map}
 use Rattle.cedar_grammar.proofs.LanguageLaws.{yield_join}
 use Rattle.cedar_grammar.proofs.TreeLaws.{typed_leaves}
-use Rattle.cedar_layout.specs.Layout.{Doc, nil, line_or_nil, nest, ◌·◌}
+use Rattle.cedar_layout.specs.Layout.{Doc, nil, line_or_nil, nest, group, ◌·◌}
 use Rattle.cedar_layout.specs.Lookups.{Shown, emptied}
 use Rattle.cedar_layout.specs.Value.{doc_of, docs_of}
 use Rattle.cedar_layout.specs.declared.layout.Document.{Document}
@@ -385,3 +385,27 @@ walk_ends i whole so_far previous tokens before after w =
     no_break : (f : Option Access) → break_if (breaks f None) · nil ≡ nil
     no_break None = refl
     no_break (Some f) = refl
+
+-- the same at an equal indentation
+pub at_indent : {k : NodeKind} {v : Doc} {old new : List Shown} (i j : ℤ) (t : Tree Shown k) → i ≡ j → Gives v (document i t) old new (yield t) → Gives v (document j t) old new (yield t)
+at_indent i j t e h before after st = let r = h before after st in (r.0 ∙ ap (λ z. document z t) e, r.1)
+
+-- a primary and its accesses, made one after the other
+pub member_shown : (i : ℤ) (p : Tree Shown primary) (m : Tree Shown accesses) (old mid new : List Shown) (item rest made : Doc) → Gives item (document i p) old mid (yield p) → Gives rest (document i m) mid new (yield m) → made ≡ group (item · nest i rest)
+    → Gives made (document i (member_of p m)) old new (yield (member_of p m))
+member_shown i p m old mid new item rest made h k e before after st =
+    let all = in_turn (λ a b. group (a · nest i b)) Always Always (yield p) (yield m) (freely (yield p) h) (λ b j. tt) (freely (yield m) k) in
+    let r = all before after tt st in (e ∙ r.0, r.1)
+
+pub walk_turn : (i : ℤ) (whole : Tree Shown accesses) (nodes : List (Node MemAccess.MemAccess)) (k : ℕ) (n : Node MemAccess.MemAccess) (old mid new : List Document) (d : Document) (previous : Option Access) (tokens next before after : List Shown) → k < length nodes → n ≡ get_or nodes k n → new ≡ mid ++ d ∷ []
+    → docs_of mid ≡ docs_of old · break_if (breaks previous (Some (form_of n.inner))) → ((t : Tree Shown accesses) → IsNodeOf (branch (Label.access, Some n.span) (access_parts n.inner) none) t → Gives (doc_of d) (document i t) tokens next (yield t))
+    → Walked i whole (docs_of old) previous (drop k nodes) tokens before after → Walked i whole (docs_of new) (Some (form_of n.inner)) (drop (k + 1) nodes) next before after
+walk_turn i whole nodes k n old mid new d previous tokens next before after l is e h one w =
+    let here : drop k nodes ≡ n ∷ drop (k + 1) nodes = at_drop_more (λ z. z) nodes k n l ∙ ap (λ z. z ∷ drop (k + 1) nodes) (sym is) in
+    let b = break_if (breaks previous (Some (form_of n.inner))) in
+    walk_goes i whole (docs_of old) previous n (drop (k + 1) nodes) tokens before after next (doc_of d) (docs_of new) (subst (λ z. Walked i whole (docs_of old) previous z tokens before after) here w) one
+    (ap docs_of e ∙ docs_of-push mid d ∙ ap (λ z. z · doc_of d) h ∙ dot_assoc (docs_of old) b (doc_of d))
+
+pub walk_over : (i : ℤ) (whole : Tree Shown accesses) (nodes : List (Node MemAccess.MemAccess)) (k : ℕ) (so_far : Doc) (previous : Option Access) (tokens before after : List Shown) → length nodes ≤ k → Walked i whole so_far previous (drop k nodes) tokens before after
+    → (so_far ≡ document i whole) × (tokens ≡ (before ++ map emptied (yield whole)) ++ after)
+walk_over i whole nodes k so_far previous tokens before after l w = walk_ends i whole so_far previous tokens before after (subst (λ z. Walked i whole so_far previous z tokens before after) (at_drop_all (λ z. z) nodes k l) w)

@@ -215,3 +215,12 @@ pub view_of_unary : (u : Unary.Unary) → unary_parts u ≡ signs (out-Unary u).
 unfolding out-Unary denote.Hole.Carrier.out
 view_of_unary (Unary.Unary' op p s v row t) =
     ap (λ z. signs op (node Label.member t (node Label.primary s (primary_parts p) z) none)) (access_row _ row ∙ ap access_items (sym (items_shown-the_row-Member-access-2-4 v row)))
+
+-- the document of signs and their member, made one after the other
+pub unary_shown : (i : ℤ) (t : Tree Shown unary) (before after mid new : List Shown) (sd md made : Doc) → sd · document i (member_in t) ≡ document i t → mid ≡ (before ++ map emptied (signs_in t)) ++ (yield (member_in t) ++ after)
+    → ((b a : List Shown) → mid ≡ b ++ (yield (member_in t) ++ a) → (md ≡ document i (member_in t)) × (new ≡ (b ++ map emptied (yield (member_in t))) ++ a)) → made ≡ sd · md
+    → (made ≡ document i t) × (new ≡ (before ++ map emptied (yield t)) ++ after)
+unary_shown i t before after mid new sd md made s m h e =
+    let r = h (before ++ map emptied (signs_in t)) after m in
+    let all : map emptied (signs_in t) ++ map emptied (yield (member_in t)) ≡ map emptied (yield t) = sym (map-append emptied (signs_in t) (yield (member_in t))) ∙ ap (map emptied) (sym (yield_in t)) in
+    (e ∙ ap (λ z. sd · z) r.0 ∙ s, r.1 ∙ ap (λ z. z ++ after) (append_assoc before (map emptied (signs_in t)) (map emptied (yield (member_in t))) ∙ ap (λ z. before ++ z) all))

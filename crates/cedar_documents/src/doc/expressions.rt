@@ -474,8 +474,19 @@ pub(super) fn member_doc<'src>(
 {
     let item = primary_doc(alloc, &member.item.inner, member.item.span, context)?;
     let accesses = accesses_doc(alloc, &member.access, context)?;
-    let indented = accesses.nest(alloc, context.config.indent_width)?;
-    Ok(item.append(alloc, indented)?.group(alloc)?)
+    let behind = indented(alloc, accesses, context)?;
+    Ok(item.append(alloc, behind)?.group(alloc)?)
+}
+
+// A document indented by a level.
+fn indented<'src>(
+    alloc: Global,
+    doc: Document<'src>,
+    context: &Context<'_, 'src>,
+) -> Result<Document<'src>, AllocError>
+    ensures { IfOk result (λ d. doc_of d ≡ nest context.now.config.now.indent_width (doc_of doc.entry)) }
+{
+    doc.nest(alloc, context.config.indent_width)
 }
 
 // The accesses, with a place to break before each but the first and but a method's call.
@@ -550,8 +561,7 @@ pub(super) fn access_doc<'src>(
             let open = mark_at_start(alloc, "(", span, Document::Nil, context)?;
             let items = items_doc(alloc, arguments, context)?;
             let close = mark_at_end(alloc, ")", span, Document::Nil, context)?;
-            let indent = context.config.indent_width;
-            Ok(call_doc(alloc, arguments.is_empty(), open, items, close, indent)?)
+            Ok(call_doc(alloc, arguments.is_empty(), open, items, close, context)?)
         }
         MemAccess::Index(index) => {
             let open = mark_at_start(alloc, "[", span, Document::Nil, context)?;
@@ -569,16 +579,15 @@ fn call_doc<'src>(
     open: Document<'src>,
     items: Document<'src>,
     close: Document<'src>,
-    indent: isize,
+    context: &Context<'_, 'src>,
 ) -> Result<Document<'src>, AllocError>
     ensures empty { IsTrue is_empty → IfOk result (λ d. doc_of d ≡ doc_of open.entry · doc_of close.entry) }
-    ensures items { IsFalse is_empty → IfOk result (λ d. doc_of d ≡ doc_of open.entry · nest indent (line_or_nil · doc_of items.entry) · line_or_nil · doc_of close.entry) }
+    ensures items { IsFalse is_empty → IfOk result (λ d. doc_of d ≡ doc_of open.entry · nest context.now.config.now.indent_width (line_or_nil · doc_of items.entry) · line_or_nil · doc_of close.entry) }
 {
     if is_empty {
         return open.append(alloc, close);
     }
-    let inside = Document::LineOrNil.append(alloc, items)?;
-    let inside = inside.nest(alloc, indent)?;
+    let inside = indented(alloc, Document::LineOrNil.append(alloc, items)?, context)?;
     let end = Document::LineOrNil.append(alloc, close)?;
     open.append(alloc, inside.append(alloc, end)?)
 }
