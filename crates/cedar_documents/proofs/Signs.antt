@@ -1,6 +1,6 @@
 -- Signs: the tokens between a span's start and a member's, and their documents.
-use Rattle.std.proofs.Common.{◌≡◌, ℕ, ℤ, zero, suc, Option, Some, None, ◌+◌, ◌<◌, ◌≤◌, List, [], ◌∷◌, ◌++◌, map, length, take, get_or, Bool, true, false, refl, sym, ap, ◌∙◌, subst, arith, ◌==◌}
-use Rattle.std.specs.Prelude.{IsTrue, IsFalse, if◌then◌else◌, Result, Ok, Err, IfOk, codes}
+use Rattle.std.proofs.Common.{◌≡◌, ℕ, ℤ, zero, suc, Option, Some, None, ◌+◌, ◌<◌, ◌≤◌, List, [], ◌∷◌, ◌++◌, map, length, take, get_or, true, false, refl, sym, ap, ◌∙◌, subst, arith}
+use Rattle.std.specs.Prelude.{IsTrue, IsFalse, Result, Ok, Err, IfOk, codes}
 use Rattle.std.specs.List.{AllByRecursion, filter}
 use Rattle.std.proofs.lemmas.Bool.{false≢true}
 use Rattle.std.proofs.lemmas.Bool.Decides.{nat_tests}
@@ -97,9 +97,10 @@ module _ (s : Span) where
 
     those_between : (filter (stands_in s) (b ++ (x ∷ (ss ++ (m ∷ a)))) ≡ x ∷ ss) × (emptied_in s (b ++ (x ∷ (ss ++ (m ∷ a)))) ≡ (b ++ map emptied (x ∷ ss)) ++ (m ∷ a))
     those_between =
-        let r = nothing_more (m ∷ a) outside_behind in
-        (none_kept b (x ∷ (ss ++ (m ∷ a))) outside_before ∙ all_kept (x ∷ ss) (m ∷ a) inside ∙ ap (λ z. (x ∷ ss) ++ z) r.0 ∙ append-nil (x ∷ ss),
-        none_emptied b (x ∷ (ss ++ (m ∷ a))) outside_before ∙ ap (λ z. b ++ z) (all_emptied (x ∷ ss) (m ∷ a) inside ∙ ap (λ z. map emptied (x ∷ ss) ++ z) r.1) ∙ sym (append_assoc b (map emptied (x ∷ ss)) (m ∷ a)))
+        let r = nothing_more (m ∷ a) outside_behind in (
+          none_kept b (x ∷ (ss ++ (m ∷ a))) outside_before ∙ all_kept (x ∷ ss) (m ∷ a) inside ∙ ap (λ z. (x ∷ ss) ++ z) r.0 ∙ append-nil (x ∷ ss),
+          none_emptied b (x ∷ (ss ++ (m ∷ a))) outside_before ∙ ap (λ z. b ++ z) (all_emptied (x ∷ ss) (m ∷ a) inside ∙ ap (λ z. map emptied (x ∷ ss) ++ z) r.1) ∙ sym (append_assoc b (map emptied (x ∷ ss)) (m ∷ a)),
+        )
 
 -- the comments of the tokens between two others are handed out, and no others
 pub taken_between : (s : Span) (ts : List WrappedToken) → AreInOrder ts → (b ss a : List Shown) (x m : Shown) → x.span.start ≡ s.start → m.span.start ≡ s.end → map shown ts ≡ b ++ ((x ∷ ss) ++ (m ∷ a))
@@ -206,8 +207,10 @@ some_signs m op span member old new h i u inner at e before after st =
     go (s ∷ ss) [] se me n am starts st' = absurd cc
     go (s ∷ ss) (x ∷ ms) se me n am starts st' =
         let o = opened_operator op member inner u e in
-        if_ok m (λ d r. (ap (λ z. z · document i (member_in u)) (r.0 ∙ ap (λ z. signs_of (sign_text op) (map (λ (t : Shown). t.comment) z)) se) ∙ document_signs i (sign_text op) u o.1.texts,
-        r.1 ∙ ap (λ z. (before ++ map emptied z) ++ (x ∷ (ms ++ after))) se ∙ ap (λ z. (before ++ map emptied (signs_in u)) ++ (z ++ after)) me))
+        if_ok m (λ d r. (
+          ap (λ z. z · document i (member_in u)) (r.0 ∙ ap (λ z. signs_of (sign_text op) (map (λ (t : Shown). t.comment) z)) se) ∙ document_signs i (sign_text op) u o.1.texts,
+          r.1 ∙ ap (λ z. (before ++ map emptied z) ++ (x ∷ (ms ++ after))) se ∙ ap (λ z. (before ++ map emptied (signs_in u)) ++ (z ++ after)) me,
+        ))
         (h s ss x before (ms ++ after) o.0 (starts_here span s (ss ++ (x ∷ ms)) starts) (starts_here member x ms am) (st' ∙ ap (λ z. before ++ z) (append_assoc (s ∷ ss) (x ∷ ms) after)))
 
 -- a unary seen as its signs and its member

@@ -380,7 +380,7 @@ pub(super) fn unary_doc<'src>(
     Ok(signs.append(alloc, member)?)
 }
 
-// The signs, if there are any, before their member; `span` is that of them all.
+// The signs before their member, if there are any; `span` is that of the signs and the member.
 fn signs_doc<'src>(
     alloc: Global,
     op: Option<NegOp>,

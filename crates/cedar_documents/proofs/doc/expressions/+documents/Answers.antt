@@ -1,15 +1,11 @@
-use Rattle.std.proofs.Common.{ℤ, ap, sym, ◌∙◌, ◌==◌, refl, map, subst, Bor, Some, arith}
+use Rattle.std.proofs.Common.{ap, sym, ◌∙◌, ◌==◌, refl, subst, Bor, Some, arith}
 use Rattle.cedar_grammar.specs.Trees.{Label, branch, none}
-use Rattle.cedar_grammar.specs.TypedTrees.{Tree, accesses, args, member_of, parts, yield}
+use Rattle.cedar_grammar.specs.TypedTrees.{member_of, parts}
 use Rattle.cedar_tree.specs.Erased.{access_parts, expr_parts}
 use Rattle.cedar_tree.specs.NodeLists.{access_items, item_trees}
-use Rattle.cedar_tree.specs.declared.tree.MemAccess as MemAccess
-use Rattle.cedar_tree.specs.declared.tree.Member as Member
-use Rattle.cedar_tree.specs.declared.tree.Unary as Unary
 use Rattle.cedar_tree.specs.declared.tree.Expr.TheViews.{out-Unary}
 use Rattle.cedar_tree.proofs.Views.{view_call}
 use Rattle.cedar_layout.specs.Layout.{◌·◌, group, line_or_nil, nest}
-use Rattle.cedar_layout.specs.Lookups.{Shown, shown}
 use Rattle.cedar_layout.specs.Value.{doc_of, docs_of}
 use Rattle.cedar_layout.proofs.Values.{doc_of_seq}
 use Rattle.cedar_documents.specs.Breaks.{form_before}
@@ -86,104 +82,3 @@ unary_doc-returns-clause-shows _ c t starts e before after st =
     unary_shown i t before after _ _ _ _ _ s.0 s.1
     (at_indent _ i (member_in t) (ap (λ (z : Bor Config). z.now.indent_width) c.in_ok-signs.ensures.config) (c.in_ok-member.ensures.shows (member_in t) o.0))
     c.in_ok-append.ensures
-
-pub add_doc-returns-then-is_empty-clause-shows : goal.add_doc-returns-then-is_empty-clause-shows
-add_doc-returns-then-is_empty-clause-shows t c = ?
-
-pub add_doc-returns-clause-shows : goal.add_doc-returns-clause-shows
-add_doc-returns-clause-shows t c = ?
-
-pub and_doc-returns-then-is_empty-clause-shows : goal.and_doc-returns-then-is_empty-clause-shows
-and_doc-returns-then-is_empty-clause-shows t c = ?
-
-pub and_doc-returns-clause-shows : goal.and_doc-returns-clause-shows
-and_doc-returns-clause-shows t c = ?
-
-pub comparison_doc-returns-clause-shows : goal.comparison_doc-returns-clause-shows
-comparison_doc-returns-clause-shows t c = ?
-
-pub expr_doc-returns-in_ok-group-in-If-clause-shows :
-    goal.expr_doc-returns-in_ok-group-in-If-clause-shows
-expr_doc-returns-in_ok-group-in-If-clause-shows t c = ?
-
-pub expr_doc-returns-in-Or-clause-shows : goal.expr_doc-returns-in-Or-clause-shows
-expr_doc-returns-in-Or-clause-shows t c = ?
-
-pub init_doc-returns-clause-shows : goal.init_doc-returns-clause-shows
-init_doc-returns-clause-shows t c = ?
-
-pub inits_doc-returns-clause-none : goal.inits_doc-returns-clause-none
-inits_doc-returns-clause-none t c = ?
-
-pub inits_doc-returns-clause-shows : goal.inits_doc-returns-clause-shows
-inits_doc-returns-clause-shows t c = ?
-
-pub is_in_doc-returns-clause-shows : goal.is_in_doc-returns-clause-shows
-is_in_doc-returns-clause-shows t c = ?
-
-pub items_doc-returns-clause-none : goal.items_doc-returns-clause-none
-items_doc-returns-clause-none t c = ?
-
-pub items_doc-returns-clause-shows : goal.items_doc-returns-clause-shows
-items_doc-returns-clause-shows t c = ?
-
-pub keyword_doc-returns-clause-shows : goal.keyword_doc-returns-clause-shows
-keyword_doc-returns-clause-shows t c = ?
-
-pub mult_doc-returns-then-is_empty-clause-shows : goal.mult_doc-returns-then-is_empty-clause-shows
-mult_doc-returns-then-is_empty-clause-shows t c = ?
-
-pub mult_doc-returns-clause-shows : goal.mult_doc-returns-clause-shows
-mult_doc-returns-clause-shows t c = ?
-
-pub or_doc-returns-then-is_empty-clause-shows : goal.or_doc-returns-then-is_empty-clause-shows
-or_doc-returns-then-is_empty-clause-shows t c = ?
-
-pub or_doc-returns-clause-shows : goal.or_doc-returns-clause-shows
-or_doc-returns-clause-shows t c = ?
-
-pub primary_doc-returns-in-Literal-clause-shows : goal.primary_doc-returns-in-Literal-clause-shows
-primary_doc-returns-in-Literal-clause-shows t c = ?
-
-pub primary_doc-returns-in-Ref-clause-shows : goal.primary_doc-returns-in-Ref-clause-shows
-primary_doc-returns-in-Ref-clause-shows t c = ?
-
-pub primary_doc-returns-in-Name-clause-shows : goal.primary_doc-returns-in-Name-clause-shows
-primary_doc-returns-in-Name-clause-shows t c = ?
-
-pub primary_doc-returns-in-Slot-clause-shows : goal.primary_doc-returns-in-Slot-clause-shows
-primary_doc-returns-in-Slot-clause-shows t c = ?
-
-pub primary_doc-returns-in_ok-group-in-Expr-clause-shows :
-    goal.primary_doc-returns-in_ok-group-in-Expr-clause-shows
-primary_doc-returns-in_ok-group-in-Expr-clause-shows t c = ?
-
-pub primary_doc-returns-in_ok-add_brackets-in-EList-clause-shows :
-    goal.primary_doc-returns-in_ok-add_brackets-in-EList-clause-shows
-primary_doc-returns-in_ok-add_brackets-in-EList-clause-shows t c = ?
-
-pub primary_doc-returns-in_ok-record_doc-in-RInits-clause-shows :
-    goal.primary_doc-returns-in_ok-record_doc-in-RInits-clause-shows
-primary_doc-returns-in_ok-record_doc-in-RInits-clause-shows t c = ?
-
-pub relation_doc-returns-in-Some-clause-shows : goal.relation_doc-returns-in-Some-clause-shows
-relation_doc-returns-in-Some-clause-shows t c = ?
-
-pub relation_doc-returns-in-None-clause-shows : goal.relation_doc-returns-in-None-clause-shows
-relation_doc-returns-in-None-clause-shows t c = ?
-
-pub relation_doc-returns-in_ok-first-in-Has-clause-shows :
-    goal.relation_doc-returns-in_ok-first-in-Has-clause-shows
-relation_doc-returns-in_ok-first-in-Has-clause-shows t c = ?
-
-pub relation_doc-returns-in_ok-first-in-Like-clause-shows :
-    goal.relation_doc-returns-in_ok-first-in-Like-clause-shows
-relation_doc-returns-in_ok-first-in-Like-clause-shows t c = ?
-
-pub relation_doc-returns-in-Some-in_entity-clause-shows :
-    goal.relation_doc-returns-in-Some-in_entity-clause-shows
-relation_doc-returns-in-Some-in_entity-clause-shows t c = ?
-
-pub relation_doc-returns-in-None-in_entity-clause-shows :
-    goal.relation_doc-returns-in-None-in_entity-clause-shows
-relation_doc-returns-in-None-in_entity-clause-shows t c = ?

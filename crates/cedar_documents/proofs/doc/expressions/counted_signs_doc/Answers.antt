@@ -1,4 +1,4 @@
-use Rattle.std.proofs.Common.{map, sym, ap, ◌∙◌, ◌∷◌}
+use Rattle.std.proofs.Common.{map, ap, ◌∙◌, ◌∷◌}
 use Rattle.cedar_layout.specs.Lookups.{comment_parts, Shown}
 use Rattle.cedar_documents.specs.Signs.{signs_of}
 use Rattle.cedar_documents.proofs.Signs.{taken_between, with_tokens}

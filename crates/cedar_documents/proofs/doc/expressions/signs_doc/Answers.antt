@@ -1,11 +1,11 @@
-use Rattle.std.proofs.Common.{map, sym, ◌∙◌, subst}
+use Rattle.std.proofs.Common.{map, subst}
 use Rattle.cedar_grammar.specs.Trees.{Label, none}
 use Rattle.cedar_layout.specs.Lookups.{shown}
 use Rattle.cedar_layout.proofs.Values.{doc_of_nil}
 use Rattle.cedar_layout.specs.declared.layout.Document.TheVariants.{Nil as Nil'}
 use Rattle.cedar_tree.specs.Erased.{node, signs}
 use Rattle.cedar_documents.specs.NodeDocuments.{IsNodeOf}
-use Rattle.cedar_documents.proofs.Signs.{no_signs, some_signs, view_of_unary}
+use Rattle.cedar_documents.proofs.Signs.{no_signs, some_signs}
 use Rattle.cedar_documents.proofs.doc.expressions.signs_doc.Goals as goal
 
 pub returns-in-Some-clause-shows : goal.returns-in-Some-clause-shows
