@@ -56,10 +56,10 @@ lines_taken lines named b x a none is old new (Some v) e h = lines_handed named 
 
 -- ---- tokens in order
 
-abbrev places : List Shown → List Span
+abbrev pub places : List Shown → List Span
 places ts = map (λ t. t.span) ts
 
-shown_order : (p : ℕ) (ts : List WrappedToken) → InOrderFrom p (map (λ t. t.span) ts) → InOrderFrom p (places (map shown ts))
+pub shown_order : (p : ℕ) (ts : List WrappedToken) → InOrderFrom p (map (λ t. t.span) ts) → InOrderFrom p (places (map shown ts))
 shown_order p [] h = h
 shown_order p (t ∷ ts) h = (h.0, h.1, shown_order t.span.end ts h.2)
 
@@ -67,7 +67,7 @@ shown_order p (t ∷ ts) h = (h.0, h.1, shown_order t.span.end ts h.2)
 abbrev pub Precedes : Shown → Shown → Type 0
 Precedes x y = (y.span.start < y.span.end) × (y.span.end ≤ x.span.start)
 
-starts_late : (p : ℕ) (b : List Shown) (x : Shown) (a : List Shown) → InOrderFrom p (places (b ++ (x ∷ a))) → p ≤ x.span.start
+pub starts_late : (p : ℕ) (b : List Shown) (x : Shown) (a : List Shown) → InOrderFrom p (places (b ++ (x ∷ a))) → p ≤ x.span.start
 starts_late p [] x a h = h.0
 starts_late p (y ∷ b) x a h = let i = starts_late y.span.end b x a h.2 in let j = h.0 in let k = h.1 in omega (arith, i, j, k)
 

@@ -42,3 +42,5 @@ pub mod Primaries
 pub mod Chains
 pub mod Operands
 pub mod Relations
+pub mod Signs
+pub mod Accesses

@@ -13,3 +13,5 @@ pub mod GrammarTrees
 pub mod Canonical
 pub mod Kept
 pub mod NodeDocuments
+pub mod Signs
+pub mod Breaks

@@ -1,17 +1,19 @@
 //! The documents of expressions.
-ghost use Rattle.std.specs.Prelude.{◌≡◌, ◌∷◌, ◌++◌, [], Some, codes, IfOk, IsTrue, IsFalse};
+ghost use Rattle.std.specs.Prelude.{◌≡◌, ℤ, ◌<◌, ◌∷◌, ◌++◌, [], List, map, Some, codes, IfOk, IsTrue, IsFalse};
 ghost use Rattle.cedar_tokens.specs.Listing.{token_value};
 ghost use Rattle.cedar_grammar.specs.Trees.{Label, branch, none};
 ghost use Rattle.cedar_grammar.specs.TypedTrees.{Tree, yield};
 ghost use Rattle.cedar_grammar.specs.TypedTrees as kind;
-ghost use Rattle.cedar_tree.specs.Erased.{access_parts, add_parts, expr_parts, mult_parts, or_parts, path_parts, primary_parts, relation_parts, relop_text, unary_parts};
+ghost use Rattle.cedar_tree.specs.Erased.{Erased, access_parts, add_parts, expr_parts, mult_parts, node, or_parts, path_parts, primary_parts, relation_parts, relop_text, signs, unary_parts};
 ghost use Rattle.cedar_tree.specs.NodeLists.{access_items, and_parts, init_parts, item_trees, member_parts};
 ghost use Rattle.cedar_layout.specs.Comments.{space};
 ghost use Rattle.cedar_layout.specs.Layout.{◌·◌, group, line, line_or_nil, nest, nil};
-ghost use Rattle.cedar_layout.specs.Value.{doc_of};
-ghost use Rattle.cedar_layout.specs.Lookups.{AreInOrder, Shown};
+ghost use Rattle.cedar_layout.specs.Value.{doc_of, docs_of};
+ghost use Rattle.cedar_layout.specs.Lookups.{AreInOrder, Shown, comment_parts, emptied, shown};
+ghost use Rattle.cedar_documents.specs.Breaks.{break_if, breaks, form_before, form_of};
 ghost use Rattle.cedar_documents.specs.Kept.{KeepsTokens};
 ghost use Rattle.cedar_documents.specs.NodeDocuments.{IsAt, IsNodeOf, Shows, ShowsBehind, as_leaf, document, text_of};
+ghost use Rattle.cedar_documents.specs.Signs.{member_in, sign_count, sign_text, signs_in, signs_of};
 ghost use Rattle.cedar_documents.specs.Table.{leaf};
 
 use crate::config::Context;
@@ -373,16 +375,35 @@ pub(super) fn unary_doc<'src>(
     ensures config { context.new.config ≡ context.old.config }
     ensures shows { (t : Tree Shown kind.unary) → IsAt span (yield t) → IsNodeOf (unary_parts unary.now) t → Shows result context.old.tokens.items context.new.tokens.items (yield t) (document context.old.config.now.indent_width t) }
 {
-    let signs = match unary.op {
-        Some(op) => signs_doc(alloc, op, span, unary.item.span, context)?,
-        None => Document::Nil,
-    };
+    let signs = signs_doc(alloc, unary.op, span, unary.item.span, context)?;
     let member = member_doc(alloc, &unary.item.inner, context)?;
     Ok(signs.append(alloc, member)?)
 }
 
-// The signs between the start of `span` and that of their member; no document where they aren't so many.
+// The signs before their member, if there are any; `span` is that of the signs and the member.
 fn signs_doc<'src>(
+    alloc: Global,
+    op: Option<NegOp>,
+    span: Span,
+    member: Span,
+    context: &mut Context<'_, 'src>,
+) -> Made<'src>
+    requires { AreInOrder context.old.tokens.items }
+    ensures order { AreInOrder context.new.tokens.items }
+    ensures kept { KeepsTokens context.old.tokens.items context.new.tokens.items }
+    ensures config { context.new.config ≡ context.old.config }
+    ensures shows { (i : ℤ) (u : Tree Shown kind.unary) (inner : Erased) → IsAt span (yield u) → IsNodeOf (signs op (node Label.member member inner none)) u
+        → (before after : List Shown) → map shown context.old.tokens.items ≡ before ++ (yield u ++ after)
+        → IfOk result (λ d. (doc_of d · document i (member_in u) ≡ document i u) × (map shown context.new.tokens.items ≡ (before ++ map emptied (signs_in u)) ++ (yield (member_in u) ++ after))) }
+{
+    match op {
+        Some(op) => counted_signs_doc(alloc, op, span, member, context),
+        None => Ok(Document::Nil),
+    }
+}
+
+// The signs between the start of `span` and that of their member; no document where they aren't so many.
+fn counted_signs_doc<'src>(
     alloc: Global,
     op: NegOp,
     span: Span,
@@ -393,11 +414,11 @@ fn signs_doc<'src>(
     ensures order { AreInOrder context.new.tokens.items }
     ensures kept { KeepsTokens context.old.tokens.items context.new.tokens.items }
     ensures config { context.new.config ≡ context.old.config }
+    ensures shows { (s : Shown) (ss : List Shown) (m : Shown) (before after : List Shown) → 0 < sign_count op → s.span.start ≡ span.start → m.span.start ≡ member.start
+        → map shown context.old.tokens.items ≡ before ++ ((s ∷ ss) ++ (m ∷ after))
+        → IfOk result (λ d. (doc_of d ≡ signs_of (sign_text op) (map (λ t. t.comment) (s ∷ ss))) × (map shown context.new.tokens.items ≡ (before ++ map emptied (s ∷ ss)) ++ (m ∷ after))) }
 {
-    let (text, count) = match op {
-        NegOp::Bang(count) => ("!", count),
-        NegOp::Dash(count) => ("-", count),
-    };
+    let (text, count) = sign_parts(op);
     if count == 0 {
         return Ok(Document::Nil);
     }
@@ -412,12 +433,25 @@ fn signs_doc<'src>(
     commented_signs(alloc, text, &comments)
 }
 
+// The text of signs, and how many they are.
+fn sign_parts(op: NegOp) -> (&'static str, u8)
+    ensures text { result.0.now ≡ sign_text op }
+    ensures count { result.1 ≡ sign_count op }
+{
+    match op {
+        NegOp::Bang(count) => ("!", count),
+        NegOp::Dash(count) => ("-", count),
+    }
+}
+
 // A sign for each of these comments.
 fn commented_signs<'src>(
     alloc: Global,
     text: &'static str,
     comments: &[Comment<'src>],
-) -> Made<'src> {
+) -> Made<'src>
+    ensures { IfOk result (λ d. doc_of d ≡ signs_of text.now (map comment_parts comments.now)) }
+{
     let mut docs = Vec::new(alloc);
     for comment in comments {
         docs.push(add_comment(alloc, Document::Text(text), comment, Document::Nil)?)?;
@@ -440,8 +474,19 @@ pub(super) fn member_doc<'src>(
 {
     let item = primary_doc(alloc, &member.item.inner, member.item.span, context)?;
     let accesses = accesses_doc(alloc, &member.access, context)?;
-    let indented = accesses.nest(alloc, context.config.indent_width)?;
-    Ok(item.append(alloc, indented)?.group(alloc)?)
+    let behind = indented(alloc, accesses, context)?;
+    Ok(item.append(alloc, behind)?.group(alloc)?)
+}
+
+// A document indented by a level.
+fn indented<'src>(
+    alloc: Global,
+    doc: Document<'src>,
+    context: &Context<'_, 'src>,
+) -> Result<Document<'src>, AllocError>
+    ensures { IfOk result (λ d. doc_of d ≡ nest context.now.config.now.indent_width (doc_of doc.entry)) }
+{
+    doc.nest(alloc, context.config.indent_width)
 }
 
 // The accesses, with a place to break before each but the first and but a method's call.
@@ -460,17 +505,31 @@ fn accesses_doc<'src>(
     let mut docs = Vec::new(alloc);
     let mut before: Option<&MemAccess<'src>> = None;
     for access in accesses {
-        if breaks_between(before, &access.inner) {
-            docs.push(Document::LineOrNil)?;
-        }
+        push_break(&mut docs, before, &access.inner)?;
         docs.push(access_doc(alloc, &access.inner, access.span, context)?)?;
         before = Some(&access.inner);
     }
     Ok(Document::Seq(docs))
 }
 
+// A place to break before this access, if there is one between the access before and it.
+fn push_break<'src>(
+    docs: &mut Vec<Document<'src>>,
+    before: Option<&MemAccess<'src>>,
+    access: &MemAccess<'src>,
+) -> Result<(), AllocError>
+    ensures { IfOk result (λ u. docs_of docs.new.items ≡ docs_of docs.old.items · break_if (breaks (form_before before.entry) (Some (form_of access.now)))) }
+{
+    if breaks_between(before, access) {
+        docs.push(Document::LineOrNil)?;
+    }
+    Ok(())
+}
+
 // Whether there is a place to break between the access before, if there is one, and this one.
-fn breaks_between(before: Option<&MemAccess<'_>>, access: &MemAccess<'_>) -> bool {
+fn breaks_between(before: Option<&MemAccess<'_>>, access: &MemAccess<'_>) -> bool
+    ensures { result ≡ breaks (form_before before.entry) (Some (form_of access.now)) }
+{
     match (before, access) {
         (None, _) => false,
         (Some(MemAccess::Field(_)), MemAccess::Call(_)) => false,
@@ -502,8 +561,7 @@ pub(super) fn access_doc<'src>(
             let open = mark_at_start(alloc, "(", span, Document::Nil, context)?;
             let items = items_doc(alloc, arguments, context)?;
             let close = mark_at_end(alloc, ")", span, Document::Nil, context)?;
-            let indent = context.config.indent_width;
-            Ok(call_doc(alloc, arguments.is_empty(), open, items, close, indent)?)
+            Ok(call_doc(alloc, arguments.is_empty(), open, items, close, context)?)
         }
         MemAccess::Index(index) => {
             let open = mark_at_start(alloc, "[", span, Document::Nil, context)?;
@@ -521,16 +579,15 @@ fn call_doc<'src>(
     open: Document<'src>,
     items: Document<'src>,
     close: Document<'src>,
-    indent: isize,
+    context: &Context<'_, 'src>,
 ) -> Result<Document<'src>, AllocError>
     ensures empty { IsTrue is_empty → IfOk result (λ d. doc_of d ≡ doc_of open.entry · doc_of close.entry) }
-    ensures items { IsFalse is_empty → IfOk result (λ d. doc_of d ≡ doc_of open.entry · nest indent (line_or_nil · doc_of items.entry) · line_or_nil · doc_of close.entry) }
+    ensures items { IsFalse is_empty → IfOk result (λ d. doc_of d ≡ doc_of open.entry · nest context.now.config.now.indent_width (line_or_nil · doc_of items.entry) · line_or_nil · doc_of close.entry) }
 {
     if is_empty {
         return open.append(alloc, close);
     }
-    let inside = Document::LineOrNil.append(alloc, items)?;
-    let inside = inside.nest(alloc, indent)?;
+    let inside = indented(alloc, Document::LineOrNil.append(alloc, items)?, context)?;
     let end = Document::LineOrNil.append(alloc, close)?;
     open.append(alloc, inside.append(alloc, end)?)
 }
