@@ -32,3 +32,4 @@ pub mod Keeping
 pub mod Focus
 pub mod Marks
 pub mod Opened
+pub mod PolicyParts

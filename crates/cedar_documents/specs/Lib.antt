@@ -13,3 +13,4 @@ pub mod GrammarTrees
 pub mod Canonical
 pub mod Kept
 pub mod NodeDocuments
+pub mod PolicyDocuments

@@ -1,7 +1,19 @@
 //! The documents of policies, and of what stands in them outside expressions.
-ghost use Rattle.std.specs.Prelude.{◌≡◌};
-ghost use Rattle.cedar_layout.specs.Lookups.{AreInOrder};
+ghost use Rattle.std.specs.Prelude.{◌≡◌, ◌≢◌, ◌∷◌, ◌++◌, [], ℕ, List, Some, codes, map, IfOk, IsSomeAnd};
+ghost use Rattle.cedar_tokens.specs.Listing.{token_value};
+ghost use Rattle.cedar_tokens.specs.Tokens.{leading_lines, trailing_text};
+ghost use Rattle.cedar_grammar.specs.Trees.{none};
+ghost use Rattle.cedar_grammar.specs.TypedTrees.{Clause, Tree, part_yield, yield};
+ghost use Rattle.cedar_grammar.specs.TypedTrees as kind;
+ghost use Rattle.cedar_tree.specs.Erased.{annotation_trees, cond_trees, expr_parts, policy_parts};
+ghost use Rattle.cedar_layout.specs.Comments.{lead_of, trail_of};
+ghost use Rattle.cedar_layout.specs.Layout.{◌·◌, group, hard, line, nest, nil};
+ghost use Rattle.cedar_layout.specs.Lookups.{AreInOrder, Parts, Shown, comment_parts, emptied, shown};
+ghost use Rattle.cedar_layout.specs.Value.{doc_of};
 ghost use Rattle.cedar_documents.specs.Kept.{KeepsTokens};
+ghost use Rattle.cedar_documents.specs.NodeDocuments.{IsAt, IsNodeOf, IsPartOf, Shows, ShowsBehind, annotation_parts, as_leaf, cond_parts, part_document, text_of, variable_parts};
+ghost use Rattle.cedar_documents.specs.PolicyDocuments.{body_document, scope_document};
+ghost use Rattle.cedar_documents.specs.Table as table;
 
 use crate::config::Context;
 use crate::doc::expressions::{add_doc, expr_doc};
@@ -18,7 +30,9 @@ use cedar_tree::tree::{
 use std::alloc::{AllocError, Global};
 
 // The leading lines of a comment.
-fn lead<'src>(alloc: Global, comment: &Comment<'src>) -> Result<Document<'src>, AllocError> {
+fn lead<'src>(alloc: Global, comment: &Comment<'src>) -> Result<Document<'src>, AllocError>
+    ensures { IfOk result (λ d. doc_of d ≡ lead_of (leading_lines comment.now)) }
+{
     get_leading_comment_doc_from_str(alloc, comment.leading_comment())
 }
 
@@ -27,7 +41,9 @@ fn trail<'src>(
     alloc: Global,
     comment: &Comment<'src>,
     next: Document<'src>,
-) -> Result<Document<'src>, AllocError> {
+) -> Result<Document<'src>, AllocError>
+    ensures { IfOk result (λ d. doc_of d ≡ trail_of (trailing_text comment.now) (doc_of next.entry)) }
+{
     get_trailing_comment_doc_from_str(alloc, comment.trailing_comment(), next)
 }
 
@@ -40,6 +56,8 @@ fn word_comment<'src>(
     ensures order { AreInOrder context.new.tokens.items }
     ensures kept { KeepsTokens context.old.tokens.items context.new.tokens.items }
     ensures config { context.new.config ≡ context.old.config }
+    ensures taken { (before : List Shown) (t : Shown) (after : List Shown) → t.span.start ≡ span.start → map shown context.old.tokens.items ≡ before ++ (t ∷ after)
+        → IfOk result (λ c. (comment_parts c ≡ t.comment) × (map shown context.new.tokens.items ≡ (before ++ (emptied t ∷ [])) ++ after)) }
 {
     match take_at_start(span, context) {
         Some(comment) => Ok(comment),
@@ -58,6 +76,7 @@ pub(super) fn policy_doc<'src>(
     ensures order { AreInOrder context.new.tokens.items }
     ensures kept { KeepsTokens context.old.tokens.items context.new.tokens.items }
     ensures config { context.new.config ≡ context.old.config }
+    ensures shows { (t : Clause Shown kind.policy) → IsAt span (part_yield t) → IsPartOf (policy_parts policy.now) t → Shows result context.old.tokens.items context.new.tokens.items (part_yield t) (part_document context.old.config.now.indent_width t) }
 {
     let annotations = annotations_doc(alloc, &policy.annotations, context)?;
     let head = head_doc(alloc, &policy.effect, context)?;
@@ -79,6 +98,7 @@ fn annotations_doc<'src>(
     ensures order { AreInOrder context.new.tokens.items }
     ensures kept { KeepsTokens context.old.tokens.items context.new.tokens.items }
     ensures config { context.new.config ≡ context.old.config }
+    ensures shows { (t : Clause Shown kind.annotations) → IsPartOf (annotation_trees annotations.now none) t → Shows result context.old.tokens.items context.new.tokens.items (part_yield t) (part_document context.old.config.now.indent_width t) }
 {
     let mut docs = Vec::new(alloc);
     for annotation in annotations {
@@ -98,6 +118,7 @@ pub(super) fn annotation_doc<'src>(
     ensures order { AreInOrder context.new.tokens.items }
     ensures kept { KeepsTokens context.old.tokens.items context.new.tokens.items }
     ensures config { context.new.config ≡ context.old.config }
+    ensures shows { (t : Clause Shown kind.annotation) → IsAt span (part_yield t) → IsPartOf (annotation_parts annotation.now) t → Shows result context.old.tokens.items context.new.tokens.items (part_yield t) (part_document context.old.config.now.indent_width t) }
 {
     let at = mark_at_start(alloc, "@", span, Document::Nil, context)?;
     let key = leaf_doc(alloc, annotation.key.inner.0, annotation.key.span, context)?;
@@ -120,6 +141,8 @@ fn annotation_value_doc<'src>(
     ensures order { AreInOrder context.new.tokens.items }
     ensures kept { KeepsTokens context.old.tokens.items context.new.tokens.items }
     ensures config { context.new.config ≡ context.old.config }
+    ensures shows { (l s r : Shown) → codes "(" ≡ token_value (text_of l) → s.span.start ≡ value.now.span.start → value.now.inner.0.now ≡ token_value (text_of s) → r.span.end ≡ span.end → codes ")" ≡ token_value (text_of r)
+        → ShowsBehind key.end result context.old.tokens.items context.new.tokens.items (l ∷ s ∷ r ∷ []) (table.leaf (as_leaf l) · table.leaf (as_leaf s) · table.C (as_leaf r) hard) }
 {
     let open = mark_after(alloc, "(", key, Document::Nil, context)?;
     let text = leaf_doc(alloc, value.inner.0, value.span, context)?;
@@ -137,6 +160,8 @@ fn head_doc<'src>(
     ensures order { AreInOrder context.new.tokens.items }
     ensures kept { KeepsTokens context.old.tokens.items context.new.tokens.items }
     ensures config { context.new.config ≡ context.old.config }
+    ensures shows { (e l : Shown) → e.span.start ≡ effect.now.span.start → e.span.end ≡ effect.now.span.end → effect.now.inner.0.now ≡ token_value (text_of e) → codes "(" ≡ token_value (text_of l)
+        → Shows result context.old.tokens.items context.new.tokens.items (e ∷ l ∷ []) (table.lead (as_leaf e) · group (table.tok (as_leaf e) · table.trail (as_leaf e) nil · line · table.leaf (as_leaf l))) }
 {
     let comment = word_comment(effect.span, context)?;
     let open = mark_after(alloc, "(", effect.span, Document::Nil, context)?;
@@ -161,6 +186,9 @@ fn scope_doc<'src>(
     ensures order { AreInOrder context.new.tokens.items }
     ensures kept { KeepsTokens context.old.tokens.items context.new.tokens.items }
     ensures config { context.new.config ≡ context.old.config }
+    ensures shows { (p a r : Clause Shown kind.variable) (c d : Shown) → IsPartOf (variable_parts policy.now.variables.0.inner) p → IsAt policy.now.variables.0.span (part_yield p) → IsPartOf (variable_parts policy.now.variables.1.inner) a → IsAt policy.now.variables.1.span (part_yield a)
+        → IsPartOf (variable_parts policy.now.variables.2.inner) r → IsAt policy.now.variables.2.span (part_yield r) → codes "," ≡ token_value (text_of c) → codes "," ≡ token_value (text_of d)
+        → Shows result context.old.tokens.items context.new.tokens.items (part_yield p ++ c ∷ part_yield a ++ d ∷ part_yield r) (scope_document context.old.config.now.indent_width p c a d r) }
 {
     let (principal, action, resource) = &policy.variables;
     if is_bound(&principal.inner) || is_bound(&action.inner) || is_bound(&resource.inner) {
@@ -215,6 +243,8 @@ fn scope_end_doc<'src>(
     ensures order { AreInOrder context.new.tokens.items }
     ensures kept { KeepsTokens context.old.tokens.items context.new.tokens.items }
     ensures config { context.new.config ≡ context.old.config }
+    ensures shows_last { policy.now.conds.items ≡ [] → (r : Shown) → codes ")" ≡ token_value (text_of r) → ShowsBehind policy.now.variables.2.span.end result context.old.tokens.items context.new.tokens.items (r ∷ []) (table.C (as_leaf r) nil) }
+    ensures shows { policy.now.conds.items ≢ [] → (r : Shown) → codes ")" ≡ token_value (text_of r) → ShowsBehind policy.now.variables.2.span.end result context.old.tokens.items context.new.tokens.items (r ∷ []) (table.C (as_leaf r) hard) }
 {
     let next = if policy.conds.is_empty() {
         Document::Nil
@@ -333,6 +363,7 @@ fn conds_doc<'src>(
     ensures order { AreInOrder context.new.tokens.items }
     ensures kept { KeepsTokens context.old.tokens.items context.new.tokens.items }
     ensures config { context.new.config ≡ context.old.config }
+    ensures shows { (t : Clause Shown kind.conds) → IsPartOf (cond_trees conds.now none) t → Shows result context.old.tokens.items context.new.tokens.items (part_yield t) (part_document context.old.config.now.indent_width t) }
 {
     let mut docs = Vec::new(alloc);
     for cond in conds {
@@ -355,19 +386,19 @@ pub(super) fn cond_doc<'src>(
     ensures order { AreInOrder context.new.tokens.items }
     ensures kept { KeepsTokens context.old.tokens.items context.new.tokens.items }
     ensures config { context.new.config ≡ context.old.config }
+    ensures shows { (t : Clause Shown kind.cond) → IsAt span (part_yield t) → IsPartOf (cond_parts cond.now) t → Shows result context.old.tokens.items context.new.tokens.items (part_yield t) (part_document context.old.config.now.indent_width t) }
 {
     let comment = word_comment(cond.cond.span, context)?;
-    let open = take_after(cond.cond.span, context);
-    let body = braced_doc(alloc, open, &cond.expr, span, context)?;
+    let body = braced_doc(alloc, cond.cond.span, &cond.expr, span, context)?;
     let behind = trail(alloc, &comment, Document::Line)?.append(alloc, body)?;
     let whole = Document::Text(cond.cond.inner.0).append(alloc, behind)?;
     Ok(lead(alloc, &comment)?.append(alloc, whole.group(alloc)?)?)
 }
 
-// The leading lines of `{`, the brace, and a group of the expression and `}`.
+// The leading lines of `{`, the brace, which stands behind the span `before`, and a group of the expression and `}`.
 fn braced_doc<'src>(
     alloc: Global,
-    open: Option<Comment<'src>>,
+    before: Span,
     expr: &Node<Expr<'src>>,
     span: Span,
     context: &mut Context<'_, 'src>,
@@ -376,14 +407,11 @@ fn braced_doc<'src>(
     ensures order { AreInOrder context.new.tokens.items }
     ensures kept { KeepsTokens context.old.tokens.items context.new.tokens.items }
     ensures config { context.new.config ≡ context.old.config }
+    ensures shows { (l : Shown) (t : Tree Shown kind.expr) (r : Shown) → codes "{" ≡ token_value (text_of l) → IsAt expr.now.span (yield t) → IsNodeOf (expr_parts expr.now.inner) t → r.span.end ≡ span.end → codes "}" ≡ token_value (text_of r)
+        → ShowsBehind before.end result context.old.tokens.items context.new.tokens.items (l ∷ yield t ++ r ∷ []) (table.lead (as_leaf l) · table.tok (as_leaf l) · group (nest context.old.config.now.indent_width (table.trail (as_leaf l) line · body_document context.old.config.now.indent_width t) · line · table.leaf (as_leaf r))) }
 {
-    let (before, behind) = match &open {
-        Some(comment) => (
-            lead(alloc, comment)?,
-            trail(alloc, comment, Document::Line)?,
-        ),
-        None => (Document::Nil, Document::Line),
-    };
+    let comment = take_after(before, context);
+    let (lines, behind) = brace_comment(alloc, comment)?;
     let body = body_doc(alloc, expr, context)?;
     let inside = behind.append(alloc, body)?;
     let inside = inside.nest(alloc, context.config.indent_width)?;
@@ -391,7 +419,22 @@ fn braced_doc<'src>(
     let end = Document::Line.append(alloc, close)?;
     let inside = inside.append(alloc, end)?.group(alloc)?;
     let brace = Document::Text("{").append(alloc, inside)?;
-    Ok(before.append(alloc, brace)?)
+    Ok(lines.append(alloc, brace)?)
+}
+
+// The leading lines of a comment, and its trailing text or a line.
+fn brace_comment<'src>(
+    alloc: Global,
+    comment: Option<Comment<'src>>,
+) -> Result<(Document<'src>, Document<'src>), AllocError>
+    ensures { (parts : Parts) → IsSomeAnd comment.entry (λ c. comment_parts c ≡ parts) → IfOk result (λ d. (doc_of d.0 ≡ lead_of parts.leading) × (doc_of d.1 ≡ trail_of parts.trailing line)) }
+{
+    let Some(comment) = &comment else {
+        return Ok((Document::Nil, Document::Line));
+    };
+    let lines = lead(alloc, comment)?;
+    let behind = trail(alloc, comment, Document::Line)?;
+    Ok((lines, behind))
 }
 
 // The leading lines of an expression's first token, and then a group of the rest.
@@ -404,11 +447,23 @@ fn body_doc<'src>(
     ensures order { AreInOrder context.new.tokens.items }
     ensures kept { KeepsTokens context.old.tokens.items context.new.tokens.items }
     ensures config { context.new.config ≡ context.old.config }
+    ensures shows { (t : Tree Shown kind.expr) → IsAt expr.now.span (yield t) → IsNodeOf (expr_parts expr.now.inner) t → Shows result context.old.tokens.items context.new.tokens.items (yield t) (body_document context.old.config.now.indent_width t) }
 {
-    let lines = match take_lines_at_start(expr.span, context) {
-        Some(lines) => get_leading_comment_doc_from_str(alloc, &lines)?,
-        None => Document::Nil,
-    };
+    let taken = take_lines_at_start(expr.span, context);
+    let lines = lines_doc(alloc, taken)?;
     let body = expr_doc(alloc, &expr.inner, expr.span, context)?;
     Ok(lines.append(alloc, body.group(alloc)?)?)
+}
+
+// Leading lines, or nothing.
+fn lines_doc<'src>(
+    alloc: Global,
+    lines: Option<Vec<&'src str>>,
+) -> Result<Document<'src>, AllocError>
+    ensures { (texts : List (List ℕ)) → IsSomeAnd lines.entry (λ v. map (λ l. l.now) v.items ≡ texts) → IfOk result (λ d. doc_of d ≡ lead_of texts) }
+{
+    match lines {
+        Some(lines) => get_leading_comment_doc_from_str(alloc, &lines),
+        None => Ok(Document::Nil),
+    }
 }
