@@ -33,3 +33,4 @@ pub mod Focus
 pub mod Marks
 pub mod Opened
 pub mod PolicyParts
+pub mod PolicyRows
