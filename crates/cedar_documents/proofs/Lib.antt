@@ -34,3 +34,4 @@ pub mod Marks
 pub mod Opened
 pub mod PolicyParts
 pub mod PolicyRows
+pub mod FirstToken
