@@ -1,5 +1,6 @@
 -- What the parts of policies tell of their tokens.
-use Rattle.std.proofs.Common.{◌≡◌, ℕ, List, [], ◌∷◌, ◌++◌, map, refl, ap, sym, ◌∙◌, append-nil}
+use Rattle.std.proofs.Common.{◌≡◌, ℕ, List, [], ◌∷◌, ◌++◌, map, refl, ap, sym, ◌∙◌, append-nil, Option, Some, None}
+use Rattle.std.specs.Prelude.{IsSomeAnd}
 use Rattle.cedar_tokens.specs.declared.token.Span.{Span}
 use Rattle.cedar_grammar.specs.Trees.{Label, Forest, leaf, branch}
 use Rattle.cedar_grammar.specs.Trees as forest
@@ -33,3 +34,8 @@ no_part s r e = absurd cc
 -- where no token is taken
 pub nothing_more : {V : Type 0} (P : List Shown → Type 0) {v d : V} {old new : List Shown} → v ≡ d → new ≡ old → GivesIf P v d old new []
 nothing_more P q n before after p s = (q, n ∙ s ∙ ap (λ z. z ++ after) (sym (append-nil before)))
+
+-- what holds of an answer, and what holds beside it
+pub apart : {V : Type 0} (P : V → Type 0) (Q : Type 0) (r : Option V) → IsSomeAnd r (λ v. P v × Q) → IsSomeAnd r P × Q
+apart P Q None h = absurd h
+apart P Q (Some v) h = h

@@ -12,12 +12,8 @@ use Rattle.cedar_documents.specs.Table as table
 use Rattle.cedar_documents.proofs.ByValue.{yield_map}
 use Rattle.cedar_documents.proofs.Opened.{starts_here}
 use Rattle.cedar_documents.proofs.FirstToken.{unled_tree, unled_nodes, unled_tokens, unled_leaves}
+use Rattle.cedar_documents.proofs.PolicyParts.{apart}
 use Rattle.cedar_documents.proofs.doc.policies.body_doc.Goals as goal
-
--- what holds of an answer, and what holds beside it
-apart : {V : Type 0} (P : V → Type 0) (Q : Type 0) (r : Option V) → IsSomeAnd r (λ v. P v × Q) → IsSomeAnd r P × Q
-apart P Q None h = absurd h
-apart P Q (Some v) h = h
 
 pub returns-clause-shows : goal.returns-clause-shows
 returns-clause-shows c t at e before after s = go (yield t) refl at
