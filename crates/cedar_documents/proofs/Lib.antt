@@ -35,3 +35,4 @@ pub mod Opened
 pub mod PolicyParts
 pub mod PolicyRows
 pub mod FirstToken
+pub mod WholePolicies
