@@ -1,20 +1,19 @@
 -- A tree whose first token has lost its leading lines.
-use Rattle.std.proofs.Common.{◌≡◌, ℕ, Some, None, List, [], ◌∷◌, ◌++◌, map, true, false, refl, ap, sym, ◌∙◌}
+use Rattle.std.proofs.Common.{◌≡◌, Some, None, List, [], ◌∷◌, ◌++◌, map, refl, ap, sym, ◌∙◌}
 use Rattle.std.specs.Prelude.{if◌then◌else◌}
 use Rattle.std.proofs.lemmas.List.{map-append}
-use Rattle.cedar_tokens.specs.Listing.{Decorated, token_value}
+use Rattle.cedar_tokens.specs.Listing.{token_value}
 use Rattle.cedar_tokens.specs.declared.token.Span.{Span}
 use Rattle.cedar_grammar.specs.Trees.{Label, Forest, leaf, branch, none}
 use Rattle.cedar_grammar.specs.Trees as forest
-use Rattle.cedar_grammar.specs.TypedTrees.{Tree, NodeKind, accesses, expr, parts, tree_map, yield, name_one, name_more, ref_of, args_one, args_more, init_of, inits_one, inits_more, literal, slot, reference, named, parens, list_empty, list_of, record_empty, record_of, no_access, field, call_empty, call, index, member_of, unsigned, signed, products_one, products_more, mult_of, sums_one, sums_more, add_of, single, compare, has_or_like, is_type, is_in, ands_one, ands_more, ors_one, ors_more, plain_expr, if_expr}
+use Rattle.cedar_grammar.specs.TypedTrees.{Tree, NodeKind, parts, tree_map, yield, name_one, name_more, ref_of, args_one, args_more, init_of, inits_one, inits_more, literal, slot, reference, named, parens, list_empty, list_of, record_empty, record_of, no_access, field, call_empty, call, index, member_of, unsigned, signed, products_one, products_more, mult_of, sums_one, sums_more, add_of, single, compare, has_or_like, is_type, is_in, ands_one, ands_more, ors_one, ors_more, plain_expr, if_expr}
 use Rattle.cedar_grammar.proofs.RuleMaps.{relabel}
 use Rattle.cedar_layout.specs.Lookups.{Shown, emptied, unled}
 use Rattle.cedar_tree.specs.Erased.{Erased}
 use Rattle.cedar_tree.specs.NodeTrees.{is_node, span_of, end_of}
-use Rattle.cedar_documents.specs.NodeDocuments.{IsAt, IsNodeOf, as_leaf, kind_of_shown, nodes_of, text_of}
+use Rattle.cedar_documents.specs.NodeDocuments.{IsNodeOf, as_leaf, kind_of_shown, nodes_of, text_of}
 use Rattle.cedar_documents.specs.Table.{table, lead_of, lines_of_first}
 use Rattle.cedar_documents.specs.Table as table
-use Rattle.cedar_documents.proofs.ByValue.{yield_map}
 use Rattle.cedar_documents.proofs.Peel.{NonEmpty, starts}
 use Rattle.cedar_documents.proofs.Relabelled.{parts_map}
 

@@ -1,5 +1,5 @@
 -- Annotations and conditions in a row.
-use Rattle.std.proofs.Common.{◌≡◌, ◌≢◌, ℕ, ℤ, List, [], ◌∷◌, ◌++◌, map, refl, ap, sym, ◌∙◌, append-nil}
+use Rattle.std.proofs.Common.{◌≡◌, ◌≢◌, ℤ, List, [], ◌∷◌, ◌++◌, map, refl, ap, sym, ◌∙◌, append-nil}
 use Rattle.std.proofs.lemmas.List.{append_assoc, map-append}
 use Rattle.cedar_grammar.specs.Trees.{Label, none}
 use Rattle.cedar_grammar.specs.TypedTrees.{Clause, annotation, annotations, annotations_more, cond, conds, conds_more, no_annotation, no_cond, part_parts, part_yield}

@@ -1,9 +1,9 @@
-use Rattle.std.proofs.Common.{◌≡◌, ◌∷◌, [], List, Some, None, map, ap, refl, sym, ◌∙◌}
-use Rattle.cedar_grammar.specs.Trees.{Label, Forest, branch, leaf, none}
+use Rattle.std.proofs.Common.{◌∷◌, [], map, ap, refl, sym, ◌∙◌}
+use Rattle.cedar_grammar.specs.Trees.{Label, branch, leaf, none}
 use Rattle.cedar_grammar.specs.TypedTrees.{annotation_bare, annotation_value}
 use Rattle.cedar_tree.specs.Erased.{value_parts}
 use Rattle.cedar_layout.specs.Layout.{◌·◌, hard}
-use Rattle.cedar_layout.specs.Lookups.{Shown, shown}
+use Rattle.cedar_layout.specs.Lookups.{shown}
 use Rattle.cedar_layout.specs.Value.{doc_of}
 use Rattle.cedar_layout.proofs.Values.{doc_of_hard}
 use Rattle.cedar_documents.specs.NodeDocuments.{as_leaf}

@@ -1,4 +1,4 @@
-use Rattle.std.proofs.Common.{◌≡◌, ◌∷◌, []}
+use Rattle.std.proofs.Common.{◌∷◌, []}
 use Rattle.cedar_layout.specs.Layout.{◌·◌}
 use Rattle.cedar_layout.proofs.Values.{doc_of_hard}
 use Rattle.cedar_documents.specs.NodeDocuments.{as_leaf}

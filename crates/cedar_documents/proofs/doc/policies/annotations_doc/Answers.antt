@@ -1,4 +1,4 @@
-use Rattle.std.proofs.Common.{◌≡◌, ap, sym, ◌∙◌, refl, rules}
+use Rattle.std.proofs.Common.{ap, ◌∙◌, refl, rules}
 use Rattle.std.proofs.lemmas.List.{drop_all, drop_more}
 use Rattle.cedar_layout.proofs.Values.{doc_of_seq}
 use Rattle.cedar_layout.specs.Lookups.{shown}

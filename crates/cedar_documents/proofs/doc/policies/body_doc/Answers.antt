@@ -1,8 +1,6 @@
-use Rattle.std.proofs.Common.{◌≡◌, List, [], ◌∷◌, ◌++◌, map, Option, Some, None, Vec, Global, refl, ap, sym, subst, ◌∙◌}
-use Rattle.std.specs.Prelude.{IsSomeAnd}
-use Rattle.cedar_grammar.specs.TypedTrees.{Tree, expr, tree_map, yield}
+use Rattle.std.proofs.Common.{◌≡◌, List, [], ◌∷◌, ◌++◌, map, refl, ap, sym, subst, ◌∙◌}
+use Rattle.cedar_grammar.specs.TypedTrees.{tree_map, yield}
 use Rattle.cedar_layout.specs.Comments.{lead_of}
-use Rattle.cedar_layout.specs.Layout.{◌·◌, group}
 use Rattle.cedar_layout.specs.Lookups.{Shown, shown, emptied, unled}
 use Rattle.cedar_layout.specs.Value.{doc_of}
 use Rattle.cedar_documents.specs.NodeDocuments.{IsAt, as_leaf}

@@ -1,5 +1,4 @@
-use Rattle.std.proofs.Common.{◌≡◌, List, [], ◌∷◌, ◌++◌, map, Option, Some, None, ap, ◌∙◌}
-use Rattle.std.specs.Prelude.{IsSomeAnd}
+use Rattle.std.proofs.Common.{◌≡◌, [], ◌∷◌, ◌++◌, map, ap, ◌∙◌}
 use Rattle.std.proofs.Common.{rules, w64}
 use Rattle.std.proofs.lemmas.Int.{to_z-of_z}
 use mir.Val.{SFits}
@@ -7,12 +6,11 @@ use Rattle.cedar_grammar.specs.TypedTrees.{yield}
 use Rattle.cedar_tokens.specs.Listing.{token_value}
 use Rattle.cedar_layout.specs.Comments.{lead_of, trail_of}
 use Rattle.cedar_layout.specs.Layout.{Doc, ◌·◌, group, line, nest, text}
-use Rattle.cedar_layout.specs.Lookups.{Parts, Shown, shown, emptied, comment_parts}
+use Rattle.cedar_layout.specs.Lookups.{shown, emptied, comment_parts}
 use Rattle.cedar_layout.specs.Value.{doc_of}
 use Rattle.cedar_layout.proofs.Values.{doc_of_line, doc_of_text}
-use Rattle.cedar_documents.specs.NodeDocuments.{as_leaf, text_of}
+use Rattle.cedar_documents.specs.NodeDocuments.{text_of}
 use Rattle.cedar_documents.specs.PolicyDocuments.{body_document}
-use Rattle.cedar_documents.specs.Table as table
 use Rattle.cedar_documents.proofs.Opened.{GivesIf, in_turn, freely, rewritten, nothing_behind, Always, Behind}
 use Rattle.cedar_documents.proofs.PolicyParts.{apart}
 use Rattle.cedar_documents.proofs.doc.policies.braced_doc.Goals as goal

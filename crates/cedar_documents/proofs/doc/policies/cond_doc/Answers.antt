@@ -1,9 +1,9 @@
-use Rattle.std.proofs.Common.{◌≡◌, [], ◌∷◌, ◌++◌, ap, refl}
+use Rattle.std.proofs.Common.{[], ◌∷◌, ◌++◌, ap, refl}
 use Rattle.cedar_tokens.specs.Listing.{token_value}
 use Rattle.cedar_grammar.specs.Trees.{Label, branch, leaf, none}
 use Rattle.cedar_grammar.specs.TypedTrees.{cond_of, parts, yield}
 use Rattle.cedar_layout.specs.Comments.{lead_of, trail_of}
-use Rattle.cedar_layout.specs.Layout.{Doc, ◌·◌, group, line, nest, text}
+use Rattle.cedar_layout.specs.Layout.{◌·◌, group, line, nest, text}
 use Rattle.cedar_layout.specs.Lookups.{Parts}
 use Rattle.cedar_layout.proofs.Values.{doc_of_line, doc_of_text}
 use Rattle.cedar_documents.specs.NodeDocuments.{as_leaf, kind_of_shown, text_of}

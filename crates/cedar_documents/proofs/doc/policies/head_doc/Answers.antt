@@ -1,4 +1,4 @@
-use Rattle.std.proofs.Common.{◌≡◌, ◌∷◌, []}
+use Rattle.std.proofs.Common.{◌∷◌, []}
 use Rattle.cedar_tokens.specs.Listing.{token_value}
 use Rattle.cedar_layout.specs.Comments.{lead_of, trail_of}
 use Rattle.cedar_layout.specs.Layout.{◌·◌, group, line, nil, text}
