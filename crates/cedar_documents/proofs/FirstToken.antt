@@ -1,4 +1,4 @@
--- A tree whose first token has lost its leading lines.
+-- A tree without the leading lines of its first token.
 use Rattle.std.proofs.Common.{◌≡◌, Some, None, List, [], ◌∷◌, ◌++◌, map, refl, ap, sym, ◌∙◌}
 use Rattle.std.specs.Prelude.{if◌then◌else◌}
 use Rattle.std.proofs.lemmas.List.{map-append}
@@ -17,6 +17,7 @@ use Rattle.cedar_documents.specs.Table as table
 use Rattle.cedar_documents.proofs.Peel.{NonEmpty, starts}
 use Rattle.cedar_documents.proofs.Relabelled.{parts_map}
 
+-- the tree whose first token has no leading lines
 abbrev pub unled_tree : {k : NodeKind} → Tree Shown k → Tree Shown k
 unled_tree (name_one x0) = name_one (unled x0)
 unled_tree (name_more x0 x1 x2) = name_more (unled x0) x1 x2
@@ -61,7 +62,7 @@ unled_tree (ors_more x0 x1 x2) = ors_more (unled_tree x0) x1 x2
 unled_tree (plain_expr x0) = plain_expr (unled_tree x0)
 unled_tree (if_expr x0 x1 x2 x3 x4 x5) = if_expr (unled x0) x1 x2 x3 x4 x5
 
--- its table document is that of the tree without the lines
+-- the table says the same of it
 pub unled_leaves : {k : NodeKind} (t : Tree Shown k) → table.unled (tree_map as_leaf t) ≡ tree_map as_leaf (unled_tree t)
 unled_leaves (name_one x0) = refl
 unled_leaves (name_more x0 x1 x2) = refl
@@ -106,7 +107,7 @@ unled_leaves (ors_more x0 x1 x2) = ap (λ z. ors_more z (as_leaf x1) (tree_map a
 unled_leaves (plain_expr x0) = ap (λ z. plain_expr z) (unled_leaves x0)
 unled_leaves (if_expr x0 x1 x2 x3 x4 x5) = refl
 
--- without comments both trees are the same
+-- without comments it is the same tree
 without_comments : {k : NodeKind} (t : Tree Shown k) → tree_map emptied (unled_tree t) ≡ tree_map emptied t
 without_comments (name_one x0) = refl
 without_comments (name_more x0 x1 x2) = refl
@@ -205,6 +206,7 @@ unled_yield (ors_more x0 x1 x2) = ap (λ z. z ++ (x1 ∷ yield x2)) (unled_yield
 unled_yield (plain_expr x0) = unled_yield x0
 unled_yield (if_expr x0 x1 x2 x3 x4 x5) = refl
 
+-- the first of its tokens has no leading lines, and the others are as before
 pub unled_tokens : {k : NodeKind} (t : Tree Shown k) (x : Shown) (xs : List Shown) → yield t ≡ x ∷ xs → yield (unled_tree t) ≡ unled x ∷ xs
 unled_tokens t x xs e = unled_yield t ∙ ap unled_first e
 
@@ -235,5 +237,6 @@ same_nodes (branch l f g) =
 tree_nodes : {k : NodeKind} (t : Tree Shown k) → nodes_of (parts kind_of_shown (tree_map emptied t)) ≡ nodes_of (parts kind_of_shown t)
 tree_nodes t = ap nodes_of (sym (parts_map emptied kind_of_shown kind_of_shown (λ a. refl) t)) ∙ same_nodes (parts kind_of_shown t)
 
+-- a node that stands for a tree stands for the tree without these lines
 pub unled_nodes : {k : NodeKind} (p : Erased) (t : Tree Shown k) → IsNodeOf p t → IsNodeOf p (unled_tree t)
 unled_nodes p t e = e ∙ sym (tree_nodes t) ∙ ap (λ z. nodes_of (parts kind_of_shown z)) (sym (without_comments t)) ∙ tree_nodes (unled_tree t)

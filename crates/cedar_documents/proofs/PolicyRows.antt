@@ -36,9 +36,11 @@ pub record Annotated (rest : List (Node Annotation)) (i : ℤ) (t : Clause Shown
   pub document : part_document i t ≡ docs_of docs · part_document i left
   pub reached : now ≡ (before ++ map emptied done) ++ (part_yield left ++ after)
 
+-- at the start
 pub none_annotated : (rest : List (Node Annotation)) (i : ℤ) (t : Clause Shown annotations) (before after now : List Shown) → IsPartOf (annotation_trees rest none) t → now ≡ before ++ (part_yield t ++ after) → Annotated rest i t [] before after now
 none_annotated rest i t before after now e s = record { left = t; done = []; trees = e; tokens = refl; document = refl; reached = s ∙ ap (λ z. z ++ (part_yield t ++ after)) (sym (append-nil before)) }
 
+-- one annotation more
 pub one_annotated : (n : Node Annotation) (rest : List (Node Annotation)) (i j : ℤ) → j ≡ i → (t : Clause Shown annotations) (docs new_docs : List Document) (d : Document) (before after now new : List Shown) → Annotated (n ∷ rest) i t docs before after now
     → ((a : Clause Shown annotation) → IsAt n.span (part_yield a) → IsPartOf (annotation_parts n.inner) a → Makes (doc_of d) (part_document j a) now new (part_yield a)) → new_docs ≡ docs ++ (d ∷ []) → Annotated rest i t new_docs before after new
 one_annotated n rest i j same t docs new_docs d before after now new h shows pushed = go h.left h.trees h.tokens h.document h.reached
@@ -58,6 +60,7 @@ one_annotated n rest i j same t docs new_docs d before after now new h shows pus
           reached = r.1 ∙ taken_more before h.done (part_yield a) (part_yield m ++ after);
         }
 
+-- behind the last annotation
 pub all_annotated : (rest : List (Node Annotation)) (i : ℤ) (t : Clause Shown annotations) (docs : List Document) (before after now : List Shown) → rest ≡ [] → Annotated rest i t docs before after now
     → (docs_of docs ≡ part_document i t) × (now ≡ (before ++ map emptied (part_yield t)) ++ after)
 all_annotated rest i t docs before after now is_empty h = go h.left (sym (ap (λ z. annotation_trees z none) is_empty) ∙ h.trees) h.tokens h.document h.reached
@@ -83,6 +86,7 @@ pub record Conditioned (rest : List (Node Cond)) (i : ℤ) (t : Clause Shown con
   pub document : part_document i t ≡ docs_of docs · still i docs left
   pub reached : now ≡ (before ++ map emptied done) ++ (part_yield left ++ after)
 
+-- at the start
 pub none_conditioned : (rest : List (Node Cond)) (i : ℤ) (t : Clause Shown conds) (before after now : List Shown) → IsPartOf (cond_trees rest none) t → now ≡ before ++ (part_yield t ++ after) → Conditioned rest i t [] before after now
 none_conditioned rest i t before after now e s = record { left = t; done = []; trees = e; tokens = refl; document = refl; reached = s ∙ ap (λ z. z ++ (part_yield t ++ after)) (sym (append-nil before)) }
 
@@ -116,6 +120,7 @@ one_more i docs new d a m e (further {mid = mid} b not_none is_hard was pushed) 
     ∙ ap (λ z. docs_of (mid ++ (d ∷ [])) · z) (sym (still_behind i mid d m))
     ∙ ap (λ z. docs_of z · still i z m) (sym pushed)
 
+-- one condition more
 pub one_conditioned : (n : Node Cond) (rest : List (Node Cond)) (i j : ℤ) → j ≡ i → (t : Clause Shown conds) (docs new_docs : List Document) (d : Document) (before after now new : List Shown) → Conditioned (n ∷ rest) i t docs before after now
     → ((a : Clause Shown cond) → IsAt n.span (part_yield a) → IsPartOf (cond_parts n.inner) a → Makes (doc_of d) (part_document j a) now new (part_yield a)) → Pushed docs d new_docs → Conditioned rest i t new_docs before after new
 one_conditioned n rest i j same t docs new_docs d before after now new h shows pushed = go h.left h.trees h.tokens h.document h.reached
@@ -139,6 +144,7 @@ nothing_still : (i : ℤ) (docs : List Document) → still i docs no_cond ≡ ni
 nothing_still i [] = refl
 nothing_still i (d ∷ ds) = refl
 
+-- behind the last condition
 pub all_conditioned : (rest : List (Node Cond)) (i : ℤ) (t : Clause Shown conds) (docs : List Document) (before after now : List Shown) → rest ≡ [] → Conditioned rest i t docs before after now
     → (docs_of docs ≡ part_document i t) × (now ≡ (before ++ map emptied (part_yield t)) ++ after)
 all_conditioned rest i t docs before after now is_empty h = go h.left (sym (ap (λ z. cond_trees z none) is_empty) ∙ h.trees) h.tokens h.document h.reached

@@ -47,6 +47,7 @@ in_front P (n ∷ xs) (conds_more a m) e h k = k (λ z. absurd cc)
 abbrev pub EndAt : ℕ → List Shown → Type 0
 EndAt p ts = (b : List Shown) → end_of_tokens (b ++ map emptied ts) ≡ p
 
+-- tokens in front of them change nothing
 pub ends_after : (p : ℕ) (us ts : List Shown) → EndAt p ts → EndAt p (us ++ ts)
 ends_after p us ts h b = ap end_of_tokens (ap (λ z. b ++ z) (map-append emptied us ts) ∙ sym (append_assoc b (map emptied us) (map emptied ts))) ∙ h (b ++ map emptied us)
 
@@ -54,6 +55,7 @@ ends_after p us ts h b = ap end_of_tokens (ap (λ z. b ++ z) (map-append emptied
 pub retold : {V : Type 0} {v d : V} {old new : List Shown} (P : List Shown → Type 0) (xs ys : List Shown) → xs ≡ ys → GivesIf P v d old new xs → GivesIf P v d old new ys
 retold {v = v} {d = d} {old = old} {new = new} P xs ys q h = subst (λ z. GivesIf P v d old new z) q h
 
+-- where one token ends
 pub one_end : (s : Span) (x : Shown) → IsAt s (x ∷ []) → x.span.end ≡ s.end
 one_end s x e = cc
 
@@ -62,6 +64,7 @@ pub scope_ends : (p : ℕ) (xs ys zs : List Shown) (c d : Shown) → EndAt p zs 
 scope_ends p xs ys zs c d h =
     ends_after p xs (c ∷ (ys ++ (d ∷ zs))) (ends_after p (c ∷ []) (ys ++ (d ∷ zs)) (ends_after p ys (d ∷ zs) (ends_after p (d ∷ []) zs h)))
 
+-- the tokens of a scope and those behind it
 pub scope_tokens : (xs ys zs us : List Shown) (c d : Shown) → (xs ++ (c ∷ (ys ++ (d ∷ zs)))) ++ us ≡ xs ++ (c ∷ (ys ++ (d ∷ (zs ++ us))))
 scope_tokens xs ys zs us c d = append_assoc xs (c ∷ (ys ++ (d ∷ zs))) us ∙ ap (λ z. xs ++ (c ∷ z)) (append_assoc ys (d ∷ zs) us)
 

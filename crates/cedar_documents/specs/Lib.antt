@@ -13,4 +13,3 @@ pub mod GrammarTrees
 pub mod Canonical
 pub mod Kept
 pub mod NodeDocuments
-pub mod PolicyDocuments

@@ -1,5 +1,5 @@
 -- The document of a node among the tokens of a context, and what making it does to them.
-use Rattle.std.specs.Prelude.{◌≡◌, ℕ, ℤ, List, [], ◌∷◌, ◌++◌, map, Option, Some, Result, IfOk, IsSomeAnd, codes}
+use Rattle.std.specs.Prelude.{◌≡◌, ◌&&◌, if◌then◌else◌, ℕ, ℤ, List, [], ◌∷◌, ◌++◌, map, Option, Some, Result, IfOk, IsSomeAnd, codes}
 use Rattle.cedar_tokens.specs.Listing.{Decorated}
 use Rattle.cedar_tokens.specs.Tokens.{token_text}
 use Rattle.cedar_tokens.specs.declared.token.Comment.{Comment}
@@ -7,9 +7,9 @@ use Rattle.cedar_tokens.specs.declared.token.Span.{Span}
 use Rattle.cedar_tokens.specs.declared.token.WrappedToken.{WrappedToken}
 use Rattle.cedar_grammar.specs.TokenKinds.{kind_of}
 use Rattle.cedar_grammar.specs.Trees.{Label, Forest, leaf, none}
-use Rattle.cedar_grammar.specs.TypedTrees.{NodeKind, Tree, PartKind, Clause, parts, part_parts, tree_map}
+use Rattle.cedar_grammar.specs.TypedTrees.{NodeKind, Tree, PartKind, Clause, expr, variable, parts, part_parts, tree_map, yield}
 use Rattle.cedar_grammar.specs.declared.kind.Kind.{Kind}
-use Rattle.cedar_layout.specs.Layout.{Doc}
+use Rattle.cedar_layout.specs.Layout.{Doc, ◌·◌, group, hard, nest}
 use Rattle.cedar_layout.specs.Lookups.{Shown, shown, emptied, comment_parts}
 use Rattle.cedar_layout.specs.Value.{doc_of}
 use Rattle.cedar_layout.specs.declared.layout.Document.{Document}
@@ -19,7 +19,7 @@ use Rattle.cedar_tree.specs.declared.tree.Cond.{Cond}
 use Rattle.cedar_tree.specs.declared.tree.VariableDef.{VariableDef}
 use Rattle.cedar_tree.specs.NodeTrees.{spanned, span_of}
 use Rattle.cedar_documents.specs.Leaves.{part_map}
-use Rattle.cedar_documents.specs.Table.{table, part_table}
+use Rattle.cedar_documents.specs.Table.{table, part_table, C, is_bare, lead_of, lines_of_first, space, unled}
 
 -- the source text of a token
 abbrev pub text_of : Shown → List ℕ
@@ -59,6 +59,17 @@ document i t = table i (tree_map as_leaf t)
 
 abbrev pub part_document : {k : PartKind} → ℤ → Clause Shown k → Doc
 part_document i t = part_table i (part_map as_leaf t)
+
+-- the document of an expression between braces: the leading lines of its first token, and then the rest
+abbrev pub body_document : ℤ → Tree Shown expr → Doc
+body_document i t = lead_of (lines_of_first (yield (tree_map as_leaf t))) · group (table i (unled (tree_map as_leaf t)))
+
+-- the document of a scope's variables, whose commas are c and d
+abbrev pub scope_document : ℤ → Clause Shown variable → Shown → Clause Shown variable → Shown → Clause Shown variable → Doc
+scope_document i p c a d r =
+    if is_bare (part_map as_leaf p) && is_bare (part_map as_leaf a) && is_bare (part_map as_leaf r)
+    then group (nest i (part_document i p · C (as_leaf c) space · part_document i a · C (as_leaf d) space · part_document i r))
+    else (nest i (hard · part_document i p · C (as_leaf c) hard · part_document i a · C (as_leaf d) hard · part_document i r) · hard)
 
 -- where the last of these tokens ends, or 0
 abbrev pub end_of_tokens : List Shown → ℕ

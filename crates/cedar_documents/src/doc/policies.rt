@@ -11,8 +11,7 @@ ghost use Rattle.cedar_layout.specs.Layout.{◌·◌, group, hard, line, nest, n
 ghost use Rattle.cedar_layout.specs.Lookups.{AreInOrder, Parts, Shown, comment_parts, emptied, shown};
 ghost use Rattle.cedar_layout.specs.Value.{doc_of};
 ghost use Rattle.cedar_documents.specs.Kept.{KeepsTokens};
-ghost use Rattle.cedar_documents.specs.NodeDocuments.{IsAt, IsNodeOf, IsPartOf, Shows, ShowsBehind, annotation_parts, as_leaf, cond_parts, part_document, text_of, variable_parts};
-ghost use Rattle.cedar_documents.specs.PolicyDocuments.{body_document, scope_document};
+ghost use Rattle.cedar_documents.specs.NodeDocuments.{IsAt, IsNodeOf, IsPartOf, Shows, ShowsBehind, annotation_parts, as_leaf, body_document, cond_parts, part_document, scope_document, text_of, variable_parts};
 ghost use Rattle.cedar_documents.specs.Table as table;
 
 use crate::config::Context;

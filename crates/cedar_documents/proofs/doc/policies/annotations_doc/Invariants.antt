@@ -14,5 +14,5 @@ invariant-loop-annotation l = record {
   kept : KeepsTokens l.fn.context.tokens.items l.context.tokens.items;
   config : l.context.config ≡ l.fn.context.config;
   shows : (t : Clause Shown annotations) (before after : List Shown) → IsPartOf (annotation_trees l.annotations none) t → map shown l.fn.context.tokens.items ≡ before ++ (part_yield t ++ after)
-    → Annotated (drop l.annotation-index l.annotations) l.fn.context.config.now.indent_width t l.docs.items before after (map shown l.context.tokens.items);
+      → Annotated (drop l.annotation-index l.annotations) l.fn.context.config.now.indent_width t l.docs.items before after (map shown l.context.tokens.items);
 }

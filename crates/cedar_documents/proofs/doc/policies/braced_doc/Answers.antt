@@ -1,4 +1,4 @@
-use Rattle.std.proofs.Common.{◌≡◌, [], ◌∷◌, ◌++◌, map, ap, ◌∙◌}
+use Rattle.std.proofs.Common.{◌≡◌, [], ◌∷◌, ◌++◌, map, ap, ◌∙◌, rules, w64}
 use Rattle.std.proofs.Common.{rules, w64}
 use Rattle.std.proofs.lemmas.Int.{to_z-of_z}
 use mir.Val.{SFits}
@@ -9,8 +9,7 @@ use Rattle.cedar_layout.specs.Layout.{Doc, ◌·◌, group, line, nest, text}
 use Rattle.cedar_layout.specs.Lookups.{shown, emptied, comment_parts}
 use Rattle.cedar_layout.specs.Value.{doc_of}
 use Rattle.cedar_layout.proofs.Values.{doc_of_line, doc_of_text}
-use Rattle.cedar_documents.specs.NodeDocuments.{text_of}
-use Rattle.cedar_documents.specs.PolicyDocuments.{body_document}
+use Rattle.cedar_documents.specs.NodeDocuments.{body_document, text_of}
 use Rattle.cedar_documents.proofs.Opened.{GivesIf, in_turn, freely, rewritten, nothing_behind, Always, Behind}
 use Rattle.cedar_documents.proofs.PolicyParts.{apart}
 use Rattle.cedar_documents.proofs.doc.policies.braced_doc.Goals as goal
@@ -20,12 +19,12 @@ returns-clause-shows c l t r is_left at e ends is_right =
     let i = c.args.context.now.config.now.indent_width in
     let fits : SFits w64 c.body_doc.new.context.config.now.indent_width = search rules in
     let nested : doc_of c.in_ok-inside-2.inside ≡ nest i (doc_of c.in_ok-inside.inside) =
-        c.in_ok-inside-2.ensures ∙ ap (λ z. nest z (doc_of c.in_ok-inside.inside)) (to_z-of_z w64 c.body_doc.new.context.config.now.indent_width fits ∙ ap (λ z. z.now.indent_width) (c.in_ok-body.ensures.config ∙ c.take_after-comment.ensures.config)) in
+    c.in_ok-inside-2.ensures ∙ ap (λ z. nest z (doc_of c.in_ok-inside.inside)) (to_z-of_z w64 c.body_doc.new.context.config.now.indent_width fits ∙ ap (λ z. z.now.indent_width) (c.in_ok-body.ensures.config ∙ c.take_after-comment.ensures.config)) in
     let brace : GivesIf (Behind c.args.before) (doc_of c.in_ok-lines.lines, doc_of c.in_ok-lines.behind) (lead_of l.comment.leading, trail_of l.comment.trailing line) (map shown c.args.context.now.tokens.items) (map shown c.take_after-comment.new.context.tokens.items) (l ∷ []) =
-        λ before after p s.
-        let h = apart (λ v. comment_parts v ≡ l.comment) (map shown c.take_after-comment.new.context.tokens.items ≡ (before ++ (emptied l ∷ [])) ++ after) c.take_after-comment.result (c.take_after-comment.ensures.taken before l after p s) in
-        let d = c.in_ok-lines.ensures l.comment h.0 in
-        (pair d.0 d.1, h.1) in
+    λ before after p s.
+    let h = apart (λ v. comment_parts v ≡ l.comment) (map shown c.take_after-comment.new.context.tokens.items ≡ (before ++ (emptied l ∷ [])) ++ after) c.take_after-comment.result (c.take_after-comment.ensures.taken before l after p s) in
+    let d = c.in_ok-lines.ensures l.comment h.0 in
+    (pair d.0 d.1, h.1) in
     let body = rewritten (yield t) (ap (λ z. body_document z.now.indent_width t) c.take_after-comment.ensures.config) (freely (yield t) (c.in_ok-body.ensures.shows t at e)) in
     let close = rewritten (r ∷ []) (nothing_behind r) (freely (r ∷ []) (c.in_ok-close.ensures.shows r ends is_right)) in
     let rest = in_turn (λ (a b : Doc). (a, b)) Always Always (yield t) (r ∷ []) body (λ b h. tt) close in

@@ -6,8 +6,7 @@ use Rattle.cedar_layout.specs.Comments.{lead_of, trail_of}
 use Rattle.cedar_layout.specs.Layout.{◌·◌, group, line, nest, text}
 use Rattle.cedar_layout.specs.Lookups.{Parts}
 use Rattle.cedar_layout.proofs.Values.{doc_of_line, doc_of_text}
-use Rattle.cedar_documents.specs.NodeDocuments.{as_leaf, kind_of_shown, text_of}
-use Rattle.cedar_documents.specs.PolicyDocuments.{body_document}
+use Rattle.cedar_documents.specs.NodeDocuments.{as_leaf, body_document, kind_of_shown, text_of}
 use Rattle.cedar_documents.specs.Table as table
 use Rattle.cedar_documents.proofs.Opened.{opened_leaf, opened_token, opened_tree, ends_here, in_turn, freely, rewritten, Always, Behind}
 use Rattle.cedar_documents.proofs.PolicyParts.{ends_with}
@@ -22,8 +21,8 @@ returns-clause-shows c (cond_of k l e r) at s =
     let u = opened_token _ _ r none q.2 in
     let word = freely (k ∷ []) (λ b a h. c.in_ok-comment.ensures.taken b k a o.0 h) in
     let body = rewritten (l ∷ yield e ++ r ∷ [])
-        (ap (λ z. table.lead (as_leaf l) · table.tok (as_leaf l) · group (nest z.now.indent_width (table.trail (as_leaf l) line · body_document z.now.indent_width e) · line · table.leaf (as_leaf r))) c.in_ok-comment.ensures.config)
-        (c.in_ok-body.ensures.shows l e r p.0 q.1 q.0 (ends_with c.args.span k (l ∷ yield e) r at) u.0) in
+    (ap (λ z. table.lead (as_leaf l) · table.tok (as_leaf l) · group (nest z.now.indent_width (table.trail (as_leaf l) line · body_document z.now.indent_width e) · line · table.leaf (as_leaf r))) c.in_ok-comment.ensures.config)
+    (c.in_ok-body.ensures.shows l e r p.0 q.1 q.0 (ends_with c.args.span k (l ∷ yield e) r at) u.0) in
     let all = in_turn (λ (x : Parts) d. lead_of x.leading · group (text (token_value (text_of k)) · trail_of x.trailing line · d)) Always (Behind span) (k ∷ []) (l ∷ yield e ++ r ∷ []) word (λ b h. ends_here span (k ∷ []) o.2 b) body in
     λ before after st. let w = all before after tt st in
     let is_word = o.1 in

@@ -14,5 +14,5 @@ invariant-loop-cond l = record {
   kept : KeepsTokens l.fn.context.tokens.items l.context.tokens.items;
   config : l.context.config ≡ l.fn.context.config;
   shows : (t : Clause Shown conds) (before after : List Shown) → IsPartOf (cond_trees l.conds none) t → map shown l.fn.context.tokens.items ≡ before ++ (part_yield t ++ after)
-    → Conditioned (drop l.cond-index l.conds) l.fn.context.config.now.indent_width t l.docs.items before after (map shown l.context.tokens.items);
+      → Conditioned (drop l.cond-index l.conds) l.fn.context.config.now.indent_width t l.docs.items before after (map shown l.context.tokens.items);
 }

@@ -7,8 +7,7 @@ use Rattle.cedar_layout.specs.Layout.{◌·◌, group, line, nil}
 use Rattle.cedar_layout.specs.Lookups.{shown}
 use Rattle.cedar_layout.specs.Value.{doc_of}
 use Rattle.cedar_layout.proofs.Values.{dot_assoc}
-use Rattle.cedar_documents.specs.NodeDocuments.{as_leaf, kind_of_shown, part_document}
-use Rattle.cedar_documents.specs.PolicyDocuments.{scope_document}
+use Rattle.cedar_documents.specs.NodeDocuments.{as_leaf, kind_of_shown, part_document, scope_document}
 use Rattle.cedar_documents.specs.Table as table
 use Rattle.cedar_documents.proofs.Opened.{GivesIf, opened, opened_leaf, opened_token, part_at, ends_here, in_turn, freely, rewritten, nothing_behind, Always, Behind}
 use Rattle.cedar_documents.proofs.WholePolicies.{annotations_apart, conds_apart, in_front, one_end, policy_ends, retold, scope_ends, scope_tokens}
@@ -35,7 +34,7 @@ returns-clause-shows x (policy_of ns e l p c a d r q cs s) at tree =
     let rest = conds_apart policy.conds.items cs _ _ s none right.1 in
     let last = opened_token _ _ s none rest.1 in
     let is_last : s.span.end ≡ x.args.span.end =
-        sym (policy_ends (part_yield ns) (part_yield p) (part_yield a) (part_yield r) (part_yield cs) e l c d q s []) ∙ ends_here x.args.span (part_yield (policy_of ns e l p c a d r q cs s)) at [] in
+    sym (policy_ends (part_yield ns) (part_yield p) (part_yield a) (part_yield r) (part_yield cs) e l c d q s []) ∙ ends_here x.args.span (part_yield (policy_of ns e l p c a d r q cs s)) at [] in
     let place = part_at r third.1 in
     -- the config stays
     let config = x.in_ok-head.ensures.config ∙ x.in_ok-annotations.ensures.config in
@@ -47,22 +46,22 @@ returns-clause-shows x (policy_of ns e l p c a d r q cs s) at tree =
     let head_gives = freely (e ∷ l ∷ []) (x.in_ok-head.ensures.shows e l word.0 (one_end policy.effect.span e word.2) word.1 left.0) in
     let listed = (part_yield p ++ (c ∷ part_yield a)) ++ (d ∷ part_yield r) in
     let scope_gives = rewritten variables (ap (λ z. scope_document z.now.indent_width p c a d r) config)
-        (retold Always listed variables (append_assoc (part_yield p) (c ∷ part_yield a) (d ∷ part_yield r)) (freely listed (x.in_ok-scope.ensures.shows p a r c d first.0 (part_at p first.1) second.0 (part_at a second.1) third.0 place comma.0 other.0))) in
+    (retold Always listed variables (append_assoc (part_yield p) (c ∷ part_yield a) (d ∷ part_yield r)) (freely listed (x.in_ok-scope.ensures.shows p a r c d first.0 (part_at p first.1) second.0 (part_at a second.1) third.0 place comma.0 other.0))) in
     let close_gives = in_front (λ w. GivesIf (Behind policy.variables.2.span) (doc_of x.in_ok-close.close) (table.C (as_leaf q) w) (map shown x.scope_doc.new.context.tokens.items) (map shown x.scope_end_doc.new.context.tokens.items) (q ∷ [])) policy.conds.items cs rest.0
-        (λ h. x.in_ok-close.ensures.shows_last h q right.0) (λ h. x.in_ok-close.ensures.shows h q right.0) in
+    (λ h. x.in_ok-close.ensures.shows_last h q right.0) (λ h. x.in_ok-close.ensures.shows h q right.0) in
     let conds_give = rewritten (part_yield cs) (ap (λ z. part_document z.now.indent_width cs) config_behind)
-        (freely (part_yield cs) (x.in_ok-conds.ensures.shows cs (ap (λ z. cond_trees z none) x.deref-2.ensures.value ∙ rest.0))) in
+    (freely (part_yield cs) (x.in_ok-conds.ensures.shows cs (ap (λ z. cond_trees z none) x.deref-2.ensures.value ∙ rest.0))) in
     let end_gives = rewritten (s ∷ []) (nothing_behind s) (freely (s ∷ []) (x.in_ok-end.ensures.shows s is_last last.0)) in
     -- one after the other
     let from_conds = in_turn (λ u v. u · v) Always Always (part_yield cs) (s ∷ []) conds_give (λ b h. tt) end_gives in
     let from_close = in_turn (λ u v. u · v) (Behind policy.variables.2.span) Always (q ∷ []) (part_yield cs ++ (s ∷ [])) close_gives (λ b h. tt) from_conds in
     let from_scope = in_turn (λ u v. u · v) Always (Behind policy.variables.2.span) variables (q ∷ (part_yield cs ++ (s ∷ []))) scope_gives
-        (λ b h. scope_ends policy.variables.2.span.end (part_yield p) (part_yield a) (part_yield r) c d (ends_here policy.variables.2.span (part_yield r) place) b) from_close in
+    (λ b h. scope_ends policy.variables.2.span.end (part_yield p) (part_yield a) (part_yield r) c d (ends_here policy.variables.2.span (part_yield r) place) b) from_close in
     let behind_head = part_yield p ++ (c ∷ (part_yield a ++ (d ∷ (part_yield r ++ (q ∷ (part_yield cs ++ (s ∷ []))))))) in
     let scope_on = retold Always (variables ++ (q ∷ (part_yield cs ++ (s ∷ [])))) behind_head (scope_tokens (part_yield p) (part_yield a) (part_yield r) (q ∷ (part_yield cs ++ (s ∷ []))) c d) from_scope in
     let from_head = rewritten (e ∷ l ∷ behind_head)
-        (dot_assoc (table.lead (as_leaf e)) (group (table.tok (as_leaf e) · table.trail (as_leaf e) nil · line · table.leaf (as_leaf l))) _)
-        (in_turn (λ u v. u · v) Always Always (e ∷ l ∷ []) behind_head head_gives (λ b h. tt) scope_on) in
+    (dot_assoc (table.lead (as_leaf e)) (group (table.tok (as_leaf e) · table.trail (as_leaf e) nil · line · table.leaf (as_leaf l))) _)
+    (in_turn (λ u v. u · v) Always Always (e ∷ l ∷ []) behind_head head_gives (λ b h. tt) scope_on) in
     let all = in_turn (λ u v. u · v) Always Always (part_yield ns) (e ∷ l ∷ behind_head) annotations_give (λ b h. tt) from_head in
     λ before after st. let w = all before after tt st in
     (rw (x.in_ok-append-4.ensures, x.in_ok-append-3.ensures, x.in_ok-append-2.ensures, x.in_ok-body.ensures, x.in_ok-append.ensures) w.0, w.1)
