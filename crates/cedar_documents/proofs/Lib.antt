@@ -44,3 +44,7 @@ pub mod Operands
 pub mod Relations
 pub mod Signs
 pub mod Accesses
+pub mod PolicyParts
+pub mod PolicyRows
+pub mod FirstToken
+pub mod WholePolicies

@@ -7,20 +7,20 @@ use Rattle.cedar_layout.proofs.Values.{atoms-dot}
 use Rattle.cedar_grammar.specs.TypedTrees.{Tree, NodeKind, accesses, yield, name_one, name_more, ref_of, args_one, args_more, init_of, inits_one, inits_more, literal, slot, reference, named, parens, list_empty, list_of, record_empty, record_of, no_access, field, call_empty, call, index, member_of, unsigned, signed, products_one, products_more, mult_of, sums_one, sums_more, add_of, single, compare, has_or_like, is_type, is_in, ands_one, ands_more, ors_one, ors_more, plain_expr, if_expr}
 use Rattle.cedar_documents.specs.Table.{table, leaf, lead_of, bare_token, unled, lines_of_first}
 
-abbrev pub NonEmpty : List Decorated → Type 0
+abbrev pub NonEmpty : {A : Type 0} → List A → Type 0
 NonEmpty [] = ⊥
 NonEmpty (x ∷ xs) = ⊤
 
-abbrev pub Starts : NodeKind → List Decorated → Type 0
+abbrev pub Starts : {A : Type 0} → NodeKind → List A → Type 0
 Starts accesses ys = ⊤
 Starts _ ys = NonEmpty ys
 
-nonempty_append : (xs ys : List Decorated) → NonEmpty xs → NonEmpty (xs ++ ys)
+nonempty_append : {A : Type 0} (xs ys : List A) → NonEmpty xs → NonEmpty (xs ++ ys)
 nonempty_append [] ys h = absurd h
 nonempty_append (x ∷ xs) ys h = tt
 
 -- every node but a list of accesses has a token
-pub starts : {k : NodeKind} (t : Tree Decorated k) → Starts k (yield t)
+pub starts : {A : Type 0} {k : NodeKind} (t : Tree A k) → Starts k (yield t)
 starts (name_one x0) = tt
 starts (name_more x0 x1 x2) = tt
 starts (ref_of x0 x1 x2) = nonempty_append (yield x0) (x1 ∷ x2 ∷ []) (starts x0)

@@ -12,7 +12,7 @@ use Rattle.cedar_grammar.proofs.RuleMaps.{relabel, relabel_join}
 use Rattle.cedar_documents.specs.Leaves.{part_map}
 
 module _ {A B : Type 0} (h : A → B) (kind : A → Kind) (kind' : B → Kind) (same : (a : A) → kind' (h a) ≡ kind a) where
-  parts_map : {k : NodeKind} (t : Tree A k) → relabel h (parts kind t) ≡ parts kind' (tree_map h t)
+  pub parts_map : {k : NodeKind} (t : Tree A k) → relabel h (parts kind t) ≡ parts kind' (tree_map h t)
   parts_map (name_one x) = refl
   parts_map (name_more x c r) = simp (parts_map r)
   parts_map (ref_of n c s) = simp (parts_map n)

@@ -7,7 +7,7 @@ use Rattle.cedar_tokens.specs.declared.token.Span.{Span}
 use Rattle.cedar_tokens.specs.declared.token.WrappedToken.{WrappedToken}
 use Rattle.cedar_grammar.specs.TokenKinds.{kind_of}
 use Rattle.cedar_grammar.specs.Trees.{Label, Forest, leaf, none}
-use Rattle.cedar_grammar.specs.TypedTrees.{NodeKind, Tree, PartKind, Clause, parts, part_parts, tree_map, yield, part_yield, add, variable}
+use Rattle.cedar_grammar.specs.TypedTrees.{NodeKind, Tree, PartKind, Clause, parts, part_parts, tree_map, yield, part_yield, add, variable, expr}
 use Rattle.cedar_grammar.specs.declared.kind.Kind.{Kind}
 use Rattle.cedar_layout.specs.Layout.{Doc, ◌·◌, group, hard, line, nest}
 use Rattle.cedar_layout.specs.Lookups.{Shown, shown, emptied, comment_parts}
@@ -21,7 +21,7 @@ use Rattle.cedar_tree.specs.declared.tree.Node.{Node}
 use Rattle.cedar_tree.specs.declared.tree.VariableDef.{VariableDef}
 use Rattle.cedar_tree.specs.NodeTrees.{spanned, span_of}
 use Rattle.cedar_documents.specs.Leaves.{part_map}
-use Rattle.cedar_documents.specs.Table.{table, part_table, C, is_bare, space}
+use Rattle.cedar_documents.specs.Table.{table, part_table, C, is_bare, space, lead_of, lines_of_first, unled}
 use Rattle.cedar_documents.specs.Table.{leaf as leaf_of}
 use Rattle.std.specs.declared.alloc.AllocError.{AllocError}
 use Rattle.cedar_documents.specs.Table as table
@@ -86,6 +86,10 @@ variables_document i next p c a d r = part_document i p · C (as_leaf c) next ·
 abbrev pub scope_document : ℤ → Clause Shown variable → Shown → Clause Shown variable → Shown → Clause Shown variable → Doc
 scope_document i p c a d r =
     if is_bare (part_map as_leaf p) && is_bare (part_map as_leaf a) && is_bare (part_map as_leaf r) then group (nest i (variables_document i space p c a d r)) else (nest i (hard · variables_document i hard p c a d r) · hard)
+
+-- the document of an expression between braces: the leading lines of its first token, and then the rest
+abbrev pub body_document : ℤ → Tree Shown expr → Doc
+body_document i t = lead_of (lines_of_first (yield (tree_map as_leaf t))) · group (table i (unled (tree_map as_leaf t)))
 
 -- where the last of these tokens ends, or 0
 abbrev pub end_of_tokens : List Shown → ℕ

@@ -576,20 +576,20 @@ pub(super) fn access_doc<'src>(
 fn call_doc<'src>(
     alloc: Global,
     is_empty: bool,
-    open: Document<'src>,
+    opening: Document<'src>,
     items: Document<'src>,
-    close: Document<'src>,
+    closing: Document<'src>,
     context: &Context<'_, 'src>,
 ) -> Result<Document<'src>, AllocError>
-    ensures empty { IsTrue is_empty → IfOk result (λ d. doc_of d ≡ doc_of open.entry · doc_of close.entry) }
-    ensures items { IsFalse is_empty → IfOk result (λ d. doc_of d ≡ doc_of open.entry · nest context.now.config.now.indent_width (line_or_nil · doc_of items.entry) · line_or_nil · doc_of close.entry) }
+    ensures empty { IsTrue is_empty → IfOk result (λ d. doc_of d ≡ doc_of opening.entry · doc_of closing.entry) }
+    ensures items { IsFalse is_empty → IfOk result (λ d. doc_of d ≡ doc_of opening.entry · nest context.now.config.now.indent_width (line_or_nil · doc_of items.entry) · line_or_nil · doc_of closing.entry) }
 {
     if is_empty {
-        return open.append(alloc, close);
+        return opening.append(alloc, closing);
     }
     let inside = indented(alloc, Document::LineOrNil.append(alloc, items)?, context)?;
-    let end = Document::LineOrNil.append(alloc, close)?;
-    open.append(alloc, inside.append(alloc, end)?)
+    let end = Document::LineOrNil.append(alloc, closing)?;
+    opening.append(alloc, inside.append(alloc, end)?)
 }
 
 // Expressions with commas and lines between them.

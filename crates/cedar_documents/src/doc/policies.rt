@@ -1,18 +1,18 @@
 //! The documents of policies, and of what stands in them outside expressions.
-ghost use Rattle.std.specs.Prelude.{◌≡◌, ◌++◌, ◌∷◌, [], List, map, None, Some, codes, IfOk, if◌then◌else◌, not};
+ghost use Rattle.std.specs.Prelude.{◌≡◌, ◌++◌, ◌∷◌, [], List, map, None, Some, codes, IfOk, if◌then◌else◌, not, ◌≢◌, ℕ, IsSomeAnd};
 ghost use Rattle.cedar_tokens.specs.Listing.{token_value};
 ghost use Rattle.cedar_tokens.specs.Tokens.{leading_lines, trailing_text};
 ghost use Rattle.cedar_grammar.specs.Trees.{none};
 ghost use Rattle.cedar_grammar.specs.TypedTrees.{Clause, Tree, part_yield, yield};
 ghost use Rattle.cedar_grammar.specs.TypedTrees as kind;
-ghost use Rattle.cedar_tree.specs.Erased.{add_parts, cond_trees, path_parts, relop_text};
+ghost use Rattle.cedar_tree.specs.Erased.{add_parts, cond_trees, path_parts, relop_text, annotation_trees, expr_parts, policy_parts};
 ghost use Rattle.cedar_layout.specs.Comments.{lead_of, space, trail_of};
-ghost use Rattle.cedar_layout.specs.Layout.{hard, nil};
-ghost use Rattle.cedar_layout.specs.Lookups.{AreInOrder, Shown, comment_parts, emptied, shown};
+ghost use Rattle.cedar_layout.specs.Layout.{hard, nil, ◌·◌, group, line, nest};
+ghost use Rattle.cedar_layout.specs.Lookups.{AreInOrder, Shown, comment_parts, emptied, shown, Parts};
 ghost use Rattle.cedar_layout.specs.Value.{doc_of};
 ghost use Rattle.cedar_documents.specs.Kept.{KeepsTokens};
 ghost use Rattle.cedar_documents.specs.Leaves.{part_map};
-ghost use Rattle.cedar_documents.specs.NodeDocuments.{IsAt, IsNodeOf, IsPartOf, Shows, ShowsBehind, as_leaf, compared_document, document, part_document, scope_document, span_before, text_of, variable_parts, variables_document};
+ghost use Rattle.cedar_documents.specs.NodeDocuments.{IsAt, IsNodeOf, IsPartOf, Shows, ShowsBehind, as_leaf, compared_document, document, part_document, scope_document, span_before, text_of, variable_parts, variables_document, annotation_parts, body_document, cond_parts};
 ghost use Rattle.cedar_documents.specs.Table as table;
 
 use crate::config::Context;
@@ -76,6 +76,7 @@ pub(super) fn policy_doc<'src>(
     ensures order { AreInOrder context.new.tokens.items }
     ensures kept { KeepsTokens context.old.tokens.items context.new.tokens.items }
     ensures config { context.new.config ≡ context.old.config }
+    ensures shows { (t : Clause Shown kind.policy) → IsAt span (part_yield t) → IsPartOf (policy_parts policy.now) t → Shows result context.old.tokens.items context.new.tokens.items (part_yield t) (part_document context.old.config.now.indent_width t) }
 {
     let annotations = annotations_doc(alloc, &policy.annotations, context)?;
     let head = head_doc(alloc, &policy.effect, context)?;
@@ -97,6 +98,7 @@ fn annotations_doc<'src>(
     ensures order { AreInOrder context.new.tokens.items }
     ensures kept { KeepsTokens context.old.tokens.items context.new.tokens.items }
     ensures config { context.new.config ≡ context.old.config }
+    ensures shows { (t : Clause Shown kind.annotations) → IsPartOf (annotation_trees annotations.now none) t → Shows result context.old.tokens.items context.new.tokens.items (part_yield t) (part_document context.old.config.now.indent_width t) }
 {
     let mut docs = Vec::new(alloc);
     for annotation in annotations {
@@ -116,6 +118,7 @@ pub(super) fn annotation_doc<'src>(
     ensures order { AreInOrder context.new.tokens.items }
     ensures kept { KeepsTokens context.old.tokens.items context.new.tokens.items }
     ensures config { context.new.config ≡ context.old.config }
+    ensures shows { (t : Clause Shown kind.annotation) → IsAt span (part_yield t) → IsPartOf (annotation_parts annotation.now) t → Shows result context.old.tokens.items context.new.tokens.items (part_yield t) (part_document context.old.config.now.indent_width t) }
 {
     let at = mark_at_start(alloc, "@", span, Document::Nil, context)?;
     let key = leaf_doc(alloc, annotation.key.inner.0, annotation.key.span, context)?;
@@ -138,6 +141,8 @@ fn annotation_value_doc<'src>(
     ensures order { AreInOrder context.new.tokens.items }
     ensures kept { KeepsTokens context.old.tokens.items context.new.tokens.items }
     ensures config { context.new.config ≡ context.old.config }
+    ensures shows { (l s r : Shown) → codes "(" ≡ token_value (text_of l) → s.span.start ≡ value.now.span.start → value.now.inner.0.now ≡ token_value (text_of s) → r.span.end ≡ span.end → codes ")" ≡ token_value (text_of r)
+        → ShowsBehind key.end result context.old.tokens.items context.new.tokens.items (l ∷ s ∷ r ∷ []) (table.leaf (as_leaf l) · table.leaf (as_leaf s) · table.C (as_leaf r) hard) }
 {
     let open = mark_after(alloc, "(", key, Document::Nil, context)?;
     let text = leaf_doc(alloc, value.inner.0, value.span, context)?;
@@ -155,6 +160,8 @@ fn head_doc<'src>(
     ensures order { AreInOrder context.new.tokens.items }
     ensures kept { KeepsTokens context.old.tokens.items context.new.tokens.items }
     ensures config { context.new.config ≡ context.old.config }
+    ensures shows { (e l : Shown) → e.span.start ≡ effect.now.span.start → e.span.end ≡ effect.now.span.end → effect.now.inner.0.now ≡ token_value (text_of e) → codes "(" ≡ token_value (text_of l)
+        → Shows result context.old.tokens.items context.new.tokens.items (e ∷ l ∷ []) (table.lead (as_leaf e) · group (table.tok (as_leaf e) · table.trail (as_leaf e) nil · line · table.leaf (as_leaf l))) }
 {
     let comment = word_comment(effect.span, context)?;
     let open = mark_after(alloc, "(", effect.span, Document::Nil, context)?;
@@ -392,6 +399,7 @@ fn conds_doc<'src>(
     ensures order { AreInOrder context.new.tokens.items }
     ensures kept { KeepsTokens context.old.tokens.items context.new.tokens.items }
     ensures config { context.new.config ≡ context.old.config }
+    ensures shows { (t : Clause Shown kind.conds) → IsPartOf (cond_trees conds.now none) t → Shows result context.old.tokens.items context.new.tokens.items (part_yield t) (part_document context.old.config.now.indent_width t) }
 {
     let mut docs = Vec::new(alloc);
     for cond in conds {
@@ -414,19 +422,19 @@ pub(super) fn cond_doc<'src>(
     ensures order { AreInOrder context.new.tokens.items }
     ensures kept { KeepsTokens context.old.tokens.items context.new.tokens.items }
     ensures config { context.new.config ≡ context.old.config }
+    ensures shows { (t : Clause Shown kind.cond) → IsAt span (part_yield t) → IsPartOf (cond_parts cond.now) t → Shows result context.old.tokens.items context.new.tokens.items (part_yield t) (part_document context.old.config.now.indent_width t) }
 {
     let comment = word_comment(cond.cond.span, context)?;
-    let open = take_after(cond.cond.span, context);
-    let body = braced_doc(alloc, open, &cond.expr, span, context)?;
+    let body = braced_doc(alloc, cond.cond.span, &cond.expr, span, context)?;
     let behind = trail(alloc, &comment, Document::Line)?.append(alloc, body)?;
     let whole = Document::Text(cond.cond.inner.0).append(alloc, behind)?;
     Ok(lead(alloc, &comment)?.append(alloc, whole.group(alloc)?)?)
 }
 
-// The leading lines of `{`, the brace, and a group of the expression and `}`.
+// The leading lines of `{`, the brace, which stands behind the span `before`, and a group of the expression and `}`.
 fn braced_doc<'src>(
     alloc: Global,
-    open: Option<Comment<'src>>,
+    before: Span,
     expr: &Node<Expr<'src>>,
     span: Span,
     context: &mut Context<'_, 'src>,
@@ -435,14 +443,11 @@ fn braced_doc<'src>(
     ensures order { AreInOrder context.new.tokens.items }
     ensures kept { KeepsTokens context.old.tokens.items context.new.tokens.items }
     ensures config { context.new.config ≡ context.old.config }
+    ensures shows { (l : Shown) (t : Tree Shown kind.expr) (r : Shown) → codes "{" ≡ token_value (text_of l) → IsAt expr.now.span (yield t) → IsNodeOf (expr_parts expr.now.inner) t → r.span.end ≡ span.end → codes "}" ≡ token_value (text_of r)
+        → ShowsBehind before.end result context.old.tokens.items context.new.tokens.items (l ∷ yield t ++ r ∷ []) (table.lead (as_leaf l) · table.tok (as_leaf l) · group (nest context.old.config.now.indent_width (table.trail (as_leaf l) line · body_document context.old.config.now.indent_width t) · line · table.leaf (as_leaf r))) }
 {
-    let (before, behind) = match &open {
-        Some(comment) => (
-            lead(alloc, comment)?,
-            trail(alloc, comment, Document::Line)?,
-        ),
-        None => (Document::Nil, Document::Line),
-    };
+    let comment = take_after(before, context);
+    let (lines, behind) = brace_comment(alloc, comment)?;
     let body = body_doc(alloc, expr, context)?;
     let inside = behind.append(alloc, body)?;
     let inside = inside.nest(alloc, context.config.indent_width)?;
@@ -450,7 +455,22 @@ fn braced_doc<'src>(
     let end = Document::Line.append(alloc, close)?;
     let inside = inside.append(alloc, end)?.group(alloc)?;
     let brace = Document::Text("{").append(alloc, inside)?;
-    Ok(before.append(alloc, brace)?)
+    Ok(lines.append(alloc, brace)?)
+}
+
+// The leading lines of a comment, and its trailing text or a line.
+fn brace_comment<'src>(
+    alloc: Global,
+    comment: Option<Comment<'src>>,
+) -> Result<(Document<'src>, Document<'src>), AllocError>
+    ensures { (parts : Parts) → IsSomeAnd comment.entry (λ c. comment_parts c ≡ parts) → IfOk result (λ d. (doc_of d.0 ≡ lead_of parts.leading) × (doc_of d.1 ≡ trail_of parts.trailing line)) }
+{
+    let Some(comment) = &comment else {
+        return Ok((Document::Nil, Document::Line));
+    };
+    let lines = lead(alloc, comment)?;
+    let behind = trail(alloc, comment, Document::Line)?;
+    Ok((lines, behind))
 }
 
 // The leading lines of an expression's first token, and then a group of the rest.
@@ -463,11 +483,23 @@ fn body_doc<'src>(
     ensures order { AreInOrder context.new.tokens.items }
     ensures kept { KeepsTokens context.old.tokens.items context.new.tokens.items }
     ensures config { context.new.config ≡ context.old.config }
+    ensures shows { (t : Tree Shown kind.expr) → IsAt expr.now.span (yield t) → IsNodeOf (expr_parts expr.now.inner) t → Shows result context.old.tokens.items context.new.tokens.items (yield t) (body_document context.old.config.now.indent_width t) }
 {
-    let lines = match take_lines_at_start(expr.span, context) {
-        Some(lines) => get_leading_comment_doc_from_str(alloc, &lines)?,
-        None => Document::Nil,
-    };
+    let taken = take_lines_at_start(expr.span, context);
+    let lines = lines_doc(alloc, taken)?;
     let body = expr_doc(alloc, &expr.inner, expr.span, context)?;
     Ok(lines.append(alloc, body.group(alloc)?)?)
+}
+
+// Leading lines, or nothing.
+fn lines_doc<'src>(
+    alloc: Global,
+    lines: Option<Vec<&'src str>>,
+) -> Result<Document<'src>, AllocError>
+    ensures { (texts : List (List ℕ)) → IsSomeAnd lines.entry (λ v. map (λ l. l.now) v.items ≡ texts) → IfOk result (λ d. doc_of d ≡ lead_of texts) }
+{
+    match lines {
+        Some(lines) => get_leading_comment_doc_from_str(alloc, &lines),
+        None => Ok(Document::Nil),
+    }
 }

@@ -1,0 +1,64 @@
+use Rattle.std.proofs.Common.{◌≡◌, [], ◌∷◌, ◌++◌, map, ap, refl, sym, ◌∙◌}
+use Rattle.cedar_grammar.specs.Trees.{Label, branch, join, leaf, none}
+use Rattle.cedar_grammar.specs.TypedTrees.{policy_of, part_parts, part_yield}
+use Rattle.cedar_tree.specs.Erased.{annotation_trees, cond_trees}
+use Rattle.cedar_layout.specs.Layout.{◌·◌, group, line, nil}
+use Rattle.cedar_layout.specs.Lookups.{shown}
+use Rattle.cedar_layout.specs.Value.{doc_of}
+use Rattle.cedar_layout.proofs.Values.{dot_assoc}
+use Rattle.cedar_documents.specs.NodeDocuments.{as_leaf, kind_of_shown, part_document, scope_document}
+use Rattle.cedar_documents.specs.Table as table
+use Rattle.cedar_documents.proofs.Opened.{opened, opened_leaf, opened_token, part_at, ends_here, in_turn, freely, rewritten, nothing_behind, Always, Behind}
+use Rattle.cedar_documents.proofs.WholePolicies.{annotations_apart, conds_apart, one_end, policy_ends, retold, scope_ends, scope_tokens}
+use Rattle.cedar_documents.proofs.doc.policies.policy_doc.Goals as goal
+
+pub returns-clause-shows : goal.returns-clause-shows
+returns-clause-shows x (policy_of ns e l p c a d r q cs s) at tree =
+    let policy = x.args.policy.now in
+    let old = map shown x.args.context.now.tokens.items in
+    -- what the tree tells
+    let behind_q = join (part_parts kind_of_shown cs) (leaf s none) in
+    let behind_d = branch Label.variable (part_parts kind_of_shown r) (leaf q behind_q) in
+    let behind_c = branch Label.variable (part_parts kind_of_shown a) (leaf d behind_d) in
+    let behind_l = branch Label.variable (part_parts kind_of_shown p) (leaf c behind_c) in
+    let o = annotations_apart policy.annotations.items ns _ _ _ (leaf e none) (leaf l behind_l) tree in
+    let word = opened_leaf Label.ident policy.effect.span _ _ e (leaf l behind_l) refl o.1 in
+    let left = opened_token _ _ l behind_l word.3 in
+    let first = opened Label.variable policy.variables.0.span _ _ (part_parts kind_of_shown p) (leaf c behind_c) refl left.1 in
+    let comma = opened_token _ _ c behind_c first.2 in
+    let second = opened Label.variable policy.variables.1.span _ _ (part_parts kind_of_shown a) (leaf d behind_d) refl comma.1 in
+    let other = opened_token _ _ d behind_d second.2 in
+    let third = opened Label.variable policy.variables.2.span _ _ (part_parts kind_of_shown r) (leaf q behind_q) refl other.1 in
+    let right = opened_token _ _ q behind_q third.2 in
+    let rest = conds_apart policy.conds.items cs _ _ s none right.1 in
+    let last = opened_token _ _ s none rest.1 in
+    let is_last : s.span.end ≡ x.args.span.end =
+    sym (policy_ends (part_yield ns) (part_yield p) (part_yield a) (part_yield r) (part_yield cs) e l c d q s []) ∙ ends_here x.args.span (part_yield (policy_of ns e l p c a d r q cs s)) at [] in
+    let place = part_at r third.1 in
+    -- the config stays
+    let config = x.in_ok-head.ensures.config ∙ x.in_ok-annotations.ensures.config in
+    let config_behind = x.in_ok-close.ensures.config ∙ (x.in_ok-scope.ensures.config ∙ config) in
+    -- what the calls give
+    let i = x.args.context.now.config.now.indent_width in
+    let variables = part_yield p ++ (c ∷ (part_yield a ++ (d ∷ part_yield r))) in
+    let annotations_give = freely (part_yield ns) (x.in_ok-annotations.ensures.shows ns (ap (λ z. annotation_trees z none) x.deref.ensures.value ∙ o.0)) in
+    let head_gives = freely (e ∷ l ∷ []) (x.in_ok-head.ensures.shows e l word.0 (one_end policy.effect.span e word.2) word.1 left.0) in
+    let scope_gives = rewritten variables (ap (λ z. scope_document z.now.indent_width p c a d r) config)
+    (freely variables (x.in_ok-scope.ensures.shows p a r c d first.0 (part_at p first.1) second.0 (part_at a second.1) third.0 place comma.0 other.0)) in
+    let close_gives = x.in_ok-close.ensures.shows q cs right.0 rest.0 in
+    let conds_give = rewritten (part_yield cs) (ap (λ z. part_document z.now.indent_width cs) config_behind)
+    (freely (part_yield cs) (x.in_ok-conds.ensures.shows cs (ap (λ z. cond_trees z none) x.deref-2.ensures.value ∙ rest.0))) in
+    let end_gives = rewritten (s ∷ []) (nothing_behind s) (freely (s ∷ []) (x.in_ok-end.ensures.shows s is_last last.0)) in
+    -- one after the other
+    let from_conds = in_turn (λ u v. u · v) Always Always (part_yield cs) (s ∷ []) conds_give (λ b h. tt) end_gives in
+    let from_close = in_turn (λ u v. u · v) (Behind policy.variables.2.span) Always (q ∷ []) (part_yield cs ++ (s ∷ [])) close_gives (λ b h. tt) from_conds in
+    let from_scope = in_turn (λ u v. u · v) Always (Behind policy.variables.2.span) variables (q ∷ (part_yield cs ++ (s ∷ []))) scope_gives
+    (λ b h. scope_ends policy.variables.2.span.end (part_yield p) (part_yield a) (part_yield r) c d (ends_here policy.variables.2.span (part_yield r) place) b) from_close in
+    let behind_head = part_yield p ++ (c ∷ (part_yield a ++ (d ∷ (part_yield r ++ (q ∷ (part_yield cs ++ (s ∷ []))))))) in
+    let scope_on = retold Always (variables ++ (q ∷ (part_yield cs ++ (s ∷ [])))) behind_head (scope_tokens (part_yield p) (part_yield a) (part_yield r) (q ∷ (part_yield cs ++ (s ∷ []))) c d) from_scope in
+    let from_head = rewritten (e ∷ l ∷ behind_head)
+    (dot_assoc (table.lead (as_leaf e)) (group (table.tok (as_leaf e) · table.trail (as_leaf e) nil · line · table.leaf (as_leaf l))) _)
+    (in_turn (λ u v. u · v) Always Always (e ∷ l ∷ []) behind_head head_gives (λ b h. tt) scope_on) in
+    let all = in_turn (λ u v. u · v) Always Always (part_yield ns) (e ∷ l ∷ behind_head) annotations_give (λ b h. tt) from_head in
+    λ before after st. let w = all before after tt st in
+    (rw (x.in_ok-append-4.ensures, x.in_ok-append-3.ensures, x.in_ok-append-2.ensures, x.in_ok-body.ensures, x.in_ok-append.ensures) w.0, w.1)
