@@ -2,3 +2,4 @@ pub mod Refused
 pub mod Texts
 pub mod Devices
 pub mod Written
+pub mod Compared

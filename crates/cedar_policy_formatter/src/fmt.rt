@@ -1,5 +1,5 @@
 //! Formatting of whole texts.
-ghost use Rattle.std.specs.Prelude.{◌≡◌, ◌++◌, ◌∷◌, List, map, IfOk, IfErr, OnOk, MatchResult, string_bytes};
+ghost use Rattle.std.specs.Prelude.{◌≡◌, ◌↔◌, IsTrue, ◌++◌, ◌∷◌, List, map, IfOk, IfErr, OnOk, MatchResult, string_bytes};
 ghost use Rattle.std.specs.List.{flat_map};
 ghost use Rattle.cedar_tokens.specs.Tokens.{comments_left};
 ghost use Rattle.cedar_tree.specs.Erased as erased;
@@ -11,6 +11,7 @@ ghost use Rattle.cedar_layout.specs.Lookups.{AreInOrder, Shown, emptied, shown};
 ghost use Rattle.cedar_documents.specs.Canonical.{IsOutputOf};
 ghost use Rattle.cedar_documents.specs.NodeDocuments.{IsAt, IsPartOf, kind_of_shown, nodes_of};
 ghost use Rattle.cedar_documents.specs.Output.{closing_text};
+ghost use Rattle.cedar_policy_formatter.specs.Compared.{HaveEqualLists};
 ghost use Rattle.cedar_policy_formatter.specs.Written.{IsPolicyText, AreJoined, IsParted, IsPlainStream};
 ghost use Rattle.cedar_documents.specs.Kept.{KeepsTokens};
 ghost use Rattle.cedar_policy_formatter.specs.Refused.{IsOwn, RefusesText, RefusesOne};
@@ -30,7 +31,7 @@ pub use cedar_documents::laws::{
 };
 use cedar_layout::layout::render;
 use cedar_layout::utils::remove_empty_lines;
-use cedar_tokens::lexer::{drop_trailing_commas, get_token_stream};
+use cedar_tokens::lexer::{drop_trailing_commas, get_token_stream, listing_is_unique};
 use cedar_tokens::token::{Comments, WrappedToken};
 use std::alloc::{AllocError, Global};
 
@@ -84,8 +85,11 @@ pub fn soundness_check(alloc: Global, ps: &str, tree: &Policies<'_>) -> Result<(
 /// Whether `ps` is as `policies_str_to_pretty` lays it out. Only an accepted text gets an answer; every other is refused as
 /// there.
 pub fn is_formatted(alloc: Global, ps: &str, config: &Config) -> Result<bool, FormatError>
-    ensures { MatchResult result (λ _. Accepted ps.now) (RefusesText ps.now) }
+    ensures answer { MatchResult result (λ _. Accepted ps.now) (RefusesText ps.now) }
+    ensures output { IfOk result (λ r. IsTrue r ↔ IsOutputOf config.now.line_width config.now.indent_width ps.now ps.now) }
 {
+    outputs_are_canonical();
+    listing_is_unique();
     let text = policies_str_to_pretty(alloc, ps, config)?;
     Ok(text.as_str() == ps)
 }
@@ -93,8 +97,11 @@ pub fn is_formatted(alloc: Global, ps: &str, config: &Config) -> Result<bool, Fo
 /// Whether `a` and `b` are laid out alike. Only accepted texts get an answer. A refusal of `a` is answered before one of
 /// `b`.
 pub fn same_layout(alloc: Global, a: &str, b: &str, config: &Config) -> Result<bool, FormatError>
-    ensures { MatchResult result (λ _. Accepted a.now × Accepted b.now) (RefusesOne a.now b.now) }
+    ensures answer { MatchResult result (λ _. Accepted a.now × Accepted b.now) (RefusesOne a.now b.now) }
+    ensures lists { IfOk result (λ r. IsTrue r ↔ HaveEqualLists a.now b.now) }
 {
+    outputs_are_canonical();
+    listing_is_unique();
     let first = policies_str_to_pretty(alloc, a, config)?;
     let second = policies_str_to_pretty(alloc, b, config)?;
     Ok(first.as_str() == second.as_str())

@@ -1,0 +1,11 @@
+use Rattle.std.proofs.Common.{◌≡◌, subst}
+use Rattle.std.specs.Prelude.{◌↔◌, IsTrue, string_bytes}
+use Rattle.std.proofs.lemmas.Bool.Decides.{Decides-eqb}
+use Rattle.std.proofs.lemmas.Slice.Eq.{slice_eq-Decides}
+use Rattle.cedar_policy_formatter.proofs.Comparisons.{layouts_tell}
+use Rattle.cedar_policy_formatter.proofs.fmt.same_layout.Goals as goal
+
+pub returns-clause-lists : goal.returns-clause-lists
+returns-clause-lists c = layouts_tell c.outputs_are_canonical.ensures.equal c.listing_is_unique.ensures c.args.config.now.line_width c.args.config.now.indent_width c.args.a.now c.args.b.now (string_bytes c.in_ok-first.first) (string_bytes c.in_ok-second.second) c.eq.result c.utf8.a c.utf8.b
+    c.in_ok-first.ensures.output c.in_ok-second.ensures.output
+    (subst (λ z. IsTrue c.eq.result ↔ (string_bytes c.in_ok-first.first ≡ z)) c.as_str-2.ensures.value (subst (λ z. IsTrue c.eq.result ↔ (z ≡ c.as_str-2.result.now)) c.as_str.ensures.value (slice_eq-Decides Decides-eqb c.as_str.result.now c.as_str-2.result.now c.eq.result c.eq.ensures)))
