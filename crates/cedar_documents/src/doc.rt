@@ -38,7 +38,9 @@ pub trait Doc<'src> {
     /// That this part is made of these tokens, and what its document is at an indentation.
     ghost is_shown: { Self → ℤ → List Shown → layout.Doc → Type 0 };
 
-    /// The document of this part.
+    /// The document of this part: the one that the table has for it and its tokens, with the comments that the context
+    /// holds at entry. Afterwards these tokens have no comments, and every other token is as before. This is said of a part
+    /// whose own tokens stand side by side among the context's (`is_shown`), as those of a part of a text do.
     ///
     /// `None` where an identifier, a string, a literal or a slot in it has no token that starts where it does, or where
     /// the number of tokens between the start of signs and their member isn't the number of these signs. It is never so

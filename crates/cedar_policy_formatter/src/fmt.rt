@@ -41,8 +41,9 @@ pub use stream::{RunFault, Watched, format_stream};
 
 /// The policies `ps`, laid out.
 ///
-/// Trailing commas are dropped, leading zeros of numbers too; every comment is kept in its place. The result is a text of
-/// the same policies: it is accepted, and its tree is that of `ps` but for spans. A text that isn't accepted is refused as
+/// Trailing commas are dropped, leading zeros of numbers too; every comment is kept in its place. The result is the written
+/// layout of the list of `ps` without trailing commas, at the width and the indentation of `config`. It is accepted, and its
+/// tree is that of `ps` but for spans. A text that isn't accepted is refused as
 /// `cst::parse_policies` refuses it, with the same reason at the same place; only an accepted one could be refused
 /// otherwise, and then as `NoDocument` or `Unsound`.
 pub fn policies_str_to_pretty(
@@ -82,7 +83,7 @@ pub fn soundness_check(alloc: Global, ps: &str, tree: &Policies<'_>) -> Result<(
     }
 }
 
-/// Whether `ps` is as `policies_str_to_pretty` lays it out. Only an accepted text gets an answer; every other is refused as
+/// Whether `ps` is as `policies_str_to_pretty` lays it out: it is its own output. Only an accepted text gets an answer; every other is refused as
 /// there.
 pub fn is_formatted(alloc: Global, ps: &str, config: &Config) -> Result<bool, FormatError>
     ensures answer { MatchResult result (λ _. Accepted ps.now) (RefusesText ps.now) }
@@ -94,7 +95,7 @@ pub fn is_formatted(alloc: Global, ps: &str, config: &Config) -> Result<bool, Fo
     Ok(text.as_str() == ps)
 }
 
-/// Whether `a` and `b` are laid out alike. Only accepted texts get an answer. A refusal of `a` is answered before one of
+/// Whether `a` and `b` are laid out alike: their lists without trailing commas are equal by value. Only accepted texts get an answer. A refusal of `a` is answered before one of
 /// `b`.
 pub fn same_layout(alloc: Global, a: &str, b: &str, config: &Config) -> Result<bool, FormatError>
     ensures answer { MatchResult result (λ _. Accepted a.now × Accepted b.now) (RefusesOne a.now b.now) }
