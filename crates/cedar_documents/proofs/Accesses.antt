@@ -27,43 +27,8 @@ use Rattle.cedar_documents.specs.Breaks.{Access, dotted, called, indexed, form_o
 use Rattle.cedar_documents.specs.NodeDocuments.{IsAt, IsNodeOf, nodes_of, text_of, as_leaf, kind_of_shown, document}
 use Rattle.cedar_documents.specs.Table.{C, table, break_after_field, break_after_other}
 use Rattle.cedar_documents.specs.Table as table
+use Rattle.cedar_documents.proofs.LastTokens.{closed, ends_with}
 use Rattle.cedar_documents.proofs.Opened.{opened, opened_token, opened_leaf, starts_here, in_turn, freely, rewritten, nothing_behind, Always, GivesIf}
-
--- ---- the last leaf of a row
-
-not_none : (g : Erased) (b : List ℕ) → none ≡ join g (leaf b none) → ⊥
-not_none none b e = absurd cc
-not_none (leaf a g) b e = absurd cc
-not_none (branch l f g) b e = absurd cc
-
--- equal rows have the same last leaf, and the rest is the same
-pub without_last : (f g : Erased) (a b : List ℕ) → join f (leaf a none) ≡ join g (leaf b none) → (f ≡ g) × (a ≡ b)
-without_last none none a b e = (refl, cc)
-without_last none (leaf c g) a b e = absurd (not_none g b cc)
-without_last none (branch l h g) a b e = absurd cc
-without_last (leaf c f) none a b e = absurd (not_none f a cc)
-without_last (leaf c f) (leaf d g) a b e = let r = without_last f g a b cc in let q = r.0 in (cc, r.1)
-without_last (leaf c f) (branch l h g) a b e = absurd cc
-without_last (branch l h f) none a b e = absurd cc
-without_last (branch l h f) (leaf c g) a b e = absurd cc
-without_last (branch l h f) (branch k i g) a b e = let r = without_last f g a b cc in let q = r.0 in (cc, r.1)
-
-nodes_joined : (f g : Forest Label Shown) → nodes_of (join f g) ≡ join (nodes_of f) (nodes_of g)
-nodes_joined none g = refl
-nodes_joined (leaf t f) g = ap (leaf (token_value (text_of t))) (nodes_joined f g)
-nodes_joined (branch l f h) g = ap (λ z. join (nodes_of (branch l f none)) z) (nodes_joined h g)
-
--- a row of nodes before its last token, and that token's text
-pub opened_row : (f : Erased) (a : List ℕ) (g : Forest Label Shown) (x : Shown) → join f (leaf a none) ≡ nodes_of (join g (leaf x none)) → (f ≡ nodes_of g) × (a ≡ token_value (text_of x))
-opened_row f a g x e = without_last f (nodes_of g) a (token_value (text_of x)) (e ∙ nodes_joined g (leaf x none))
-
-last_of : (s : Span) (ys : List Shown) (r : Shown) → end_of text_of (λ t. t.span) s (ys ++ r ∷ []) ≡ r.span.end
-last_of s [] r = refl
-last_of s (y ∷ ys) r = last_of y.span ys r
-
--- a span ends where its last token does
-pub ends_with : (s : Span) (x : Shown) (ys : List Shown) (r : Shown) → IsAt s (x ∷ (ys ++ r ∷ [])) → r.span.end ≡ s.end
-ends_with s x ys r e = let h : end_of text_of (λ t. t.span) x.span (ys ++ r ∷ []) ≡ s.end = cc in sym (last_of x.span ys r) ∙ h
 
 -- ---- the first access and the others
 
@@ -317,7 +282,7 @@ call_shown i (call_empty l y m) span [] old mid next new left items right made e
 call_shown i (call l a y m) span (n ∷ ns) old mid next new left items right made empty e f none_shown items_shown g is_empty no_items some =
     let o = opened Label.access span _ none (leaf l (join (parts kind_of_shown a) (leaf y none))) (parts kind_of_shown m) refl e in
     let p = opened_token (codes "(") _ l (join (parts kind_of_shown a) (leaf y none)) o.0 in
-    let q = opened_row (item_trees Label.expr expr_parts (n ∷ ns)) (codes ")") (parts kind_of_shown a) y p.1 in
+    let q = closed (item_trees Label.expr expr_parts (n ∷ ns)) (codes ")") (parts kind_of_shown a) y p.1 in
     let at : IsAt span (l ∷ (yield a ++ y ∷ [])) = subst (λ z. IsAt span (l ∷ z)) (yield_join (parts kind_of_shown a) (leaf y none) ∙ ap (λ z. z ++ y ∷ []) (typed_leaves kind_of_shown a)) o.1 in
     let between = in_turn (λ a b. nest i (line_or_nil · a) · line_or_nil · b) Always Always (yield a) (y ∷ []) (freely (yield a) (items_shown a q.0)) (λ b j. tt) (mark y (g y (ends_with span l (yield a) y at) q.1)) in
     let all = in_turn (λ a b. a · b) Always Always (l ∷ []) (yield a ++ y ∷ []) (mark l (f l (starts_here span l (yield a ++ y ∷ []) at) p.0)) (λ b j. tt) between in

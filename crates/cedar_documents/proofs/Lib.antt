@@ -32,6 +32,7 @@ pub mod Keeping
 pub mod Focus
 pub mod Marks
 pub mod Opened
+pub mod LastTokens
 pub mod Names
 pub mod ShownTrees
 pub mod StreamTrees

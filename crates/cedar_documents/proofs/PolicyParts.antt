@@ -16,14 +16,6 @@ behind_token p x e [] = e
 behind_token p x e (y ∷ []) = e
 behind_token p x e (y ∷ (z ∷ b)) = behind_token p x e (z ∷ b)
 
--- where the last of these tokens ends
-pub ends_with : (s : Span) (x : Shown) (ts : List Shown) (r : Shown) → IsAt s (x ∷ (ts ++ (r ∷ []))) → r.span.end ≡ s.end
-ends_with s x ts r e = sym (last x.span ts) ∙ cc
-  where
-    last : (p : Span) (ts : List Shown) → end_of text_of (λ t. t.span) p (ts ++ (r ∷ [])) ≡ r.span.end
-    last p [] = refl
-    last p (t ∷ ts) = last t.span ts
-
 -- no token is no part
 pub no_token : (x : Shown) (g : Forest Label Shown) → ◌≡◌ {A = Erased} forest.none (nodes_of (leaf x g)) → ⊥
 no_token x g e = absurd cc

@@ -28,37 +28,7 @@ use Rattle.cedar_tree.proofs.Views.{view_list, view_record}
 use Rattle.cedar_documents.specs.NodeDocuments.{nodes_of, text_of, kind_of_shown, IsAt}
 use Rattle.cedar_documents.proofs.Opened.{starts_here, in_turn, GivesIf, Always}
 
--- ---- the last bracket
-
-never_empty : (X : Erased) (s : List ℕ) → join X (leaf s none) ≡ none → ⊥
-never_empty none s e = cc
-never_empty (leaf a X) s e = cc
-never_empty (branch l Y X) s e = cc
-
-never_nodes : (f : Forest Label Shown) (r : Shown) → none ≡ nodes_of (join f (leaf r none)) → ⊥
-never_nodes none r e = cc
-never_nodes (leaf a f) r e = cc
-never_nodes (branch l g f) r e = cc
-
--- trees in a row before a bracket, and the bracket's text
-pub closed : (X : Erased) (s : List ℕ) (f : Forest Label Shown) (r : Shown) → join X (leaf s none) ≡ nodes_of (join f (leaf r none)) → (X ≡ nodes_of f) × (s ≡ token_value (text_of r))
-closed none s none r e = (refl, cc)
-closed none s (leaf a f) r e = absurd (never_nodes f r cc)
-closed none s (branch l g f) r e = absurd cc
-closed (leaf a X) s none r e = absurd (never_empty X s cc)
-closed (leaf a X) s (leaf b f) r e = let h = closed X s f r cc in let i = h.0 in (cc, h.1)
-closed (leaf a X) s (branch l g f) r e = absurd cc
-closed (branch m Y X) s none r e = absurd cc
-closed (branch m Y X) s (leaf b f) r e = absurd cc
-closed (branch m Y X) s (branch l g f) r e = let h = closed X s f r cc in let i = h.0 in (cc, h.1)
-
-last_of : (p : Span) (ts : List Shown) (r : Shown) → end_of text_of (λ t. t.span) p (ts ++ (r ∷ [])) ≡ r.span.end
-last_of p [] r = refl
-last_of p (t ∷ ts) r = last_of t.span ts r
-
--- the last token ends where the span does
-pub ends_with : (s : Span) (l : Shown) (ts : List Shown) (r : Shown) → IsAt s (l ∷ (ts ++ (r ∷ []))) → r.span.end ≡ s.end
-ends_with s l ts r e = let h : end_of text_of (λ t. t.span) l.span (ts ++ (r ∷ [])) ≡ s.end = cc in sym (last_of l.span ts r) ∙ h
+-- ---- brackets
 
 -- a bracket, what is inside, and a bracket, put together in any way
 pub in_brackets : {V W X Y : Type 0} {a u : V} {b v : W} {c w : X} {o m n p : List Shown} (F : V → W → X → Y) (l : Shown) (ts : List Shown) (r : Shown)

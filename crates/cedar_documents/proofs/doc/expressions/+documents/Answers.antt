@@ -17,7 +17,8 @@ use Rattle.cedar_documents.specs.NodeDocuments.{IsAt, kind_of_shown, as_leaf, do
 use Rattle.cedar_documents.specs.Table as table
 use Rattle.cedar_documents.proofs.Opened.{opened_tree, opened_token, opened_leaf, opened_variant, starts_here, ends_here, in_turn, freely, rewritten, nothing_behind, Always, Behind}
 use Rattle.cedar_documents.proofs.Commas.{next_item, no_item, all_args, all_inits, from_index, none_from, some_at, pushed_two}
-use Rattle.cedar_documents.proofs.Primaries.{closed, ends_with, in_brackets, no_items, some_inits, tests_empty, tests_full, opened_literal, seen_literal, seen_slot, seen_ref, seen_name, seen_brackets, seen_list, seen_record, seen_plain, seen_if, no_leaf, no_branch, three_lines}
+use Rattle.cedar_documents.proofs.LastTokens.{closed, ends_with}
+use Rattle.cedar_documents.proofs.Primaries.{in_brackets, no_items, some_inits, tests_empty, tests_full, opened_literal, seen_literal, seen_slot, seen_ref, seen_name, seen_brackets, seen_list, seen_record, seen_plain, seen_if, no_leaf, no_branch, three_lines}
 use Rattle.cedar_documents.proofs.doc.expressions.+documents.Goals as goal
 use Rattle.cedar_tree.specs.declared.tree.Expr.TheViews.{out-Add, out-Mult, out-Or, out-Unary}
 use Rattle.cedar_tree.proofs.Views.{add_items, and_items, mult_items, relation_items, view_call}

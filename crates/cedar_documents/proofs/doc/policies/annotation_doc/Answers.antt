@@ -9,7 +9,8 @@ use Rattle.cedar_layout.proofs.Values.{doc_of_hard}
 use Rattle.cedar_documents.specs.NodeDocuments.{as_leaf}
 use Rattle.cedar_documents.specs.Table as table
 use Rattle.cedar_documents.proofs.Opened.{GivesIf, opened_token, opened_leaf, starts_here, ends_here, in_turn, freely, rewritten, nothing_behind, Always, Behind}
-use Rattle.cedar_documents.proofs.PolicyParts.{ends_with, no_part, no_token, nothing_more}
+use Rattle.cedar_documents.proofs.LastTokens.{ends_with}
+use Rattle.cedar_documents.proofs.PolicyParts.{no_part, no_token, nothing_more}
 use Rattle.cedar_documents.proofs.doc.policies.annotation_doc.Goals.{in-Some+in_ok-end-in-Some, in-None}
 use Rattle.cedar_documents.proofs.doc.policies.annotation_doc.Goals as goal
 
