@@ -6,7 +6,7 @@ use Rattle.std.proofs.lemmas.Bool.{false≢true}
 use Rattle.std.proofs.lemmas.List.{append_assoc, append-nil, map-append, at_drop_more, at_drop_all}
 use Rattle.cedar_tokens.specs.Listing.{token_value}
 use Rattle.cedar_tokens.specs.declared.token.Span.{Span}
-use Rattle.cedar_grammar.specs.Trees.{Label, Forest, leaf, branch, join, none}
+use Rattle.cedar_grammar.specs.Trees.{Label, leaf, branch, join, none}
 use Rattle.cedar_grammar.specs.TypedTrees.{NodeKind, Tree, primary, accesses, args, member_of, no_access, field, call_empty, call, index, args_one, args_more, parts, yield, tree_map}
 use Rattle.cedar_grammar.proofs.LanguageLaws.{yield_join}
 use Rattle.cedar_grammar.proofs.TreeLaws.{typed_leaves}
@@ -19,7 +19,6 @@ use Rattle.cedar_layout.proofs.Values.{dot_assoc, dot-nil, docs_of-push}
 use mathlib.Core.Former.{Count}
 use Rattle.cedar_tree.specs.Erased.{Erased, node, expr_parts, expr_items, access_parts}
 use Rattle.cedar_tree.specs.NodeLists.{item_trees, access_items}
-use Rattle.cedar_tree.specs.NodeTrees.{end_of}
 use Rattle.cedar_tree.specs.declared.tree.Node.{Node}
 use Rattle.cedar_tree.specs.declared.tree.MemAccess as MemAccess
 use Rattle.cedar_tree.specs.declared.tree.Expr as Expr

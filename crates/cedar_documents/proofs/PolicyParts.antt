@@ -1,13 +1,11 @@
 -- What the parts of policies tell of their tokens.
-use Rattle.std.proofs.Common.{◌≡◌, ℕ, List, [], ◌∷◌, ◌++◌, map, refl, ap, sym, ◌∙◌, append-nil, Option, Some, None}
+use Rattle.std.proofs.Common.{◌≡◌, ℕ, List, [], ◌∷◌, ◌++◌, map, ap, sym, ◌∙◌, append-nil, Option, Some, None}
 use Rattle.std.specs.Prelude.{IsSomeAnd}
-use Rattle.cedar_tokens.specs.declared.token.Span.{Span}
 use Rattle.cedar_grammar.specs.Trees.{Label, Forest, leaf, branch}
 use Rattle.cedar_grammar.specs.Trees as forest
 use Rattle.cedar_layout.specs.Lookups.{Shown, emptied}
 use Rattle.cedar_tree.specs.Erased.{Erased}
-use Rattle.cedar_tree.specs.NodeTrees.{end_of}
-use Rattle.cedar_documents.specs.NodeDocuments.{IsAt, end_of_tokens, nodes_of, text_of}
+use Rattle.cedar_documents.specs.NodeDocuments.{end_of_tokens, nodes_of}
 use Rattle.cedar_documents.proofs.Opened.{GivesIf}
 
 -- behind one token, with its comments or without them

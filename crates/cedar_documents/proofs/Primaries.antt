@@ -14,7 +14,7 @@ use Rattle.cedar_layout.specs.Layout.{Doc, nil, line, nest, group, ◌·◌}
 use Rattle.cedar_layout.specs.Lookups.{Shown}
 use Rattle.cedar_tree.specs.Erased.{Erased, node, variant, expr_parts, or_parts, primary_parts, ref_tree, name_tree, variant_label, literal_text, slot_text}
 use Rattle.cedar_tree.specs.NodeLists.{init_parts, item_trees}
-use Rattle.cedar_tree.specs.NodeTrees.{is_node, span_of, end_of}
+use Rattle.cedar_tree.specs.NodeTrees.{is_node, span_of}
 use Rattle.cedar_tree.specs.declared.tree.Node.{Node}
 use Rattle.cedar_tree.specs.declared.tree.Literal.{Literal}
 use Rattle.cedar_tree.specs.declared.tree.Name.{Name}
@@ -25,7 +25,7 @@ use Rattle.cedar_tree.specs.declared.tree.RecInit as RecInit
 use Rattle.cedar_tree.specs.declared.tree.Or as Or
 use Rattle.cedar_tree.specs.declared.tree.Expr as Expr
 use Rattle.cedar_tree.proofs.Views.{view_list, view_record}
-use Rattle.cedar_documents.specs.NodeDocuments.{nodes_of, text_of, kind_of_shown, IsAt}
+use Rattle.cedar_documents.specs.NodeDocuments.{nodes_of, text_of, kind_of_shown}
 use Rattle.cedar_documents.proofs.Opened.{starts_here, in_turn, GivesIf, Always}
 
 -- ---- brackets

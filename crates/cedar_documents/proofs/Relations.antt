@@ -1,5 +1,5 @@
 -- Relations: one operand, or two parts with a sign between them, the second part made behind the first.
-use Rattle.std.proofs.Common.{◌≡◌, codes, ℕ, ℤ, List, [], ◌∷◌, ◌++◌, map, Option, Some, None, Result, Ok, Err, refl, sym, ap, ◌∙◌, subst, rules}
+use Rattle.std.proofs.Common.{◌≡◌, codes, ℕ, ℤ, List, ◌∷◌, ◌++◌, map, Option, Some, None, Result, Ok, Err, refl, sym, ap, ◌∙◌, subst, rules}
 use Rattle.std.specs.Prelude.{IfOk, if◌then◌else◌}
 use Rattle.std.proofs.lemmas.List.{append_assoc, map-append}
 use Rattle.cedar_tokens.specs.Listing.{token_value}

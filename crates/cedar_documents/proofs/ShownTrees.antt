@@ -1,12 +1,11 @@
 -- The typed policies whose leaves are a context's tokens.
-use Rattle.std.proofs.Common.{◌≡◌, ℕ, List, [], ◌∷◌, ◌++◌, map, Bool, true, false, Option, Some, None, refl, sym, ap, ◌∙◌, subst, append-nil}
+use Rattle.std.proofs.Common.{◌≡◌, List, [], ◌∷◌, map, Some, None, refl, sym, ap, ◌∙◌, subst, append-nil}
 use Rattle.std.specs.Prelude.{if◌then◌else◌}
-use Rattle.std.specs.List.{AllByRecursion, flat_map}
-use Rattle.cedar_tokens.specs.Listing.{Decorated, token_value}
+use Rattle.std.specs.List.{flat_map}
+use Rattle.cedar_tokens.specs.Listing.{token_value}
 use Rattle.cedar_tokens.specs.declared.token.Span.{Span}
 use Rattle.cedar_grammar.specs.Trees.{Label, Forest, none, leaf, branch, yield}
 use Rattle.cedar_grammar.specs.Grammar.{G}
-use Rattle.cedar_grammar.specs.Laws.{kind_of_decorated}
 use Rattle.cedar_grammar.specs.Texts.{greatest_depth}
 use Rattle.cedar_grammar.specs.Placed.{Placed, kind_of_placed}
 use Rattle.cedar_grammar.specs.TrailingCommas.{plain, without_trailing}
@@ -17,11 +16,10 @@ use Rattle.cedar_grammar.proofs.RuleMaps.{each, relabel, answer_of, set_agrees}
 use Rattle.cedar_grammar.proofs.WholeLaws.{set_sound, set_complete}
 use Rattle.cedar_grammar.proofs.TreeLaws.{list_has_one_tree, every_tree_is_typed, typed_leaves_agree}
 use Rattle.cedar_grammar.proofs.PlainGrammar.{plain_is_in_the_grammar}
-use Rattle.cedar_grammar.proofs.Relabelling.{relabelled, relabel_yield, plain_each, each_map}
+use Rattle.cedar_grammar.proofs.Relabelling.{relabel_yield, each_map}
 use Rattle.cedar_layout.specs.Lookups.{Shown}
-use Rattle.cedar_tree.specs.Erased.{Erased}
 use Rattle.cedar_tree.specs.NodeTrees.{is_node, spanned, span_of, end_of}
-use Rattle.cedar_documents.specs.NodeDocuments.{text_of, kind_of_shown, as_leaf, nodes_of}
+use Rattle.cedar_documents.specs.NodeDocuments.{text_of, kind_of_shown, nodes_of}
 
 -- a token's text and its place
 abbrev pub place_of : Shown → Placed

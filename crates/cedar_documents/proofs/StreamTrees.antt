@@ -1,7 +1,7 @@
 -- The typed policies of a text over the tokens that its stream gives once trailing commas are dropped.
-use Rattle.std.proofs.Common.{◌≡◌, ℕ, ◌+◌, None, List, [], ◌∷◌, ◌++◌, map, length, Bool, true, false, refl, sym, ap, ◌∙◌, subst}
+use Rattle.std.proofs.Common.{◌≡◌, ℕ, None, List, [], ◌∷◌, ◌++◌, map, length, Bool, true, false, refl, sym, ap, ◌∙◌, subst}
 use Rattle.std.specs.Prelude.{if◌then◌else◌, ◌&&◌}
-use Rattle.std.specs.List.{AllByRecursion, flat_map}
+use Rattle.std.specs.List.{flat_map}
 use Rattle.std.specs.Str.{IsUtf8}
 use Rattle.std.proofs.lemmas.List.{map-append}
 use Rattle.cedar_tokens.specs.Split.{SplitsInto}
@@ -13,9 +13,9 @@ use Rattle.cedar_tokens.specs.declared.token.Span.{Span}
 use Rattle.cedar_tokens.specs.declared.token.Token.{Token}
 use Rattle.cedar_tokens.specs.declared.token.WrappedToken.{WrappedToken}
 use Rattle.cedar_tokens.proofs.Scanning.{split_unique}
-use Rattle.cedar_grammar.specs.Trees.{Label, Forest, none, leaf, branch}
+use Rattle.cedar_grammar.specs.Trees.{Label, none, branch}
 use Rattle.cedar_grammar.specs.declared.kind.Kind.TheVariants as K
-use Rattle.cedar_grammar.specs.Kinds.{is, is_closing, begins}
+use Rattle.cedar_grammar.specs.Kinds.{is, is_closing}
 use Rattle.cedar_grammar.specs.TokenKinds.{kind_of}
 use Rattle.cedar_grammar.specs.Grammar.{G}
 use Rattle.cedar_grammar.specs.Laws.{kind_of_decorated}
@@ -23,7 +23,7 @@ use Rattle.cedar_grammar.specs.Texts.{greatest_depth, tokens}
 use Rattle.cedar_grammar.specs.Placed.{Placed, placed, with_places, kind_of_placed}
 use Rattle.cedar_grammar.specs.TrailingCommas.{plain, drop_if, without_trailing}
 use Rattle.cedar_grammar.specs.TypedTrees.{Clause, policy, set_tree, policy_trees, part_yield}
-use Rattle.cedar_grammar.proofs.RuleMaps.{each, relabel}
+use Rattle.cedar_grammar.proofs.RuleMaps.{relabel}
 use Rattle.cedar_grammar.proofs.PlainGrammar.{plain_is_in_the_grammar}
 use Rattle.cedar_grammar.proofs.CommaPairs.{plain_is_plain}
 use Rattle.cedar_grammar.proofs.TextKinds.{trailing_agrees}
@@ -32,7 +32,7 @@ use Rattle.cedar_grammar.proofs.Relabelling.{relabelled, plain_each, each_map, m
 use Rattle.cedar_layout.specs.Lookups.{Shown, shown}
 use Rattle.cedar_tree.specs.Erased.{erase}
 use Rattle.cedar_tree.specs.Erased as erased
-use Rattle.cedar_tree.specs.NodeTrees.{IsTreeOf, spanned}
+use Rattle.cedar_tree.specs.NodeTrees.{IsTreeOf}
 use Rattle.cedar_tree.specs.declared.tree.Policies.{Policies}
 use Rattle.cedar_documents.specs.GrammarTrees.{IsTree}
 use Rattle.cedar_documents.specs.Leaves.{part_map}
@@ -43,7 +43,7 @@ use Rattle.cedar_documents.proofs.FittingTrees.{AllTokens}
 use Rattle.cedar_documents.proofs.GoodLists.{every_list_good, plain_list_good}
 use Rattle.cedar_documents.proofs.Grammatical.{plain_of_length, map_length, good_tokens}
 use Rattle.cedar_documents.proofs.Relabelled.{set_tree_map, without_map}
-use Rattle.cedar_documents.proofs.ShownTrees.{TypedOver, typed_over, place_of}
+use Rattle.cedar_documents.proofs.ShownTrees.{typed_over, place_of}
 
 -- ---- the tokens with their places
 

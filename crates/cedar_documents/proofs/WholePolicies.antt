@@ -1,18 +1,15 @@
 -- What the tree of a policy tells of its parts.
-use Rattle.std.proofs.Common.{◌≡◌, ◌≢◌, ℕ, List, [], ◌∷◌, ◌++◌, map, Option, refl, ap, sym, ◌∙◌, subst}
+use Rattle.std.proofs.Common.{◌≡◌, ℕ, List, [], ◌∷◌, ◌++◌, map, Option, refl, ap, sym, ◌∙◌, subst}
 use Rattle.std.proofs.lemmas.List.{append_assoc, map-append}
 use Rattle.cedar_tokens.specs.declared.token.Span.{Span}
 use Rattle.cedar_grammar.specs.Trees.{Label, Forest, none, leaf, branch, join}
 use Rattle.cedar_grammar.specs.TypedTrees.{Clause, annotations, annotations_more, conds, conds_more, no_annotation, no_cond, part_parts}
-use Rattle.cedar_layout.specs.Layout.{Doc, hard, nil}
 use Rattle.cedar_layout.specs.Lookups.{Shown, emptied}
 use Rattle.cedar_tree.specs.Erased.{Erased, annotation_trees, cond_trees}
 use Rattle.cedar_tree.specs.declared.tree.Annotation.{Annotation}
 use Rattle.cedar_tree.specs.declared.tree.Cond.{Cond}
 use Rattle.cedar_tree.specs.declared.tree.Node.{Node}
-use Rattle.cedar_documents.specs.Leaves.{part_map}
-use Rattle.cedar_documents.specs.NodeDocuments.{IsAt, as_leaf, end_of_tokens, kind_of_shown, nodes_of}
-use Rattle.cedar_documents.specs.Table.{between_conds}
+use Rattle.cedar_documents.specs.NodeDocuments.{IsAt, end_of_tokens, kind_of_shown, nodes_of}
 use Rattle.cedar_documents.proofs.Opened.{GivesIf}
 use Rattle.cedar_documents.proofs.PolicyParts.{behind_token}
 

@@ -1,6 +1,6 @@
 use Rattle.std.proofs.Common.{rules, ◌+◌, ap, sym, subst, ◌∙◌, ◌∷◌, [], drop, get_or, drop-cons, add-one, map}
 use Rattle.std.proofs.lemmas.List.{drop_all}
-use Rattle.cedar_layout.proofs.Values.{docs_of-push, doc_of_seq, dot_assoc}
+use Rattle.cedar_layout.proofs.Values.{docs_of-push, doc_of_seq}
 use Rattle.cedar_layout.specs.Layout.{◌·◌}
 use Rattle.cedar_layout.specs.Lookups.{shown}
 use Rattle.cedar_layout.specs.Value.{doc_of, docs_of}

@@ -4,7 +4,6 @@ use Rattle.cedar_grammar.specs.TypedTrees.{policy_of, part_parts, part_yield}
 use Rattle.cedar_tree.specs.Erased.{annotation_trees, cond_trees}
 use Rattle.cedar_layout.specs.Layout.{◌·◌, group, line, nil}
 use Rattle.cedar_layout.specs.Lookups.{shown}
-use Rattle.cedar_layout.specs.Value.{doc_of}
 use Rattle.cedar_layout.proofs.Values.{dot_assoc}
 use Rattle.cedar_documents.specs.NodeDocuments.{as_leaf, kind_of_shown, part_document, scope_document}
 use Rattle.cedar_documents.specs.Table as table
