@@ -39,7 +39,7 @@ use Rattle.cedar_documents.proofs.Relabelled.{set_tree_map, without_map}
 
 -- ---- kinds of values
 
-value_kind : (u : List ℕ) → kind_of (token_value u) ≡ kind_of u
+pub value_kind : (u : List ℕ) → kind_of (token_value u) ≡ kind_of u
 value_kind u = go (is_number u) refl
   where
     numbered : (u : List ℕ) → is_number u ≡ true → kind_of (without_zeros u) ≡ kind_of u

@@ -10,12 +10,8 @@ use Rattle.cedar_tree.specs.declared.error.FormatError.TheVariants.{OutOfMemory}
 use Rattle.cedar_tree.specs.declared.tree.Policies.{Policies}
 use Rattle.cedar_policy_formatter.specs.Texts.{IsTextOf, KeptPoliciesHaveTheSameTokens}
 
--- a text that is refused is one of no policies
-pub refused_is_of_none : AcceptedIsNotRefused → TreeIsOfAccepted → (text : List ℕ) (tree : Policies) (e : FormatError) → e ≢ OutOfMemory → Refuses text e → ¬ (IsTextOf text tree)
-refused_is_of_none not_refused accepted text tree e other r (p, t, same) = not_refused text e (accepted text p t) other r
-
 -- spans are no leaves
-leaves_without_spans : (f : Erased) → yield (without_spans f) ≡ yield f
+pub leaves_without_spans : (f : Erased) → yield (without_spans f) ≡ yield f
 leaves_without_spans none = refl
 leaves_without_spans (leaf t f) = ap (λ z. t ∷ z) (leaves_without_spans f)
 leaves_without_spans (branch l f g) = ap (λ z. z ++ yield (without_spans g)) (leaves_without_spans f) ∙ ap (λ z. yield f ++ z) (leaves_without_spans g)

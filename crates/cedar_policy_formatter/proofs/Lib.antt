@@ -1,3 +1,4 @@
 pub mod Checked
 pub mod Outputs
 pub mod Comparisons
+pub mod SamePolicies

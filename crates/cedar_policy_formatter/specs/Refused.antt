@@ -5,17 +5,16 @@ use Rattle.cedar_tree.specs.Refusals.{Refuses}
 use Rattle.cedar_tree.specs.declared.error.FormatError.{FormatError}
 use Rattle.cedar_tree.specs.declared.error.FormatError.TheVariants.{NoDocument, Unsound, OutOfMemory}
 
--- a reason of the formatter's own: no document, a result of other policies, or no memory
+-- a reason of the formatter's own: no document, or no memory
 abbrev pub IsOwn : FormatError → Type 0
 IsOwn NoDocument = ⊤
-IsOwn Unsound = ⊤
 IsOwn OutOfMemory = ⊤
 IsOwn e = ⊥
 
--- exactly as the parser refuses it; or, for a reason of the formatter's own, though it is accepted
+-- exactly as the parser refuses it; or for want of a document, though it is accepted
 abbrev pub RefusesText : List ℕ → FormatError → Type 0
 RefusesText text NoDocument = Accepted text
-RefusesText text Unsound = Accepted text
+RefusesText text Unsound = ⊥
 RefusesText text e = Refuses text e
 
 -- of two texts, the first is refused; or the first is accepted, and the second is refused

@@ -1,5 +1,6 @@
 -- Texts of given policies.
-use Rattle.std.specs.Prelude.{◌≡◌, ℕ, List, map, ⊤}
+use Rattle.std.specs.Prelude.{◌≡◌, ◌⊎◌, ℕ, List, map, ⊤}
+use Rattle.cedar_grammar.specs.Texts.{Accepted}
 use Rattle.cedar_tokens.specs.Listing.{IsListing, Listing, token_value}
 use Rattle.cedar_tokens.specs.PlainList.{plain_list}
 use Rattle.cedar_tree.specs.declared.error.FormatError.{FormatError}
@@ -16,9 +17,9 @@ IsTextOf text tree = (p : Policies) × IsTreeOf text p × SameTree p tree
 abbrev pub KeepsPolicies : List ℕ → List ℕ → Type 0
 KeepsPolicies old new = (p : Policies) × IsTreeOf old p × IsTextOf new p
 
--- why a check fails: `Unsound` only where the text is not one of these policies
+-- why a check fails: `Unsound` only where the text is not accepted, or its tree of nodes is another one
 abbrev pub FailsCheck : List ℕ → Policies → FormatError → Type 0
-FailsCheck text tree Unsound = ¬ (IsTextOf text tree)
+FailsCheck text tree Unsound = ¬ (Accepted text) ⊎ ((p : Policies) × IsTreeOf text p × ¬ (SameTree p tree))
 FailsCheck text tree OutOfMemory = ⊤
 FailsCheck text tree e = ⊥
 

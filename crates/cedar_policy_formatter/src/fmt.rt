@@ -19,7 +19,6 @@ ghost use Rattle.cedar_policy_formatter.specs.Texts.{IsTextOf, KeepsPolicies, Fa
 
 use cedar_cst::cst::laws::{
     accepted_is_not_refused, nodes_have_the_plain_texts, tree_is_of_accepted,
-    tree_of_nodes_is_unique,
 };
 use cedar_cst::cst::{FormatError, Node, Policies, Policy, parse_policies, same_tree};
 use cedar_documents::config::{Config, Context};
@@ -45,7 +44,7 @@ pub use stream::{RunFault, Watched, format_stream};
 /// layout of the list of `ps` without trailing commas, at the width and the indentation of `config`. It is accepted, and its
 /// tree is that of `ps` but for spans. A text that isn't accepted is refused as
 /// `cst::parse_policies` refuses it, with the same reason at the same place; only an accepted one could be refused
-/// otherwise, and then as `NoDocument` or `Unsound`.
+/// otherwise, and then as `NoDocument`.
 pub fn policies_str_to_pretty(
     alloc: Global,
     ps: &str,
@@ -56,6 +55,8 @@ pub fn policies_str_to_pretty(
     ensures output { IfOk result (λ out. IsOutputOf config.now.line_width config.now.indent_width ps.now (string_bytes out)) }
 {
     tree_is_of_accepted();
+    nodes_have_the_plain_texts();
+    outputs_are_canonical();
     let tree = parse_policies(alloc, ps)?;
     let text = lay_out(alloc, ps, &tree, config)?;
     soundness_check(alloc, text.as_str(), &tree)?;
@@ -63,13 +64,11 @@ pub fn policies_str_to_pretty(
 }
 
 /// Whether `ps` is a text of these policies: it is accepted, and its tree is this one but for spans. `Unsound` is answered
-/// only where it is not, and else there is only want of memory.
+/// only where it isn't accepted or its tree is another one, and else there is only want of memory.
 pub fn soundness_check(alloc: Global, ps: &str, tree: &Policies<'_>) -> Result<(), FormatError>
     ensures { MatchResult result (λ _. IsTextOf ps.now tree.now) (FailsCheck ps.now tree.now) }
 {
-    tree_of_nodes_is_unique();
     accepted_is_not_refused();
-    tree_is_of_accepted();
     match parse_policies(alloc, ps) {
         Ok(other) => {
             if same_tree(&other, tree) {
