@@ -24,8 +24,8 @@ use Rattle.cedar_tree.specs.declared.tree.MemAccess as MemAccess
 use Rattle.cedar_tree.specs.declared.tree.Expr as Expr
 use Rattle.cedar_documents.specs.Breaks.{Access, dotted, called, indexed, form_of, form_in, breaks, break_if}
 use Rattle.cedar_documents.specs.NodeDocuments.{IsAt, IsNodeOf, nodes_of, text_of, as_leaf, kind_of_shown, document}
-use Rattle.cedar_documents.specs.Table.{C, table, break_after_field, break_after_other}
-use Rattle.cedar_documents.specs.Table as table
+use Rattle.cedar_canonical.specs.Table.{C, table, break_after_field, break_after_other}
+use Rattle.cedar_canonical.specs.Table as table
 use Rattle.cedar_documents.proofs.LastTokens.{closed, ends_with}
 use Rattle.cedar_documents.proofs.Opened.{opened, opened_token, opened_leaf, starts_here, in_turn, freely, rewritten, nothing_behind, Always, GivesIf}
 

@@ -11,7 +11,7 @@ use Rattle.cedar_layout.specs.Lookups.{Shown}
 use Rattle.cedar_layout.specs.declared.layout.Document.{Document}
 use Rattle.cedar_tree.specs.Erased.{Erased}
 use Rattle.cedar_documents.specs.NodeDocuments.{IsAt, IsNodeOf, IsPartOf, IsNodeWith, IsPartWith, IsRowWith, IsLeafWith, Shows, ShowsPart, document, part_document, as_leaf, text_of}
-use Rattle.cedar_documents.specs.Table as table
+use Rattle.cedar_canonical.specs.Table as table
 use Rattle.cedar_documents.specs.declared.doc.NoDocument.{NoDocument}
 
 -- what is answered, where a document was made and where none was

@@ -16,8 +16,8 @@ use Rattle.cedar_tree.specs.Erased.{Erased}
 use Rattle.cedar_tree.specs.NodeLists.{operand_trees}
 use Rattle.cedar_tree.specs.NodeTrees.{is_node}
 use Rattle.cedar_tree.specs.declared.tree.Node.{Node}
-use Rattle.cedar_documents.specs.Table.{C}
-use Rattle.cedar_documents.specs.Table as table
+use Rattle.cedar_canonical.specs.Table.{C}
+use Rattle.cedar_canonical.specs.Table as table
 use Rattle.cedar_documents.specs.NodeDocuments.{IsAt, IsNodeOf, as_leaf, document, end_of_tokens, kind_of_shown, nodes_of, text_of}
 use Rattle.cedar_documents.proofs.Opened.{Always, Behind, GivesIf, ends_here, in_turn, opened_token, opened_tree}
 

@@ -17,7 +17,7 @@ use Rattle.cedar_tree.specs.NodeTrees.{is_node}
 use Rattle.cedar_tree.specs.declared.tree.Node.{Node}
 use Rattle.cedar_tree.specs.declared.tree.Expr as Expr
 use Rattle.cedar_tree.specs.declared.tree.RecInit as RecInit
-use Rattle.cedar_documents.specs.Table as table
+use Rattle.cedar_canonical.specs.Table as table
 use Rattle.cedar_documents.specs.NodeDocuments.{as_leaf, nodes_of, text_of, kind_of_shown, end_of_tokens, IsAt, document}
 use Rattle.cedar_documents.proofs.Opened.{opened_tree, opened_token, ends_here}
 

@@ -10,7 +10,7 @@ use Rattle.cedar_layout.specs.Lookups.{Parts, Shown, comment_parts}
 use Rattle.cedar_layout.specs.Value.{doc_of}
 use Rattle.cedar_layout.specs.declared.layout.Document.{Document}
 use Rattle.cedar_documents.specs.NodeDocuments.{as_leaf, text_of}
-use Rattle.cedar_documents.specs.Table.{C}
+use Rattle.cedar_canonical.specs.Table.{C}
 
 -- the document of a token whose comment was handed out
 pub marked : {E : Type 0} (r : Option Comment) (m : Result Document E) (mid expected : List Shown) (t : Shown) (txt : List ℕ) (next : Doc) → txt ≡ token_value (text_of t) → IsSomeAnd r (λ c. (comment_parts c ≡ t.comment) × (mid ≡ expected))

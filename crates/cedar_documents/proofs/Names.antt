@@ -14,7 +14,7 @@ use Rattle.cedar_tree.specs.Erased.{path_parts}
 use Rattle.cedar_tree.specs.declared.tree.Ident.{Ident}
 use Rattle.cedar_tree.specs.declared.tree.Node.{Node}
 use Rattle.cedar_documents.specs.NodeDocuments.{IsNodeOf, kind_of_shown, as_leaf, document, text_of}
-use Rattle.cedar_documents.specs.Table as table
+use Rattle.cedar_canonical.specs.Table as table
 use Rattle.cedar_documents.proofs.Opened.{GivesIf, Always, Behind, opened_leaf, opened_token, ends_here, in_turn}
 
 -- what is shown so far, and the words that are left, with the tokens that are theirs

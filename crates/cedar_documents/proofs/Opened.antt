@@ -14,8 +14,8 @@ use Rattle.cedar_tree.specs.NodeTrees.{is_node, span_of, end_of}
 use Rattle.cedar_layout.specs.Value.{doc_of}
 use Rattle.cedar_layout.proofs.Values.{doc_of_nil}
 use Rattle.cedar_layout.specs.declared.layout.Document.TheVariants.{Nil as Nil'}
-use Rattle.cedar_documents.specs.Table.{C}
-use Rattle.cedar_documents.specs.Table as table
+use Rattle.cedar_canonical.specs.Table.{C}
+use Rattle.cedar_canonical.specs.Table as table
 use Rattle.cedar_documents.specs.NodeDocuments.{as_leaf, nodes_of, text_of, kind_of_shown, end_of_tokens, IsAt}
 
 -- a node's parts, its span, and the trees behind it

@@ -12,8 +12,8 @@ use Rattle.cedar_tree.specs.Erased.{Erased, annotation_trees, cond_trees}
 use Rattle.cedar_tree.specs.declared.tree.Annotation.{Annotation}
 use Rattle.cedar_tree.specs.declared.tree.Cond.{Cond}
 use Rattle.cedar_tree.specs.declared.tree.Node.{Node}
-use Rattle.cedar_documents.specs.Leaves.{part_map}
-use Rattle.cedar_documents.specs.Table.{between_conds}
+use Rattle.cedar_canonical.specs.Leaves.{part_map}
+use Rattle.cedar_canonical.specs.Table.{between_conds}
 use Rattle.cedar_documents.specs.NodeDocuments.{IsAt, IsPartOf, annotation_parts, as_leaf, cond_parts, kind_of_shown, nodes_of, part_document}
 use Rattle.cedar_documents.proofs.Opened.{opened, part_at}
 

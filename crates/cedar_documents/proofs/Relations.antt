@@ -20,7 +20,7 @@ use Rattle.cedar_tree.specs.declared.tree.Node.{Node}
 use Rattle.cedar_tree.specs.declared.tree.Or as Or
 use Rattle.cedar_tree.specs.declared.tree.Relation as Relation
 use Rattle.cedar_tree.specs.declared.tree.RelOp.{RelOp}
-use Rattle.cedar_documents.specs.Table as table
+use Rattle.cedar_canonical.specs.Table as table
 use Rattle.cedar_documents.specs.NodeDocuments.{IsAt, IsNodeOf, as_leaf, document, end_of_tokens, kind_of_shown, nodes_of, text_of}
 use Rattle.cedar_documents.proofs.Opened.{Always, GivesIf, ends_here, opened_token, opened_tree, opened_variant}
 

@@ -8,7 +8,7 @@ use Rattle.cedar_grammar.specs.Trees.{Label, Forest, leaf, branch, none}
 use Rattle.cedar_grammar.specs.TypedTrees.{Tree, Clause, parts, yield, variable_bare, variable_is, variable_op, variable_is_op, no_cond, conds_more}
 use Rattle.cedar_grammar.specs.TypedTrees as kind
 use Rattle.cedar_layout.specs.Comments.{lead_of, trail_of}
-use Rattle.cedar_layout.specs.Layout.{Doc, ◌·◌, group, hard, line, nest, nil, text}
+use Rattle.cedar_layout.specs.Layout.{Doc, ◌·◌, hard, nil, text}
 use Rattle.cedar_layout.specs.Lookups.{Parts, Shown, emptied}
 use Rattle.cedar_layout.proofs.Values.{dot-nil, dot_assoc}
 use Rattle.cedar_tree.specs.Erased.{Erased, add_parts, cond_trees, operator_parts, path_parts, relop_text, type_parts}
@@ -18,10 +18,10 @@ use Rattle.cedar_tree.specs.declared.tree.Name.{Name}
 use Rattle.cedar_tree.specs.declared.tree.Node.{Node}
 use Rattle.cedar_tree.specs.declared.tree.RelOp.{RelOp}
 use Rattle.cedar_tree.specs.declared.tree.VariableDef.{VariableDef}
-use Rattle.cedar_documents.specs.Leaves.{part_map}
-use Rattle.cedar_documents.specs.NodeDocuments.{IsAt, IsNodeOf, IsPartOf, as_leaf, compared_document, document, end_of_tokens, kind_of_shown, nodes_of, text_of, variable_parts}
-use Rattle.cedar_documents.specs.Table.{between_conds, is_bare, lead, tok, trail}
-use Rattle.cedar_documents.specs.Table.{leaf as leaf_document}
+use Rattle.cedar_canonical.specs.Leaves.{part_map}
+use Rattle.cedar_documents.specs.NodeDocuments.{IsAt, IsNodeOf, IsPartOf, as_leaf, compared_document, end_of_tokens, kind_of_shown, nodes_of, text_of, variable_parts}
+use Rattle.cedar_canonical.specs.Table.{between_conds, is_bare, lead, tok, trail}
+use Rattle.cedar_canonical.specs.Table.{leaf as leaf_document}
 use Rattle.cedar_documents.proofs.Opened.{GivesIf, ends_here, opened_leaf, opened_token, opened_tree}
 
 abbrev Operator : Type 0
@@ -126,9 +126,8 @@ document_bare x = ap (λ z. lead x · tok x · z) (dot-nil (trail x nil))
 pub document_is : (x : Decorated) (type : Doc) → lead x · tok x · (trail x nil · type) ≡ leaf_document x · type
 document_is x type = sym (dot_assoc (lead x) (tok x · trail x nil) type)
 
-pub document_compared : (i : ℤ) (x : Decorated) (type : Doc) (o : Shown) (t : Tree Shown kind.add)
-    → lead x · compared_document i (tok x · (trail x nil · type)) o t ≡ lead x · group (group (tok x · trail x nil · type · line · leaf_document (as_leaf o)) · nest i (line · document i t))
-document_compared i x type o t = ap (λ z. lead x · group (group (tok x · z) · nest i (line · document i t))) (dot_assoc (trail x nil) type (line · leaf_document (as_leaf o)))
+pub document_compared : (i : ℤ) (x : Decorated) (o : Shown) (t : Tree Shown kind.add) → lead x · compared_document i (tok x · (trail x nil · nil)) o t ≡ lead x · compared_document i (tok x · trail x nil) o t
+document_compared i x o t = ap (λ z. lead x · compared_document i (tok x · z) o t) (dot-nil (trail x nil))
 
 -- ---- the break behind a scope
 

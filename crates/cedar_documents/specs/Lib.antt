@@ -1,16 +1,3 @@
-pub mod Neighbours
-pub mod Joining
-pub mod CleaningLaws
-pub mod Good
-pub mod GoodLaws
-pub mod Leaves
-pub mod Table
-pub mod Fit
-pub mod Gaps
-pub mod Output
-pub mod Laws
-pub mod GrammarTrees
-pub mod Canonical
 pub mod Kept
 pub mod NodeDocuments
 pub mod Signs

@@ -20,11 +20,11 @@ use Rattle.cedar_tree.specs.declared.tree.Name.{Name}
 use Rattle.cedar_tree.specs.declared.tree.Node.{Node}
 use Rattle.cedar_tree.specs.declared.tree.VariableDef.{VariableDef}
 use Rattle.cedar_tree.specs.NodeTrees.{spanned, span_of}
-use Rattle.cedar_documents.specs.Leaves.{part_map}
-use Rattle.cedar_documents.specs.Table.{table, part_table, C, is_bare, space, lead_of, lines_of_first, unled}
-use Rattle.cedar_documents.specs.Table.{leaf as leaf_of}
+use Rattle.cedar_canonical.specs.Leaves.{part_map}
+use Rattle.cedar_canonical.specs.Table.{table, part_table, C, body, is_bare, space}
+use Rattle.cedar_canonical.specs.Table.{leaf as leaf_of}
 use Rattle.std.specs.declared.alloc.AllocError.{AllocError}
-use Rattle.cedar_documents.specs.Table as table
+use Rattle.cedar_canonical.specs.Table as table
 
 -- the source text of a token
 abbrev pub text_of : Shown → List ℕ
@@ -89,7 +89,7 @@ scope_document i p c a d r =
 
 -- the document of an expression between braces: the leading lines of its first token, and then the rest
 abbrev pub body_document : ℤ → Tree Shown expr → Doc
-body_document i t = lead_of (lines_of_first (yield (tree_map as_leaf t))) · group (table i (unled (tree_map as_leaf t)))
+body_document i t = body i (tree_map as_leaf t)
 
 -- where the last of these tokens ends, or 0
 abbrev pub end_of_tokens : List Shown → ℕ

@@ -1,83 +1,9 @@
-//! Laws of documents, cleaning and outputs. They speak of the definitions alone, so their bodies do nothing.
-ghost use Rattle.cedar_documents.specs.Canonical.{AcceptedHasOutput, DocumentsGoByValue, OutputEndsInLineFeed, OutputExists, OutputHasTheList, OutputHasTheTrees, OutputIsAccepted, OutputIsItsOwn, OutputsGoByValue, OutputsTellLists, PolicyHasNoBlankLine, TextsReadBack};
-ghost use Rattle.cedar_documents.specs.CleaningLaws.{CleaningIsUnique, CleaningKeepsTheList, CleaningLeavesNoBlankLine, CleaningTakesBlanks, EveryTextIsCleaned};
-ghost use Rattle.cedar_documents.specs.Gaps.{LawOfGaps};
-ghost use Rattle.cedar_documents.specs.GoodLaws.{EveryListIsGood, PlainListStaysGood};
-ghost use Rattle.cedar_documents.specs.GrammarTrees.{AcceptedHasTree, ListHasOneTree, TreeFits};
-ghost use Rattle.cedar_documents.specs.Joining.{LawOfJoining};
-ghost use Rattle.cedar_documents.specs.Laws.{ChoicesDifferInBlanks, RawLayoutsReadBack};
-ghost use Rattle.cedar_documents.specs.Output.{EveryLayoutReadsBack};
-
-/// Two texts with a line feed between them have the one list and then the other.
-pub fn lists_join()
-    ensures { LawOfJoining }
-{}
-
-/// A text has one cleaned text.
-pub fn cleaning_is_unique()
-    ensures some { EveryTextIsCleaned }
-    ensures one { CleaningIsUnique }
-{}
-
-/// A cleaned text has the decorated list of the text.
-pub fn cleaning_keeps_the_list()
-    ensures { CleaningKeepsTheList }
-{}
-
-/// Cleaning takes away blanks alone, none of a string, and leaves no blank line outside strings.
-pub fn cleaning_takes_blanks()
-    ensures blanks { CleaningTakesBlanks }
-    ensures lines { CleaningLeavesNoBlankLine }
-{}
-
-/// The decorated list of a text has good decorations, and so has its plain list.
-pub fn every_list_is_good()
-    ensures list { EveryListIsGood }
-    ensures plain { PlainListStaysGood }
-{}
-
-/// Under every choice of flat and broken groups the text between two printed tokens is blanks, the former's trailing text,
-/// blanks, the latter's leading lines and blanks, and no two tokens could be parts of one unit; a choice changes blanks alone.
-pub fn every_gap_holds()
-    ensures gaps { LawOfGaps }
-    ensures choices { ChoicesDifferInBlanks }
-{}
-
-/// Under every choice of flat and broken groups a policy's layout has the list of its tokens, before it is cleaned.
-pub fn raw_layouts_read_back()
-    ensures { RawLayoutsReadBack }
-{}
-
-/// Under every choice of flat and broken groups an output reads back as the list that it was made of, by value.
-pub fn every_layout_reads_back()
-    ensures trees { EveryLayoutReadsBack }
-    ensures texts { TextsReadBack }
-{}
-
-/// At every width and indentation trees and closing comments have one output. It ends with a line feed, no policy's text has
-/// a blank line outside strings, and leading zeros of numbers change nothing.
-pub fn outputs_are_determined()
-    ensures some { OutputExists }
-    ensures one { OutputsGoByValue }
-    ensures end { OutputEndsInLineFeed }
-    ensures lines { PolicyHasNoBlankLine }
-    ensures documents { DocumentsGoByValue }
-{}
-
-/// An accepted text has one tree with its plain list as leaves, and these fit the table.
-pub fn accepted_texts_have_trees()
-    ensures some { AcceptedHasTree }
-    ensures one { ListHasOneTree }
-    ensures fits { TreeFits }
-{}
-
-/// An accepted text has an output, which is accepted. An output has its text's plain list by value, it is the output of itself, and two texts
-/// have equal outputs exactly if their plain lists are equal by value.
-pub fn outputs_are_canonical()
-    ensures some { AcceptedHasOutput }
-    ensures accepted { OutputIsAccepted }
-    ensures list { OutputHasTheList }
-    ensures trees { OutputHasTheTrees }
-    ensures equal { OutputsTellLists }
-    ensures again { OutputIsItsOwn }
-{}
+//! The laws of documents, cleaning and outputs.
+pub use cedar_canonical::laws::{
+    accepted_texts_have_trees, every_gap_holds, every_layout_reads_back, outputs_are_canonical,
+    outputs_are_determined, raw_layouts_read_back,
+};
+pub use cedar_text_laws::laws::{
+    cleaning_is_unique, cleaning_keeps_the_list, cleaning_takes_blanks, every_list_is_good,
+    lists_join,
+};

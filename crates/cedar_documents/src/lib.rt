@@ -1,4 +1,4 @@
-// Documents of policies: their definitions and laws, and the document of every node.
+//! The document of every node of a policy, with the laws of documents, cleaning and outputs.
 #![tactic(auto)]
 
 pub mod config;

@@ -32,3 +32,4 @@ pub mod Verdicts
 pub mod WholeLaws
 pub mod Relabelling
 pub mod ListingTexts
+pub mod FirstLeaf

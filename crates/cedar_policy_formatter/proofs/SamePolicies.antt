@@ -20,8 +20,8 @@ use Rattle.cedar_tree.specs.NodeTrees.{IsTreeOf, spanned}
 use Rattle.cedar_tree.specs.declared.error.FormatError.{FormatError}
 use Rattle.cedar_tree.specs.declared.error.FormatError.TheVariants.{UnknownCharacter, UnfinishedString, NumberTooLarge, Grammar, TooDeep, NoDocument, Unsound, OutOfMemory}
 use Rattle.cedar_tree.specs.declared.tree.Policies.{Policies}
-use Rattle.cedar_documents.specs.Canonical.{IsOutputOf, OutputHasTheList, OutputIsAccepted, plain_listing}
-use Rattle.cedar_documents.proofs.Grammatical.{value_kind}
+use Rattle.cedar_canonical.specs.Canonical.{IsOutputOf, OutputHasTheList, OutputIsAccepted, plain_listing}
+use Rattle.cedar_canonical.proofs.Grammatical.{value_kind}
 use Rattle.cedar_policy_formatter.specs.Refused.{RefusesText}
 use Rattle.cedar_policy_formatter.specs.Texts.{FailsCheck, plain_values}
 use Rattle.cedar_policy_formatter.proofs.Checked.{leaves_without_spans}

@@ -10,9 +10,9 @@ use Rattle.cedar_grammar.specs.TypedTrees.{Clause, policy}
 use Rattle.cedar_layout.specs.Cleaning.{IsCleaned}
 use Rattle.cedar_layout.specs.Layout.{Doc, IsTheLayoutAt}
 use Rattle.cedar_layout.specs.Lookups.{Shown}
-use Rattle.cedar_documents.specs.Leaves.{part_map}
+use Rattle.cedar_canonical.specs.Leaves.{part_map}
 use Rattle.cedar_documents.specs.NodeDocuments.{as_leaf, part_document}
-use Rattle.cedar_documents.specs.Output.{PolicyTexts, join}
+use Rattle.cedar_canonical.specs.Output.{PolicyTexts, join}
 
 -- the text of one policy: its document's layout at the width, cleaned
 abbrev pub IsPolicyText : ℕ → ℤ → Clause Shown policy → List ℕ → Type 0

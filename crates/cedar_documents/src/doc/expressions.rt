@@ -14,7 +14,7 @@ ghost use Rattle.cedar_documents.specs.Breaks.{break_if, breaks, form_before, fo
 ghost use Rattle.cedar_documents.specs.Kept.{KeepsTokens};
 ghost use Rattle.cedar_documents.specs.NodeDocuments.{IsAt, IsNodeOf, Shows, ShowsBehind, as_leaf, document, text_of};
 ghost use Rattle.cedar_documents.specs.Signs.{member_in, sign_count, sign_text, signs_in, signs_of};
-ghost use Rattle.cedar_documents.specs.Table.{leaf};
+ghost use Rattle.cedar_canonical.specs.Table.{leaf};
 
 use crate::config::Context;
 use crate::doc::names::{

@@ -8,7 +8,7 @@ ghost use Rattle.cedar_tree.specs.Erased.{addop_text, literal_text, name_tree, p
 ghost use Rattle.cedar_layout.specs.Lookups.{AreInOrder, Shown};
 ghost use Rattle.cedar_documents.specs.Kept.{KeepsTokens};
 ghost use Rattle.cedar_documents.specs.NodeDocuments.{IsNodeOf, Shows, as_leaf, document, text_of};
-ghost use Rattle.cedar_documents.specs.Table as table;
+ghost use Rattle.cedar_canonical.specs.Table as table;
 
 use crate::config::Context;
 use crate::doc::taking::take_at_start;

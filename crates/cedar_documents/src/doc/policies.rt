@@ -11,9 +11,9 @@ ghost use Rattle.cedar_layout.specs.Layout.{hard, nil, ◌·◌, group, line, ne
 ghost use Rattle.cedar_layout.specs.Lookups.{AreInOrder, Shown, comment_parts, emptied, shown, Parts};
 ghost use Rattle.cedar_layout.specs.Value.{doc_of};
 ghost use Rattle.cedar_documents.specs.Kept.{KeepsTokens};
-ghost use Rattle.cedar_documents.specs.Leaves.{part_map};
+ghost use Rattle.cedar_canonical.specs.Leaves.{part_map};
 ghost use Rattle.cedar_documents.specs.NodeDocuments.{IsAt, IsNodeOf, IsPartOf, Shows, ShowsBehind, as_leaf, compared_document, document, part_document, scope_document, span_before, text_of, variable_parts, variables_document, annotation_parts, body_document, cond_parts};
-ghost use Rattle.cedar_documents.specs.Table as table;
+ghost use Rattle.cedar_canonical.specs.Table as table;
 
 use crate::config::Context;
 use crate::doc::expressions::{add_doc, expr_doc};

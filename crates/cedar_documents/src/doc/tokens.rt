@@ -9,7 +9,7 @@ ghost use Rattle.cedar_layout.specs.Value.{doc_of};
 ghost use Rattle.cedar_layout.specs.Lookups.{AreInOrder, Parts, Shown, comment_parts};
 ghost use Rattle.cedar_documents.specs.Kept.{KeepsTokens};
 ghost use Rattle.cedar_documents.specs.NodeDocuments.{Shows, ShowsBehind, as_leaf, text_of};
-ghost use Rattle.cedar_documents.specs.Table.{C, leaf};
+ghost use Rattle.cedar_canonical.specs.Table.{C, leaf};
 
 use crate::config::Context;
 use crate::doc::taking::{take_after, take_at_end, take_at_start};

@@ -1,6 +1,6 @@
 use Rattle.std.proofs.Common.{sym, subst}
 use Rattle.std.proofs.lemmas.Result.{err_from_is_err_and}
-use Rattle.cedar_documents.specs.Canonical.{IsOutputOf}
+use Rattle.cedar_canonical.specs.Canonical.{IsOutputOf}
 use Rattle.cedar_policy_formatter.specs.Texts.{IsTextOf}
 use Rattle.cedar_policy_formatter.proofs.SamePolicies.{never_fails}
 use Rattle.cedar_policy_formatter.proofs.fmt.policies_str_to_pretty.Goals as goal

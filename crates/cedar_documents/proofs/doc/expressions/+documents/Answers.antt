@@ -14,7 +14,7 @@ use Rattle.cedar_tree.specs.NodeLists.{item_trees, init_parts, and_parts, access
 use Rattle.cedar_tree.specs.declared.tree.Expr as Expr
 use Rattle.cedar_tree.specs.declared.tree.RecInit as RecInit
 use Rattle.cedar_documents.specs.NodeDocuments.{IsAt, kind_of_shown, as_leaf, document, IsNodeOf}
-use Rattle.cedar_documents.specs.Table as table
+use Rattle.cedar_canonical.specs.Table as table
 use Rattle.cedar_documents.proofs.Opened.{opened_tree, opened_token, opened_leaf, opened_variant, starts_here, ends_here, in_turn, freely, rewritten, nothing_behind, Always, Behind}
 use Rattle.cedar_documents.proofs.Commas.{next_item, no_item, all_args, all_inits, from_index, none_from, some_at, pushed_two}
 use Rattle.cedar_documents.proofs.LastTokens.{closed, ends_with}

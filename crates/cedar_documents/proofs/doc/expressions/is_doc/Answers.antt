@@ -6,7 +6,7 @@ use Rattle.cedar_layout.specs.Layout.{◌·◌, nest, group}
 use Rattle.cedar_layout.specs.Value.{doc_of}
 use Rattle.cedar_layout.proofs.Values.{dot_assoc}
 use Rattle.cedar_documents.specs.NodeDocuments.{as_leaf, document}
-use Rattle.cedar_documents.specs.Table.{leaf}
+use Rattle.cedar_canonical.specs.Table.{leaf}
 use Rattle.cedar_documents.proofs.Opened.{in_turn, freely, Always, Behind}
 use Rattle.cedar_documents.proofs.doc.expressions.is_doc.Goals as goal
 

@@ -7,7 +7,7 @@ use Rattle.cedar_layout.specs.Lookups.{shown}
 use Rattle.cedar_layout.specs.Value.{doc_of}
 use Rattle.cedar_layout.proofs.Values.{doc_of_hard}
 use Rattle.cedar_documents.specs.NodeDocuments.{as_leaf}
-use Rattle.cedar_documents.specs.Table as table
+use Rattle.cedar_canonical.specs.Table as table
 use Rattle.cedar_documents.proofs.Opened.{GivesIf, opened_token, opened_leaf, starts_here, ends_here, in_turn, freely, rewritten, nothing_behind, Always, Behind}
 use Rattle.cedar_documents.proofs.LastTokens.{ends_with}
 use Rattle.cedar_documents.proofs.PolicyParts.{no_part, no_token, nothing_more}

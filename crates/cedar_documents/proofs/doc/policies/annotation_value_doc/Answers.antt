@@ -2,7 +2,7 @@ use Rattle.std.proofs.Common.{◌∷◌, [], ap}
 use Rattle.cedar_layout.specs.Layout.{◌·◌}
 use Rattle.cedar_layout.proofs.Values.{doc_of_hard}
 use Rattle.cedar_documents.specs.NodeDocuments.{as_leaf}
-use Rattle.cedar_documents.specs.Table.{C}
+use Rattle.cedar_canonical.specs.Table.{C}
 use Rattle.cedar_documents.proofs.Opened.{in_turn, freely, rewritten, nothing_behind, Always, Behind}
 use Rattle.cedar_documents.proofs.doc.policies.annotation_value_doc.Goals as goal
 

@@ -7,7 +7,7 @@ use Rattle.cedar_layout.specs.Layout.{◌·◌, group, line, nest, text}
 use Rattle.cedar_layout.specs.Lookups.{Parts}
 use Rattle.cedar_layout.proofs.Values.{doc_of_line, doc_of_text}
 use Rattle.cedar_documents.specs.NodeDocuments.{as_leaf, body_document, kind_of_shown, text_of}
-use Rattle.cedar_documents.specs.Table as table
+use Rattle.cedar_canonical.specs.Table as table
 use Rattle.cedar_documents.proofs.Opened.{opened_leaf, opened_token, opened_tree, ends_here, in_turn, freely, rewritten, Always, Behind}
 use Rattle.cedar_documents.proofs.LastTokens.{ends_with}
 use Rattle.cedar_documents.proofs.doc.policies.cond_doc.Goals as goal

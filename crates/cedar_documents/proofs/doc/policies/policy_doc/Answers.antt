@@ -2,11 +2,9 @@ use Rattle.std.proofs.Common.{◌≡◌, [], ◌∷◌, ◌++◌, map, ap, refl,
 use Rattle.cedar_grammar.specs.Trees.{Label, branch, join, leaf, none}
 use Rattle.cedar_grammar.specs.TypedTrees.{policy_of, part_parts, part_yield}
 use Rattle.cedar_tree.specs.Erased.{annotation_trees, cond_trees}
-use Rattle.cedar_layout.specs.Layout.{◌·◌, group, line, nil}
+use Rattle.cedar_layout.specs.Layout.{◌·◌}
 use Rattle.cedar_layout.specs.Lookups.{shown}
-use Rattle.cedar_layout.proofs.Values.{dot_assoc}
-use Rattle.cedar_documents.specs.NodeDocuments.{as_leaf, kind_of_shown, part_document, scope_document}
-use Rattle.cedar_documents.specs.Table as table
+use Rattle.cedar_documents.specs.NodeDocuments.{kind_of_shown, part_document, scope_document}
 use Rattle.cedar_documents.proofs.Opened.{opened, opened_leaf, opened_token, part_at, ends_here, in_turn, freely, rewritten, nothing_behind, Always, Behind}
 use Rattle.cedar_documents.proofs.WholePolicies.{annotations_apart, conds_apart, one_end, policy_ends, retold, scope_ends, scope_tokens}
 use Rattle.cedar_documents.proofs.doc.policies.policy_doc.Goals as goal
@@ -55,9 +53,7 @@ returns-clause-shows x (policy_of ns e l p c a d r q cs s) at tree =
     (λ b h. scope_ends policy.variables.2.span.end (part_yield p) (part_yield a) (part_yield r) c d (ends_here policy.variables.2.span (part_yield r) place) b) from_close in
     let behind_head = part_yield p ++ (c ∷ (part_yield a ++ (d ∷ (part_yield r ++ (q ∷ (part_yield cs ++ (s ∷ []))))))) in
     let scope_on = retold Always (variables ++ (q ∷ (part_yield cs ++ (s ∷ [])))) behind_head (scope_tokens (part_yield p) (part_yield a) (part_yield r) (q ∷ (part_yield cs ++ (s ∷ []))) c d) from_scope in
-    let from_head = rewritten (e ∷ l ∷ behind_head)
-    (dot_assoc (table.lead (as_leaf e)) (group (table.tok (as_leaf e) · table.trail (as_leaf e) nil · line · table.leaf (as_leaf l))) _)
-    (in_turn (λ u v. u · v) Always Always (e ∷ l ∷ []) behind_head head_gives (λ b h. tt) scope_on) in
+    let from_head = in_turn (λ u v. u · v) Always Always (e ∷ l ∷ []) behind_head head_gives (λ b h. tt) scope_on in
     let all = in_turn (λ u v. u · v) Always Always (part_yield ns) (e ∷ l ∷ behind_head) annotations_give (λ b h. tt) from_head in
     λ before after st. let w = all before after tt st in
     (rw (x.in_ok-append-4.ensures, x.in_ok-append-3.ensures, x.in_ok-append-2.ensures, x.in_ok-body.ensures, x.in_ok-append.ensures) w.0, w.1)

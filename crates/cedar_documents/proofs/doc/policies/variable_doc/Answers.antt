@@ -8,7 +8,7 @@ use Rattle.cedar_layout.specs.Lookups.{Shown, comment_parts}
 use Rattle.cedar_layout.specs.Value.{doc_of}
 use Rattle.cedar_layout.proofs.Values.{doc_of_nil, doc_of_text}
 use Rattle.cedar_documents.specs.NodeDocuments.{as_leaf, compared_document, document, kind_of_shown, span_before, text_of}
-use Rattle.cedar_documents.specs.Table.{lead, tok, trail, type_part}
+use Rattle.cedar_canonical.specs.Table.{lead, tok, trail, type_part}
 use Rattle.cedar_documents.proofs.Scopes.{unbound, typed, compared, untyped, no_operator, nothing_more, ends_later, pair, assembled, document_bare, document_is, document_compared}
 use Rattle.cedar_documents.proofs.Opened.{opened_leaf, ends_here, in_turn, freely, rewritten, Always, Behind}
 use Rattle.cedar_documents.proofs.doc.policies.variable_doc.Goals as goal
@@ -58,7 +58,7 @@ returns-clause-shows c (variable_op x p a) e before after st =
     let rest = in_turn pair (Behind (span_before v)) (Behind (span_before v)) [] (p ∷ yield a) (λ b s h t. c.in_ok-type_part.ensures.bare u.0 b s t) (λ b h. rw (append-nil b) h) bound in
     let all = in_turn pair Always (Behind (span_before v)) (x ∷ []) (p ∷ yield a) word (λ b h. rw (u.0) (ends_here v.variable.span (x ∷ []) o.2 b)) rest in
     let r = all before after tt st in
-    (made c (λ z. compared_document i z p a) x nil o.1 r.0 ∙ document_compared i (as_leaf x) nil p a, r.1)
+    (made c (λ z. compared_document i z p a) x nil o.1 r.0 ∙ document_compared i (as_leaf x) p a, r.1)
 returns-clause-shows c (variable_is_op x w n p a) e before after st =
     let v = c.args.variable.now in
     let i = c.args.context.now.config.now.indent_width in
@@ -72,4 +72,4 @@ returns-clause-shows c (variable_is_op x w n p a) e before after st =
     let rest = in_turn pair (Behind v.variable.span) (Behind (span_before v)) (w ∷ yield n) (p ∷ yield a) type (λ b h. rw (y.is) (ends_later y.name.span w (yield n) y.place b)) bound in
     let all = in_turn pair Always (Behind v.variable.span) (x ∷ []) ((w ∷ yield n) ++ (p ∷ yield a)) word (λ b h. ends_here v.variable.span (x ∷ []) o.2 b) rest in
     let r = all before after tt st in
-    (made c (λ z. compared_document i z p a) x (type_part i (as_leaf w) (document i n)) o.1 r.0 ∙ document_compared i (as_leaf x) (type_part i (as_leaf w) (document i n)) p a, r.1)
+    (made c (λ z. compared_document i z p a) x (type_part i (as_leaf w) (document i n)) o.1 r.0, r.1)

@@ -2,7 +2,7 @@ use Rattle.std.proofs.Common.{ap, ◌∙◌, ◌∷◌, ◌++◌, []}
 use Rattle.cedar_grammar.specs.TypedTrees.{part_yield}
 use Rattle.cedar_layout.specs.Layout.{◌·◌}
 use Rattle.cedar_documents.specs.NodeDocuments.{as_leaf, part_document}
-use Rattle.cedar_documents.specs.Table.{C}
+use Rattle.cedar_canonical.specs.Table.{C}
 use Rattle.cedar_documents.proofs.Opened.{in_turn, freely, rewritten, ends_here, Always, Behind}
 use Rattle.cedar_documents.proofs.doc.policies.variables_doc.Goals as goal
 

@@ -1,0 +1,16 @@
+pub mod Weave
+pub mod Weaving
+pub mod Gapped
+pub mod Peel
+pub mod Policies
+pub mod Reading
+pub mod Assembled
+pub mod Values
+pub mod Encoded
+pub mod ByValue
+pub mod CanonicalForm
+pub mod Rows
+pub mod Relabelled
+pub mod Grammatical
+pub mod FittingTrees
+pub mod Accepting

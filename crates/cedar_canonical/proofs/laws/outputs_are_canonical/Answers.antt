@@ -1,0 +1,21 @@
+use Rattle.cedar_canonical.proofs.CanonicalForm.{accepted_has_output, output_list, outputs_tell, output_again, output_trees}
+use Rattle.cedar_canonical.proofs.Accepting.{output_accepted}
+use Rattle.cedar_canonical.proofs.laws.outputs_are_canonical.Goals as goal
+
+pub returns-clause-some : goal.returns-clause-some
+returns-clause-some c = accepted_has_output
+
+pub returns-clause-list : goal.returns-clause-list
+returns-clause-list c = output_list
+
+pub returns-clause-equal : goal.returns-clause-equal
+returns-clause-equal c = outputs_tell
+
+pub returns-clause-again : goal.returns-clause-again
+returns-clause-again c = output_again
+
+pub returns-clause-accepted : goal.returns-clause-accepted
+returns-clause-accepted c = output_accepted
+
+pub returns-clause-trees : goal.returns-clause-trees
+returns-clause-trees c = output_trees

@@ -1,0 +1,52 @@
+//! Laws of layouts and outputs. They speak of the definitions alone, so their bodies do nothing.
+ghost use Rattle.cedar_canonical.specs.Canonical.{AcceptedHasOutput, DocumentsGoByValue, OutputEndsInLineFeed, OutputExists, OutputHasTheList, OutputHasTheTrees, OutputIsAccepted, OutputIsItsOwn, OutputsGoByValue, OutputsTellLists, PolicyHasNoBlankLine, TextsReadBack};
+ghost use Rattle.cedar_canonical.specs.Gaps.{LawOfGaps};
+ghost use Rattle.cedar_canonical.specs.GrammarTrees.{AcceptedHasTree, ListHasOneTree, TreeFits};
+ghost use Rattle.cedar_canonical.specs.Laws.{ChoicesDifferInBlanks, RawLayoutsReadBack};
+ghost use Rattle.cedar_canonical.specs.Output.{EveryLayoutReadsBack};
+
+/// Under every choice of flat and broken groups the text between two printed tokens is blanks, the former's trailing text,
+/// blanks, the latter's leading lines and blanks, and no two tokens could be parts of one unit; a choice changes blanks alone.
+pub fn every_gap_holds()
+    ensures gaps { LawOfGaps }
+    ensures choices { ChoicesDifferInBlanks }
+{}
+
+/// Under every choice of flat and broken groups a policy's layout has the list of its tokens, before it is cleaned.
+pub fn raw_layouts_read_back()
+    ensures { RawLayoutsReadBack }
+{}
+
+/// Under every choice of flat and broken groups an output reads back as the list that it was made of, by value.
+pub fn every_layout_reads_back()
+    ensures trees { EveryLayoutReadsBack }
+    ensures texts { TextsReadBack }
+{}
+
+/// At every width and indentation trees and closing comments have one output. It ends with a line feed, no policy's text has
+/// a blank line outside strings, and leading zeros of numbers change nothing.
+pub fn outputs_are_determined()
+    ensures some { OutputExists }
+    ensures one { OutputsGoByValue }
+    ensures end { OutputEndsInLineFeed }
+    ensures lines { PolicyHasNoBlankLine }
+    ensures documents { DocumentsGoByValue }
+{}
+
+/// An accepted text has one tree with its plain list as leaves, and these fit the table.
+pub fn accepted_texts_have_trees()
+    ensures some { AcceptedHasTree }
+    ensures one { ListHasOneTree }
+    ensures fits { TreeFits }
+{}
+
+/// An accepted text has an output, which is accepted. An output has its text's plain list by value, it is the output of itself, and two texts
+/// have equal outputs exactly if their plain lists are equal by value.
+pub fn outputs_are_canonical()
+    ensures some { AcceptedHasOutput }
+    ensures accepted { OutputIsAccepted }
+    ensures list { OutputHasTheList }
+    ensures trees { OutputHasTheTrees }
+    ensures equal { OutputsTellLists }
+    ensures again { OutputIsItsOwn }
+{}

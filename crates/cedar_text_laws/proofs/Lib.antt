@@ -1,0 +1,14 @@
+pub mod Units
+pub mod Scanned
+pub mod Joined
+pub mod Listed
+pub mod Tidying
+pub mod Cleaned
+pub mod Trimming
+pub mod Premises
+pub mod Ends
+pub mod Spaces
+pub mod Trimmed
+pub mod CleanTexts
+pub mod Cutting
+pub mod GoodLists

@@ -1,0 +1,5 @@
+use Rattle.cedar_text_laws.proofs.CleanTexts.{clean_reads}
+use Rattle.cedar_text_laws.proofs.laws.cleaning_keeps_the_list.Goals as goal
+
+pub returns : goal.returns
+returns c = clean_reads

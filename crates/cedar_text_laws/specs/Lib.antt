@@ -1,0 +1,5 @@
+pub mod Neighbours
+pub mod Joining
+pub mod CleaningLaws
+pub mod Good
+pub mod GoodLaws
