@@ -45,7 +45,7 @@ texts_exist w i (p ∷ ps) =
 pub output_exists : OutputExists
 output_exists w i ps cs = let t = texts_exist w i ps in (join t.0 ++ (10 ∷ closing_text cs), record { texts = t.0; cleaned = t.1; written = refl })
 
-text_once : (w : ℕ) (d e : Doc) (s t x y : List ℕ) → d ≡ e → IsTheLayoutAt w d s → IsTheLayoutAt w e t → IsCleaned s x → IsCleaned t y → x ≡ y
+pub text_once : (w : ℕ) (d e : Doc) (s t x y : List ℕ) → d ≡ e → IsTheLayoutAt w d s → IsTheLayoutAt w e t → IsCleaned s x → IsCleaned t y → x ≡ y
 text_once w d e s t x y q a b c f =
     let same : t ≡ s = a.1 t (subst (λ z. IsTheLayoutAt w z t) (sym q) b).0 in
     cleaned_once s x y c (subst (λ z. IsCleaned z y) same f)

@@ -14,3 +14,4 @@ pub mod Relabelled
 pub mod Grammatical
 pub mod FittingTrees
 pub mod Accepting
+pub mod OutputLaws

@@ -6,3 +6,4 @@ pub mod Output
 pub mod Laws
 pub mod GrammarTrees
 pub mod Canonical
+pub mod OutputLaws

@@ -4,6 +4,7 @@ ghost use Rattle.cedar_canonical.specs.Gaps.{LawOfGaps};
 ghost use Rattle.cedar_canonical.specs.GrammarTrees.{AcceptedHasTree, ListHasOneTree, TreeFits};
 ghost use Rattle.cedar_canonical.specs.Laws.{ChoicesDifferInBlanks, RawLayoutsReadBack};
 ghost use Rattle.cedar_canonical.specs.Output.{EveryLayoutReadsBack};
+ghost use Rattle.cedar_canonical.specs.OutputLaws.{LastWidthDecides, PoliciesStandAlone, TokensTellPolicies};
 
 /// Under every choice of flat and broken groups the text between two printed tokens is blanks, the former's trailing text,
 /// blanks, the latter's leading lines and blanks, and no two tokens could be parts of one unit; a choice changes blanks alone.
@@ -49,4 +50,15 @@ pub fn outputs_are_canonical()
     ensures trees { OutputHasTheTrees }
     ensures equal { OutputsTellLists }
     ensures again { OutputIsItsOwn }
+{}
+
+/// The text of a policy in an output is determined by its own tokens with their comments, the width and the indentation.
+pub fn policies_stand_alone()
+    ensures trees { PoliciesStandAlone }
+    ensures texts { TokensTellPolicies }
+{}
+
+/// Laying out at one width and indentation and then at another gives what the other gives at once.
+pub fn last_width_decides()
+    ensures { LastWidthDecides }
 {}

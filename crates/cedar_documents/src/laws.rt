@@ -1,7 +1,7 @@
 //! The laws of documents, cleaning and outputs.
 pub use cedar_canonical::laws::{
-    accepted_texts_have_trees, every_gap_holds, every_layout_reads_back, outputs_are_canonical,
-    outputs_are_determined, raw_layouts_read_back,
+    accepted_texts_have_trees, every_gap_holds, every_layout_reads_back, last_width_decides,
+    outputs_are_canonical, outputs_are_determined, policies_stand_alone, raw_layouts_read_back,
 };
 pub use cedar_text_laws::laws::{
     cleaning_is_unique, cleaning_keeps_the_list, cleaning_takes_blanks, every_list_is_good,

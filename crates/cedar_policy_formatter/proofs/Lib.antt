@@ -2,3 +2,4 @@ pub mod Checked
 pub mod Outputs
 pub mod Comparisons
 pub mod SamePolicies
+pub mod OutputPolicies

@@ -27,7 +27,7 @@ use Rattle.cedar_policy_formatter.specs.Texts.{FailsCheck, plain_values}
 use Rattle.cedar_policy_formatter.proofs.Checked.{leaves_without_spans}
 
 -- a token's text by value
-abbrev value_of : Placed → List ℕ
+abbrev pub value_of : Placed → List ℕ
 value_of t = token_value t.text
 
 spanless : (f : Forest Label Placed) → without_spans (spanned (λ (t : Placed). t.text) (λ t. t.span) f) ≡ relabel value_of f
@@ -46,7 +46,7 @@ values_tree texts text p l t is_list =
 
 module _ (texts : NodesHaveThePlainTexts) (has_list : OutputHasTheList) (w : ℕ) (i : ℤ) (x y : List ℕ) (utf8 : IsUtf8 x) (o : IsOutputOf w i x y) where
   -- the output has the values of the text's plain list
-  same_values : (m : Listing) → IsListing y m → plain_values m ≡ plain_values o.list
+  pub same_values : (m : Listing) → IsListing y m → plain_values m ≡ plain_values o.list
   same_values m is_m =
       let h = has_list w i x y m utf8 o is_m in
       let by : Decorated → Decorated = λ d. record { text = token_value d.text; leading = d.leading; trailing = d.trailing } in

@@ -3,3 +3,4 @@ pub mod Texts
 pub mod Devices
 pub mod Written
 pub mod Compared
+pub mod OutputPolicies

@@ -14,6 +14,7 @@ ghost use Rattle.cedar_canonical.specs.Output.{closing_text};
 ghost use Rattle.cedar_policy_formatter.specs.Compared.{HaveEqualLists};
 ghost use Rattle.cedar_policy_formatter.specs.Written.{IsPolicyText, AreJoined, IsParted, IsPlainStream};
 ghost use Rattle.cedar_documents.specs.Kept.{KeepsTokens};
+ghost use Rattle.cedar_policy_formatter.specs.OutputPolicies.{OutputsKeepThePolicies};
 ghost use Rattle.cedar_policy_formatter.specs.Refused.{IsOwn, RefusesText, RefusesOne};
 ghost use Rattle.cedar_policy_formatter.specs.Texts.{IsTextOf, KeepsPolicies, FailsCheck, KeptPoliciesHaveTheSameTokens};
 
@@ -25,8 +26,8 @@ use cedar_documents::config::{Config, Context};
 use cedar_documents::doc::Doc;
 pub use cedar_documents::laws::{
     accepted_texts_have_trees, cleaning_is_unique, cleaning_keeps_the_list, cleaning_takes_blanks,
-    every_layout_reads_back, every_list_is_good, lists_join, outputs_are_canonical,
-    outputs_are_determined,
+    every_layout_reads_back, every_list_is_good, last_width_decides, lists_join,
+    outputs_are_canonical, outputs_are_determined, policies_stand_alone,
 };
 use cedar_layout::layout::render;
 use cedar_layout::utils::remove_empty_lines;
@@ -113,6 +114,16 @@ pub fn kept_policies_have_the_same_tokens()
     ensures { KeptPoliciesHaveTheSameTokens }
 {
     nodes_have_the_plain_texts();
+}
+
+/// An output of a text is a text of its policies: it is accepted, and its tree is that of the text but for spans. A law: its
+/// body does nothing.
+pub fn outputs_keep_the_policies()
+    ensures { OutputsKeepThePolicies }
+{
+    tree_is_of_accepted();
+    nodes_have_the_plain_texts();
+    outputs_are_canonical();
 }
 
 // The layout of a text with this tree.

@@ -156,7 +156,7 @@ first_mark (b ∷ s) r k = elim (or_cases (is_string (b ∷ s)) (is_comment (b �
     by_comment [] e = absurd cc
     by_comment (c ∷ s) e = rw (comment_parts b c s e).0 refl
 
-kept_unit : (s : List ℕ) → IsKept s → IsUnit s
+pub kept_unit : (s : List ℕ) → IsKept s → IsUnit s
 kept_unit s k = elim (or_cases (is_string s) (is_comment s) k) [ inl e ↦ token (is_token-string s e) | inr e ↦ comment e ]
 
 slashes_no_token : (v : List ℕ) → IsToken (47 ∷ (47 ∷ v)) → ⊥
@@ -171,7 +171,7 @@ slashes_no_token v t =
     ]
 
 -- a unit that is as long as a string or comment at its place is one
-kept_too : (text s u : List ℕ) → IsKept s → BeginsWith text s → IsUnit u → BeginsWith text u → length s ≤ length u → IsKept u
+pub kept_too : (text s u : List ℕ) → IsKept s → BeginsWith text s → IsUnit u → BeginsWith text u → length s ≤ length u → IsKept u
 kept_too text [] u k g n h l = absurd cc
 kept_too text (b ∷ s) [] k g n h l = absurd (omega (arith, l))
 kept_too text (b ∷ s) (c ∷ u) k g n h l = elim (or_cases (is_string (b ∷ s)) (is_comment (b ∷ s)) k) [

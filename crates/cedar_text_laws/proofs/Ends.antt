@@ -70,7 +70,7 @@ and_false true = refl
 and_false false = refl
 
 -- a character stays, if something behind it does, or if it is no blank
-stays_before : (c d : ℕ) (cs ds : List ℕ) → drop_trailing_whitespace cs ≡ d ∷ ds → drop_trailing_whitespace (c ∷ cs) ≡ c ∷ (d ∷ ds)
+pub stays_before : (c d : ℕ) (cs ds : List ℕ) → drop_trailing_whitespace cs ≡ d ∷ ds → drop_trailing_whitespace (c ∷ cs) ≡ c ∷ (d ∷ ds)
 stays_before c d cs ds e = rw (e, not_zero (length ds), and_false (is_whitespace c)) refl
 
 pub stays_black : (c : ℕ) (cs : List ℕ) → is_whitespace c ≡ false → drop_trailing_whitespace (c ∷ cs) ≡ c ∷ drop_trailing_whitespace cs
@@ -109,7 +109,7 @@ drop_behind [] d ds h = h
 drop_behind (c ∷ []) d ds h = stays_before c d (d ∷ ds) ds h
 drop_behind (c ∷ (b ∷ cs)) d ds h = stays_before c b (b ∷ (cs ++ (d ∷ ds))) (cs ++ (d ∷ ds)) (drop_behind (b ∷ cs) d ds h)
 
-scalars_drop : (cs : List ℕ) → scalars cs ≡ true → scalars (drop_trailing_whitespace cs) ≡ true
+pub scalars_drop : (cs : List ℕ) → scalars cs ≡ true → scalars (drop_trailing_whitespace cs) ≡ true
 scalars_drop [] h = refl
 scalars_drop (c ∷ cs) h = go (is_whitespace c && length (drop_trailing_whitespace cs) == 0) (and_parts _ (scalars cs) h).0 (scalars_drop cs (and_parts _ (scalars cs) h).1)
   where

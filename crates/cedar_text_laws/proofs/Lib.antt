@@ -12,3 +12,4 @@ pub mod Trimmed
 pub mod CleanTexts
 pub mod Cutting
 pub mod GoodLists
+pub mod LostBlanks

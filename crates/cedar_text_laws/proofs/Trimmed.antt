@@ -96,7 +96,7 @@ pub record Black (k : List ℕ) : Type 0 where
   pub is : chars k ≡ first ∷ rest
   pub stays : drop_trailing_whitespace (first ∷ rest) ≡ first ∷ rest
 
-token_black : (k : List ℕ) → IsToken k → IsUtf8 k → Black k
+pub token_black : (k : List ℕ) → IsToken k → IsUtf8 k → Black k
 token_black [] t u = absurd (no_empty_token t)
 token_black (b ∷ v) t u =
     let e = token_ends b v t in

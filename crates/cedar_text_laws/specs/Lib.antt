@@ -3,3 +3,4 @@ pub mod Joining
 pub mod CleaningLaws
 pub mod Good
 pub mod GoodLaws
+pub mod LostBlanks

@@ -2,6 +2,7 @@
 ghost use Rattle.cedar_text_laws.specs.CleaningLaws.{CleaningIsUnique, CleaningKeepsTheList, CleaningLeavesNoBlankLine, CleaningTakesBlanks, EveryTextIsCleaned};
 ghost use Rattle.cedar_text_laws.specs.GoodLaws.{EveryListIsGood, PlainListStaysGood};
 ghost use Rattle.cedar_text_laws.specs.Joining.{LawOfJoining};
+ghost use Rattle.cedar_text_laws.specs.LostBlanks.{EveryTextLosesBlanks};
 
 /// Two texts with a line feed between them have the one list and then the other.
 pub fn lists_join()
@@ -19,8 +20,10 @@ pub fn cleaning_keeps_the_list()
     ensures { CleaningKeepsTheList }
 {}
 
-/// Cleaning takes away blanks alone, none of a string, and leaves no blank line outside strings.
+/// Cleaning takes away White_Space alone, none of a string, also of a text that doesn't split. In one that splits it leaves
+/// no blank line outside strings.
 pub fn cleaning_takes_blanks()
+    ensures every { EveryTextLosesBlanks }
     ensures blanks { CleaningTakesBlanks }
     ensures lines { CleaningLeavesNoBlankLine }
 {}

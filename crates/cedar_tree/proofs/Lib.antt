@@ -4,3 +4,4 @@ pub mod ErasedSame
 pub mod Comparing
 pub mod ComparedRows
 pub mod Views
+pub mod Respanned

@@ -23,7 +23,7 @@ use Rattle.cedar_grammar.proofs.Relabelling.{relabelled, plain_each, each_map, m
 use Rattle.cedar_grammar.proofs.ListingTexts.{listing_texts}
 
 -- the tokens with their places are the tokens
-placed_texts : (units : List (List ℕ)) (p : ℕ) → each (λ (t : Placed). t.text) (with_places (tokens units) (token_spans p units)) ≡ tokens units
+pub placed_texts : (units : List (List ℕ)) (p : ℕ) → each (λ (t : Placed). t.text) (with_places (tokens units) (token_spans p units)) ≡ tokens units
 unfolding token_spans
 placed_texts [] p = refl
 placed_texts (u ∷ us) p = go (placed_texts us (p + length u)) (is_token u)

@@ -1,0 +1,11 @@
+-- What an output has of its text's policies.
+use Rattle.std.specs.Prelude.{ℕ, ℤ, List}
+use Rattle.std.specs.Str.{IsUtf8}
+use Rattle.cedar_tree.specs.declared.tree.Policies.{Policies}
+use Rattle.cedar_tree.specs.NodeTrees.{IsTreeOf}
+use Rattle.cedar_canonical.specs.Canonical.{IsOutputOf}
+use Rattle.cedar_policy_formatter.specs.Texts.{IsTextOf}
+
+-- an output of a text is a text of its policies: it is accepted, and its tree of nodes is the text's but for spans
+abbrev pub OutputsKeepThePolicies : Type 0
+OutputsKeepThePolicies = (w : ℕ) (i : ℤ) (x y : List ℕ) (p : Policies) → IsUtf8 x → IsOutputOf w i x y → IsTreeOf x p → IsTextOf y p
