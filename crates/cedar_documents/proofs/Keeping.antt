@@ -1,16 +1,14 @@
-use Rattle.std.proofs.Common.{◌≡◌, ℕ, List, [], ◌∷◌, ◌++◌, map, take, drop, length, Option, Some, None, ◌≤◌, refl, sym, ap, ◌∙◌, arith, Bool, true, false}
+use Rattle.std.proofs.Common.{◌≡◌, ℕ, List, [], ◌∷◌, ◌++◌, map, take, drop, length, Option, Some, None, refl, sym, ap, ◌∙◌, Bool, true, false}
 use Rattle.std.proofs.lemmas.List.{map-append}
 use Rattle.std.specs.Prelude.{MatchOption, if◌then◌else◌, Result, Ok, Err, IfOk, OnErr}
 use Rattle.std.proofs.lemmas.List.{length-map}
 use Rattle.std.proofs.Math.Seq.{take-append_seam}
 use Rattle.cedar_tokens.specs.declared.token.Comment.{Comment}
-use Rattle.cedar_tokens.specs.Places.{InOrderFrom}
-use Rattle.cedar_tokens.specs.PlainList.{is_trailing_comma, kept_tokens}
-use Rattle.cedar_tokens.specs.Tokens.{bare, decorated}
+use Rattle.cedar_tokens.specs.Tokens.{bare}
 use Rattle.cedar_tokens.specs.declared.token.Span.{Span}
 use Rattle.cedar_tokens.specs.declared.token.Token.{Token}
 use Rattle.cedar_tokens.specs.declared.token.WrappedToken.{WrappedToken}
-use Rattle.cedar_layout.specs.Lookups.{AreInOrder, Shown, Parts, shown, emptied, unled, HandedOut, LeadingHandedOut, Unmatched, emptied_in, stands_in, comment_parts}
+use Rattle.cedar_layout.specs.Lookups.{Shown, Parts, shown, emptied, unled, HandedOut, LeadingHandedOut, Unmatched, emptied_in, stands_in, comment_parts}
 
 abbrev bared : Shown → Token × Span
 bared s = (s.token, s.span)
@@ -31,17 +29,6 @@ kept_if_led named old new a h = from_shown old new (ap (map bared) h.now ∙ (ma
 
 pub kept_if_unmatched : (named : Shown → Bool) (old new : List WrappedToken) → Unmatched named (map shown old) (map shown new) → map bare new ≡ map bare old
 kept_if_unmatched named old new h = from_shown old new (ap (map bared) h.same)
-
--- the places say what the order is
-order_by_places : (p : ℕ) (old new : List WrappedToken) → map bare new ≡ map bare old → map (λ t. t.span) new ≡ map (λ t. t.span) old
-order_by_places p old new e = sym (places new) ∙ (ap (map (λ b. b.1)) e ∙ places old)
-  where
-    places : (ts : List WrappedToken) → map (λ b. b.1) (map bare ts) ≡ map (λ t. t.span) ts
-    places [] = refl
-    places (t ∷ ts) = ap (λ r. t.span ∷ r) (places ts)
-
-pub order_kept : (old new : List WrappedToken) → map bare new ≡ map bare old → AreInOrder old → AreInOrder new
-order_kept old new e h = rw (order_by_places 0 old new e) h
 
 pub kept_if_taken : (named : Shown → Bool) (old new : List WrappedToken) (r : Option Comment) → MatchOption r (Unmatched named (map shown old) (map shown new)) (λ c. HandedOut named (map shown old) (map shown new) (comment_parts c)) → map bare new ≡ map bare old
 kept_if_taken named old new None h = kept_if_unmatched named old new h
@@ -69,22 +56,3 @@ some_emptied s (t ∷ ts) = ap (λ h. h ∷ map bared (emptied_in s ts)) (one_em
 pub kept_if_range_taken : {X E : Type 0} (s : Span) (old new : List WrappedToken) (r : Result X E) → IfOk r (λ _. map shown new ≡ emptied_in s (map shown old)) → OnErr r (map shown new ≡ map shown old) → map bare new ≡ map bare old
 kept_if_range_taken s old new (Ok v) h k = from_shown old new (ap (map bared) h ∙ some_emptied s (map shown old))
 kept_if_range_taken s old new (Err e) h k = from_shown old new (ap (map bared) k)
-
--- ---- the tokens without trailing commas are in order
-
--- what begins at a place begins at each place before it
-from_earlier : (p q : ℕ) (ss : List Span) → p ≤ q → InOrderFrom q ss → InOrderFrom p ss
-from_earlier p q [] e h = h
-from_earlier p q (s ∷ ss) e h = let first = h.0 in (omega (arith, e, first), h.1, h.2)
-
-one_left_out : (b : Bool) (p : ℕ) (t : WrappedToken) (ts : List WrappedToken) → InOrderFrom p (map (λ w. w.span) (t ∷ ts)) → InOrderFrom p (map (λ w. w.span) (if b then ts else t ∷ ts))
-one_left_out true p t ts h = let first = h.0 in let second = h.1 in from_earlier p t.span.end (map (λ w. w.span) ts) (omega (arith, first, second)) h.2
-one_left_out false p t ts h = h
-
-kept_from : (p : ℕ) (ts : List WrappedToken) → InOrderFrom p (map (λ w. w.span) ts) → InOrderFrom p (map (λ w. w.span) (kept_tokens ts))
-kept_from p [] h = h
-kept_from p (c ∷ []) h = h
-kept_from p (c ∷ (b ∷ ts)) h = one_left_out (is_trailing_comma (decorated c) (decorated b)) p c (kept_tokens (b ∷ ts)) (h.0, h.1, kept_from c.span.end (b ∷ ts) h.2)
-
-pub order_without_commas : (old new : List WrappedToken) → map bare new ≡ map bare (kept_tokens old) → InOrderFrom 0 (map (λ w. w.span) old) → AreInOrder new
-order_without_commas old new e h = order_kept (kept_tokens old) new e (kept_from 0 old h)

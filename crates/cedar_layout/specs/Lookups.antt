@@ -1,16 +1,12 @@
 -- The tokens that a lookup names, and what it hands out. The tokens' places are in order.
 use Rattle.std.specs.Prelude.{◌≡◌, ◌≤◌, ◌<◌, ◌+◌, ◌^◌, ℕ, List, [], ◌∷◌, ◌++◌, map, Bool, ◌==◌, ◌&&◌, nat_le, IsTrue, IsFalse, if◌then◌else◌}
 use Rattle.std.specs.List.{All, filter}
-use Rattle.cedar_tokens.specs.Places.{InOrderFrom}
+pub use Rattle.cedar_tokens.specs.Places.{AreInOrder}
 use Rattle.cedar_tokens.specs.Tokens.{leading_lines, trailing_text}
 use Rattle.cedar_tokens.specs.declared.token.Comment.{Comment}
 use Rattle.cedar_tokens.specs.declared.token.Span.{Span}
 use Rattle.cedar_tokens.specs.declared.token.Token.{Token}
 use Rattle.cedar_tokens.specs.declared.token.WrappedToken.{WrappedToken}
-
--- the tokens' places are nonempty, in order and disjoint
-abbrev pub AreInOrder : List WrappedToken → Type 0
-AreInOrder ts = InOrderFrom 0 (map (λ t. t.span) ts)
 
 -- what a comment holds
 pub record Parts : Type 0 where

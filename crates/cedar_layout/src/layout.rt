@@ -4,7 +4,7 @@ ghost use Rattle.std.specs.List.{flat_map};
 ghost use Rattle.cedar_layout.specs.Layout.{◌·◌, nest, group, atoms, print, Doc, Choice, Piece, AreMadeOf, pieces, text_of_choice, IsChoiceAt, IsTheLayoutAt};
 ghost use Rattle.cedar_layout.specs.Computed.{laid};
 ghost use Rattle.cedar_layout.specs.Nodes.{nodes};
-ghost use Rattle.cedar_layout.specs.Value.{doc_of, interspersed};
+ghost use Rattle.cedar_layout.specs.Value.{doc_of, docs_of, interspersed};
 ghost use Rattle.cedar_layout.specs.Width.{KeepsWidth};
 
 mod measure;
@@ -39,14 +39,34 @@ pub enum Document<'src> {
 }
 
 impl<'src> Document<'src> {
-    /// This document and then the other one.
+    /// This document and then the other one. A sequence takes the other one at its end, so that a chain of these is one
+    /// sequence.
     pub fn append(self, alloc: Global, other: Document<'src>) -> Result<Document<'src>, AllocError>
         ensures { IfOk result (λ d. doc_of d ≡ doc_of self.entry · doc_of other.entry) }
     {
-        let mut docs = Vec::with_capacity(alloc, 2)?;
-        docs.push(self)?;
+        if let Document::Nil = &self {
+            return Ok(other);
+        }
+        if let Document::Nil = &other {
+            return Ok(self);
+        }
+        let mut docs = self.into_list(alloc)?;
         docs.push(other)?;
         Ok(Document::Seq(docs))
+    }
+
+    // The documents of a sequence, else this document alone.
+    fn into_list(self, alloc: Global) -> Result<Vec<Document<'src>>, AllocError>
+        ensures { IfOk result (λ v. docs_of v.items ≡ doc_of self.entry) }
+    {
+        match self {
+            Document::Seq(docs) => Ok(docs),
+            alone => {
+                let mut docs = Vec::with_capacity(alloc, 2)?;
+                docs.push(alone)?;
+                Ok(docs)
+            }
+        }
     }
 
     /// This document, its breaks indented by `n` columns more.

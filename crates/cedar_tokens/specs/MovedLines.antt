@@ -1,5 +1,5 @@
 -- The lines that brackets take over from trailing commas. Only contracts of private functions cite these.
-use Rattle.std.specs.Prelude.{ℕ, List, [], ◌∷◌, ◌++◌, Bool, true, false, ◌&&◌, not, if◌then◌else◌, Option, Some, None, ◌≡◌, map}
+use Rattle.std.specs.Prelude.{ℕ, List, [], ◌∷◌, ◌++◌, Bool, false, ◌&&◌, not, if◌then◌else◌, Option, Some, None, ◌≡◌, map}
 use Rattle.cedar_tokens.specs.Listing.{Decorated, comments}
 use Rattle.std.specs.Borrow.{Bor}
 use Rattle.std.specs.Option.{option_map}

@@ -1,8 +1,9 @@
 -- Where the tokens of a text stand, in bytes.
-use Rattle.std.specs.Prelude.{◌≡◌, ◌<◌, ◌≤◌, ◌+◌, if◌then◌else◌, [], ◌∷◌, length, List, ℕ, ⊤}
+use Rattle.std.specs.Prelude.{◌≡◌, ◌<◌, ◌≤◌, ◌+◌, if◌then◌else◌, [], ◌∷◌, length, map, List, ℕ, ⊤}
 use Rattle.cedar_tokens.specs.Units.{is_token}
 use Rattle.cedar_tokens.specs.Split.{SplitsInto}
 use Rattle.cedar_tokens.specs.declared.token.Span.{Span}
+use Rattle.cedar_tokens.specs.declared.token.WrappedToken.{WrappedToken}
 
 -- the places of the tokens among units that begin at this byte: a token of n bytes at the byte p stands at p to p + n
 unfoldable pub token_spans : ℕ → List (List ℕ) → List Span
@@ -21,3 +22,7 @@ pub record AreTokenSpans (text : List ℕ) (spans : List Span) : Type 0 where
 abbrev pub InOrderFrom : ℕ → List Span → Type 0
 InOrderFrom at [] = ⊤
 InOrderFrom at (s ∷ ss) = (at ≤ s.start) × (s.start < s.end) × InOrderFrom s.end ss
+
+-- the tokens' places are nonempty, in order and disjoint
+abbrev pub AreInOrder : List WrappedToken → Type 0
+AreInOrder ts = InOrderFrom 0 (map (λ t. t.span) ts)

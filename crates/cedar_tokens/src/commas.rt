@@ -3,6 +3,7 @@ ghost use Rattle.std.specs.Prelude.{◌≡◌, ◌≤◌, ◌++◌, ◌∷◌, [
 ghost use Rattle.cedar_tokens.specs.PlainList.{is_comma, is_closing_bracket, is_trailing_comma, plain_list, kept_tokens};
 ghost use Rattle.std.specs.Prelude.{◌+◌, ◌&&◌, not, Option, true, false, length, List, ℕ};
 ghost use Rattle.std.specs.Option.{option_map, option_to_list};
+ghost use Rattle.cedar_tokens.specs.Places.{AreInOrder};
 ghost use Rattle.cedar_tokens.specs.PlainList.{with_trailing_of, PlainListIsPlain};
 ghost use Rattle.cedar_tokens.specs.MovedLines.{moved_lines, lines_for, leaves, lines_of, lines_left, trailing_before, with_lines, HasNext, Follows, LeftToToken, MovedToBracket};
 ghost use Rattle.cedar_tokens.specs.Tokens.{bare, decorated, leading_lines, trailing_text, token_text};
@@ -16,13 +17,15 @@ use std::vec::IntoIter;
 ///
 /// Its comments stay between the same neighbours. Where no comment stands between the token before and the comma, that
 /// token gets the comma's trailing text. Else the bracket's lines begin with the comma's leading lines and the comments
-/// of its trailing text. Spans stay as they are. All memory is taken first: after a refusal `tokens` is as before.
+/// of its trailing text. Spans stay as they are, so tokens in order stay in order. All memory is taken first: after a
+/// refusal `tokens` is as before.
 pub fn drop_trailing_commas(
     alloc: Global,
     tokens: &mut Vec<WrappedToken<'_>>,
 ) -> Result<(), AllocError>
     ensures plain { OnOk result (map decorated tokens.new.items ≡ plain_list (map decorated tokens.old.items)) }
     ensures kept { OnOk result (map bare tokens.new.items ≡ map bare (kept_tokens tokens.old.items)) }
+    ensures order { AreInOrder tokens.old.items → AreInOrder tokens.new.items }
     ensures err { OnErr result (tokens.new.items ≡ tokens.old.items) }
 {
     let moved = all_moved_lines(alloc, tokens)?;

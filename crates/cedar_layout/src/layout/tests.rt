@@ -182,10 +182,34 @@ fn a_deep_document(rt: HostRuntime) -> Result<(), AllocError> {
         doc = doc
             .nest(alloc, 1)?
             .group(alloc)?
-            .append(alloc, Document::Nil)?;
+            .append(alloc, Document::Text(""))?;
     }
     assert_eq!(rt; rendered(alloc, &doc, 80)?.as_str(), "x");
     Ok(())
+}
+
+#[test]
+fn deep_sequences(rt: HostRuntime) -> Result<(), AllocError> {
+    let alloc = rt.alloc();
+    let mut doc = Document::Nil;
+    for _i in 0..1_000_000 {
+        doc = Document::Seq(vec![in alloc; doc, Document::Text("x")]?);
+    }
+    assert_eq!(rt; rendered(alloc, &doc, 80)?.len(), 1_000_000);
+    Ok(())
+}
+
+/// A chain of appends is one sequence, without what is `Nil`.
+#[test]
+fn one_sequence(rt: HostRuntime) -> Result<(), AllocError> {
+    let alloc = rt.alloc();
+    let doc = Document::Nil
+        .append(alloc, Document::Text("a"))?
+        .append(alloc, Document::Text("b"))?
+        .append(alloc, Document::Nil)?
+        .append(alloc, Document::Text("c"))?;
+    assert!(rt; matches!(&doc, Document::Seq(docs) if docs.len() == 3));
+    row(&rt, alloc, &doc, 80, "abc")
 }
 
 #[test]

@@ -1,7 +1,8 @@
 use Rattle.std.proofs.Common.{rules, map, ap, ◌∙◌, sym}
 use Rattle.cedar_tokens.specs.Tokens.{bare}
 use Rattle.cedar_layout.specs.Lookups.{ends_at, shown}
-use Rattle.cedar_documents.proofs.Keeping.{kept_if_taken, refilled, order_kept}
+use Rattle.cedar_documents.proofs.Keeping.{kept_if_taken, refilled}
+use Rattle.cedar_tokens.proofs.KeptOrder.{order_kept}
 use Rattle.cedar_documents.proofs.Focus.{taken, first_at_end}
 use Rattle.cedar_documents.proofs.doc.taking.take_at_end.Goals as goal
 

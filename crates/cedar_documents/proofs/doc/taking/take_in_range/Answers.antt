@@ -1,6 +1,7 @@
 use Rattle.std.proofs.Common.{rules, map, ap, ◌∙◌}
 use Rattle.cedar_tokens.specs.Tokens.{bare}
-use Rattle.cedar_documents.proofs.Keeping.{kept_if_range_taken, refilled, order_kept}
+use Rattle.cedar_documents.proofs.Keeping.{kept_if_range_taken, refilled}
+use Rattle.cedar_tokens.proofs.KeptOrder.{order_kept}
 use Rattle.cedar_documents.proofs.doc.taking.take_in_range.Goals as goal
 
 pub returns-clause-kept : goal.returns-clause-kept

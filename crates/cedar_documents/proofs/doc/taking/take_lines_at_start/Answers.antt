@@ -1,7 +1,8 @@
 use Rattle.std.proofs.Common.{rules, map, ap, ◌∙◌, sym}
 use Rattle.cedar_tokens.specs.Tokens.{bare}
 use Rattle.cedar_layout.specs.Lookups.{starts_at, shown}
-use Rattle.cedar_documents.proofs.Keeping.{kept_if_lines_taken, refilled, order_kept}
+use Rattle.cedar_documents.proofs.Keeping.{kept_if_lines_taken, refilled}
+use Rattle.cedar_tokens.proofs.KeptOrder.{order_kept}
 use Rattle.cedar_documents.proofs.Focus.{lines_taken, first_at_start}
 use Rattle.cedar_documents.proofs.doc.taking.take_lines_at_start.Goals as goal
 
