@@ -1,9 +1,11 @@
 -- Accesses one by one, and their documents.
 use Rattle.std.proofs.Common.{◌≡◌, ℕ, ℤ, suc, ◌+◌, ◌<◌, ◌≤◌, List, [], ◌∷◌, ◌++◌, map, length, drop, get_or, Bool, true, false, Option, Some, None, ◌==◌, refl, sym, ap, ◌∙◌, subst, arith}
-use Rattle.std.specs.Prelude.{codes, IsTrue, IsFalse}
+use Rattle.std.specs.Prelude.{Vec, codes, if◌then◌else◌}
+use Rattle.std.specs.declared.alloc.Global.{Global}
 use Rattle.std.proofs.lemmas.Bool.Decides.{nat_tests}
 use Rattle.std.proofs.lemmas.Bool.{false≢true}
 use Rattle.std.proofs.lemmas.List.{append_assoc, append-nil, map-append, at_drop_more, at_drop_all}
+use Rattle.std.proofs.Math.Bool.{and-true}
 use Rattle.cedar_tokens.specs.Listing.{token_value}
 use Rattle.cedar_tokens.specs.declared.token.Span.{Span}
 use Rattle.cedar_grammar.specs.Trees.{Label, leaf, branch, join, none}
@@ -19,13 +21,18 @@ use Rattle.cedar_layout.proofs.Values.{dot_assoc, dot-nil, docs_of-push}
 use mathlib.Core.Former.{Count}
 use Rattle.cedar_tree.specs.Erased.{Erased, node, expr_parts, expr_items, access_parts}
 use Rattle.cedar_tree.specs.NodeLists.{item_trees, access_items}
+use Rattle.cedar_tree.proofs.Views.{view_call}
+use Rattle.cedar_tree.specs.declared.tree.Ident.{Ident}
 use Rattle.cedar_tree.specs.declared.tree.Node.{Node}
+use Rattle.cedar_tree.specs.declared.tree.Str.{Str}
 use Rattle.cedar_tree.specs.declared.tree.MemAccess as MemAccess
 use Rattle.cedar_tree.specs.declared.tree.Expr as Expr
 use Rattle.cedar_documents.specs.Breaks.{Access, dotted, called, indexed, form_of, form_in, breaks, break_if}
+use Rattle.cedar_documents.specs.Found.{has_its_tokens, starts}
 use Rattle.cedar_documents.specs.NodeDocuments.{IsAt, IsNodeOf, nodes_of, text_of, as_leaf, kind_of_shown, document}
 use Rattle.cedar_canonical.specs.Table.{C, table, break_after_field, break_after_other}
 use Rattle.cedar_canonical.specs.Table as table
+use Rattle.cedar_documents.proofs.Found.{has_closed}
 use Rattle.cedar_documents.proofs.LastTokens.{closed, ends_with}
 use Rattle.cedar_documents.proofs.Opened.{opened, opened_token, opened_leaf, starts_here, in_turn, freely, rewritten, nothing_behind, Always, GivesIf}
 
@@ -260,34 +267,48 @@ pub call_shown : (i : ℤ) (t : Tree Shown accesses) (span : Span) (v : List (No
     → (v ≡ [] → Gives items nil mid next [])
     → ((a : Tree Shown args) → IsNodeOf (item_trees Label.expr expr_parts v) a → Gives items (document i a) mid next (yield a))
     → ((x : Shown) → x.span.end ≡ span.end → codes ")" ≡ token_value (text_of x) → Gives right (C (as_leaf x) (doc_of Nil')) next new (x ∷ []))
-    → empty ≡ (length v == 0) → (IsTrue empty → made ≡ left · right) → (IsFalse empty → made ≡ left · nest i (line_or_nil · items) · line_or_nil · right)
+    → empty ≡ (length v == 0) → made ≡ (if empty then left · right else left · nest i (line_or_nil · items) · line_or_nil · right)
     → Gives made (document i t) old new (yield t)
-call_shown i no_access span v old mid next new left items right made empty e f none_shown items_shown g is_empty no_items some = absurd (nothing_there (call_form span v no_access e))
-call_shown i (field d x m) span [] old mid next new left items right made empty e f none_shown items_shown g is_empty no_items some = absurd (dotted_called (apart (call_form span [] (field d x m) e)))
-call_shown i (field d x m) span (n ∷ ns) old mid next new left items right made empty e f none_shown items_shown g is_empty no_items some = absurd (dotted_called (apart (call_form span (n ∷ ns) (field d x m) e)))
-call_shown i (index l x y m) span [] old mid next new left items right made empty e f none_shown items_shown g is_empty no_items some = absurd (called_indexed (sym (apart (call_form span [] (index l x y m) e))))
-call_shown i (index l x y m) span (n ∷ ns) old mid next new left items right made empty e f none_shown items_shown g is_empty no_items some = absurd (called_indexed (sym (apart (call_form span (n ∷ ns) (index l x y m) e))))
-call_shown i (call_empty l y m) span (n ∷ ns) old mid next new left items right made empty e f none_shown items_shown g is_empty no_items some = absurd (no_item span n ns l y m e)
-call_shown i (call l (args_one a) y m) span [] old mid next new left items right made empty e f none_shown items_shown g is_empty no_items some = absurd (item_missing span l y (args_one a) m e)
-call_shown i (call l (args_more a x b) y m) span [] old mid next new left items right made empty e f none_shown items_shown g is_empty no_items some = absurd (item_missing span l y (args_more a x b) m e)
-call_shown i (call_empty l y m) span [] old mid next new left items right made empty e f none_shown items_shown g is_empty no_items some =
+call_shown i no_access span v old mid next new left items right made empty e f none_shown items_shown g is_empty is_made = absurd (nothing_there (call_form span v no_access e))
+call_shown i (field d x m) span [] old mid next new left items right made empty e f none_shown items_shown g is_empty is_made = absurd (dotted_called (apart (call_form span [] (field d x m) e)))
+call_shown i (field d x m) span (n ∷ ns) old mid next new left items right made empty e f none_shown items_shown g is_empty is_made = absurd (dotted_called (apart (call_form span (n ∷ ns) (field d x m) e)))
+call_shown i (index l x y m) span [] old mid next new left items right made empty e f none_shown items_shown g is_empty is_made = absurd (called_indexed (sym (apart (call_form span [] (index l x y m) e))))
+call_shown i (index l x y m) span (n ∷ ns) old mid next new left items right made empty e f none_shown items_shown g is_empty is_made = absurd (called_indexed (sym (apart (call_form span (n ∷ ns) (index l x y m) e))))
+call_shown i (call_empty l y m) span (n ∷ ns) old mid next new left items right made empty e f none_shown items_shown g is_empty is_made = absurd (no_item span n ns l y m e)
+call_shown i (call l (args_one a) y m) span [] old mid next new left items right made empty e f none_shown items_shown g is_empty is_made = absurd (item_missing span l y (args_one a) m e)
+call_shown i (call l (args_more a x b) y m) span [] old mid next new left items right made empty e f none_shown items_shown g is_empty is_made = absurd (item_missing span l y (args_more a x b) m e)
+call_shown i (call_empty l y m) span [] old mid next new left items right made empty e f none_shown items_shown g is_empty is_made =
     let o = opened Label.access span _ none (leaf l (leaf y none)) (parts kind_of_shown m) refl e in
     let p = opened_token (codes "(") _ l (leaf y none) o.0 in
     let q = opened_token (codes ")") none y none p.1 in
     let between = in_turn (λ a b. b) Always Always [] (y ∷ []) (freely [] (none_shown refl)) (λ b j. tt) (mark y (g y (ends_with span l [] y o.1) q.0)) in
     let all = in_turn (λ a b. a · b) Always Always (l ∷ []) (y ∷ []) (mark l (f l (starts_here span l (y ∷ []) o.1) p.0)) (λ b j. tt) between in
     subst (λ z. Gives made (document i (call_empty l y z)) old new (l ∷ y ∷ yield z)) (sym (no_more m o.2))
-    (λ b a st. let r = all b a tt st in (no_items is_empty ∙ r.0 ∙ ap (λ z. table.leaf (as_leaf l) · z) (sym (dot-nil (table.leaf (as_leaf y)))), r.1))
-call_shown i (call l a y m) span (n ∷ ns) old mid next new left items right made empty e f none_shown items_shown g is_empty no_items some =
+    (λ b a st. let r = all b a tt st in (is_made ∙ ap (λ b. if b then left · right else left · nest i (line_or_nil · items) · line_or_nil · right) is_empty ∙ r.0 ∙ ap (λ z. table.leaf (as_leaf l) · z) (sym (dot-nil (table.leaf (as_leaf y)))), r.1))
+call_shown i (call l a y m) span (n ∷ ns) old mid next new left items right made empty e f none_shown items_shown g is_empty is_made =
     let o = opened Label.access span _ none (leaf l (join (parts kind_of_shown a) (leaf y none))) (parts kind_of_shown m) refl e in
     let p = opened_token (codes "(") _ l (join (parts kind_of_shown a) (leaf y none)) o.0 in
     let q = closed (item_trees Label.expr expr_parts (n ∷ ns)) (codes ")") (parts kind_of_shown a) y p.1 in
     let at : IsAt span (l ∷ (yield a ++ y ∷ [])) = subst (λ z. IsAt span (l ∷ z)) (yield_join (parts kind_of_shown a) (leaf y none) ∙ ap (λ z. z ++ y ∷ []) (typed_leaves kind_of_shown a)) o.1 in
     let between = in_turn (λ a b. nest i (line_or_nil · a) · line_or_nil · b) Always Always (yield a) (y ∷ []) (freely (yield a) (items_shown a q.0)) (λ b j. tt) (mark y (g y (ends_with span l (yield a) y at) q.1)) in
     let all = in_turn (λ a b. a · b) Always Always (l ∷ []) (yield a ++ y ∷ []) (mark l (f l (starts_here span l (yield a ++ y ∷ []) at) p.0)) (λ b j. tt) between in
-    let filled : IsFalse empty = is_empty ∙ not_empty (length ns) in
     subst (λ z. Gives made (document i (call l a y z)) old new (l ∷ (yield a ++ y ∷ yield z))) (sym (no_more m o.2))
-    (λ b a' st. let r = all b a' tt st in (some filled ∙ r.0 ∙ ap (λ z. table.leaf (as_leaf l) · nest i (line_or_nil · document i a) · line_or_nil · z) (sym (dot-nil (table.leaf (as_leaf y)))), r.1))
+    (λ b a' st. let r = all b a' tt st in (is_made ∙ ap (λ b. if b then left · right else left · nest i (line_or_nil · items) · line_or_nil · right) (is_empty ∙ not_empty (length ns)) ∙ r.0 ∙ ap (λ z. table.leaf (as_leaf l) · nest i (line_or_nil · document i a) · line_or_nil · z) (sym (dot-nil (table.leaf (as_leaf y)))), r.1))
+
+-- ---- what they need
+
+pub field_needs : (ps : List Span) (n : Node Ident) → has_its_tokens ps (access_parts (MemAccess.Field n)) ≡ starts n.span.start ps
+field_needs ps n = and-true (starts n.span.start ps)
+
+pub index_needs : (ps : List Span) (n : Node Str) → has_its_tokens ps (access_parts (MemAccess.Index n)) ≡ starts n.span.start ps
+index_needs ps n = and-true (starts n.span.start ps)
+
+pub call_needs : (ps : List Span) (v : Vec (Node Expr.Expr) Global) → has_its_tokens ps (access_parts (MemAccess.Call v)) ≡ has_its_tokens ps (item_trees Label.expr expr_parts v.items)
+call_needs ps v = ap (has_its_tokens ps) (view_call v) ∙ has_closed ps (codes ")") (item_trees Label.expr expr_parts v.items)
+
+-- the access at an index, and those behind it
+pub access_at : (nodes : List (Node MemAccess.MemAccess)) (k : ℕ) (n : Node MemAccess.MemAccess) → k < length nodes → n ≡ get_or nodes k n → drop k nodes ≡ n ∷ drop (k + 1) nodes
+access_at nodes k n l is = at_drop_more (λ z. z) nodes k n l ∙ ap (λ z. z ∷ drop (k + 1) nodes) (sym is)
 
 -- ---- all accesses
 
@@ -300,17 +321,6 @@ pub record Walked (i : ℤ) (whole : Tree Shown accesses) (so_far : Doc) (previo
   pub are_nodes : access_items nodes ≡ nodes_of (parts kind_of_shown left)
   pub now : tokens ≡ (before ++ map emptied passed) ++ (yield left ++ after)
   pub made : so_far · (break_if (breaks previous (form_in left)) · document i left) ≡ document i whole
-
-pub walk_begins : (i : ℤ) (whole : Tree Shown accesses) (nodes : List (Node MemAccess.MemAccess)) (tokens before after : List Shown) → access_items nodes ≡ nodes_of (parts kind_of_shown whole) → tokens ≡ before ++ (yield whole ++ after)
-    → Walked i whole nil None nodes tokens before after
-walk_begins i whole nodes tokens before after e h = record {
-  passed = [];
-  left = whole;
-  all = refl;
-  are_nodes = e;
-  now = h ∙ ap (λ z. z ++ (yield whole ++ after)) (sym (append-nil before));
-  made = refl;
-}
 
 pub walk_goes : (i : ℤ) (whole : Tree Shown accesses) (so_far : Doc) (previous : Option Access) (n : Node MemAccess.MemAccess) (ns : List (Node MemAccess.MemAccess)) (tokens before after : List Shown) (new : List Shown) (one more : Doc)
     → Walked i whole so_far previous (n ∷ ns) tokens before after
@@ -364,7 +374,7 @@ pub walk_turn : (i : ℤ) (whole : Tree Shown accesses) (nodes : List (Node MemA
     → docs_of mid ≡ docs_of old · break_if (breaks previous (Some (form_of n.inner))) → ((t : Tree Shown accesses) → IsNodeOf (branch (Label.access, Some n.span) (access_parts n.inner) none) t → Gives (doc_of d) (document i t) tokens next (yield t))
     → Walked i whole (docs_of old) previous (drop k nodes) tokens before after → Walked i whole (docs_of new) (Some (form_of n.inner)) (drop (k + 1) nodes) next before after
 walk_turn i whole nodes k n old mid new d previous tokens next before after l is e h one w =
-    let here : drop k nodes ≡ n ∷ drop (k + 1) nodes = at_drop_more (λ z. z) nodes k n l ∙ ap (λ z. z ∷ drop (k + 1) nodes) (sym is) in
+    let here = access_at nodes k n l is in
     let b = break_if (breaks previous (Some (form_of n.inner))) in
     walk_goes i whole (docs_of old) previous n (drop (k + 1) nodes) tokens before after next (doc_of d) (docs_of new) (subst (λ z. Walked i whole (docs_of old) previous z tokens before after) here w) one
     (ap docs_of e ∙ docs_of-push mid d ∙ ap (λ z. z · doc_of d) h ∙ dot_assoc (docs_of old) b (doc_of d))

@@ -1,9 +1,14 @@
 -- Chains of operands: what of a chain is made into documents, and what is left.
-use Rattle.std.proofs.Common.{◌≡◌, ℕ, ℤ, List, [], ◌∷◌, ◌++◌, ◌<◌, ◌≤◌, ◌+◌, Bool, map, length, get_or, drop, nat_eq, true, Some, arith, refl, sym, ap, ◌∙◌, subst}
+use Rattle.std.proofs.Common.{◌≡◌, ℕ, ℤ, List, [], ◌∷◌, ◌++◌, ◌<◌, ◌≤◌, ◌+◌, Bool, map, length, vec_len, get_or, drop, nat_eq, true, false, Some, arith, refl, sym, ap, ◌∙◌, subst}
 use Rattle.std.proofs.lemmas.Bool.{eqb-true}
 use Rattle.std.proofs.lemmas.List.{append_assoc, map-append, append-nil, at_drop_more, drop_all}
 use Rattle.cedar_tokens.specs.Listing.{token_value}
+use Rattle.cedar_tokens.specs.Tokens.{bare}
 use Rattle.cedar_tokens.specs.declared.token.Span.{Span}
+use Rattle.cedar_tokens.specs.declared.token.WrappedToken.{WrappedToken}
+use Rattle.std.specs.Prelude.{◌&&◌}
+use Rattle.std.specs.declared.alloc.Global.{Global}
+use Rattle.std.specs.declared.vec.Vec.{Vec}
 use Rattle.cedar_grammar.specs.Trees.{Label, Forest, leaf, branch, none}
 use Rattle.cedar_grammar.specs.TypedTrees.{NodeKind, Tree, parts, yield, ors, ors_one, ors_more, ands, ands_one, ands_more, add, sums, add_of, sums_one, sums_more, mult, products, mult_of, products_one, products_more, relation, unary}
 use Rattle.cedar_layout.specs.Comments.{space}
@@ -11,7 +16,9 @@ use Rattle.cedar_layout.specs.Layout.{Doc, nil, line, group, ◌·◌}
 use Rattle.cedar_layout.specs.Lookups.{Shown, emptied}
 use Rattle.cedar_layout.specs.Value.{doc_of, docs_of}
 use Rattle.cedar_layout.specs.declared.layout.Document.{Document}
-use Rattle.cedar_layout.proofs.Values.{dot_assoc, dot-nil, docs_of-push}
+use Rattle.cedar_layout.specs.declared.layout.Document.TheVariants.{Line as Line', Nil as Nil'}
+use Rattle.cedar_layout.specs.declared.layout.Document.TheViews.{Seq}
+use Rattle.cedar_layout.proofs.Values.{doc_of_line, doc_of_seq, dot_assoc, dot-nil, docs_of-push}
 use Rattle.cedar_tree.specs.Erased.{Erased}
 use Rattle.cedar_tree.specs.NodeLists.{operand_trees}
 use Rattle.cedar_tree.specs.NodeTrees.{is_node}
@@ -19,7 +26,9 @@ use Rattle.cedar_tree.specs.declared.tree.Node.{Node}
 use Rattle.cedar_canonical.specs.Table.{C}
 use Rattle.cedar_canonical.specs.Table as table
 use Rattle.cedar_documents.specs.NodeDocuments.{IsAt, IsNodeOf, as_leaf, document, end_of_tokens, kind_of_shown, nodes_of, text_of}
-use Rattle.cedar_documents.proofs.Opened.{Always, Behind, GivesIf, ends_here, in_turn, opened_token, opened_tree}
+use Rattle.cedar_documents.specs.Found.{has_its_tokens, has_own, places}
+use Rattle.cedar_documents.proofs.Found.{and_false, and_true, as_before}
+use Rattle.cedar_documents.proofs.Opened.{Always, Behind, GivesIf, ends_here, freely, in_turn, nothing_behind, opened_token, opened_tree}
 
 -- signs, each with the operand behind it
 abbrev pub Rest : NodeKind → Type 0
@@ -141,11 +150,11 @@ module _ (k : NodeKind) (l : Label) (is : is_node l ≡ true) (sign : Shown → 
       }
 
   -- a sign and an operand more
-  module _ (last place : Span) (text : List ℕ) (p others : Erased) (ds : List Document) (s d : Document) (old mid new : List Shown)
-      (sign_clause : (o : Shown) → text ≡ token_value (text_of o) → GivesIf (Behind last) (doc_of s) (sign o) old mid (o ∷ []))
-      (clause : (x : Tree Shown k) → IsAt place (yield x) → IsNodeOf p x → GivesIf Always (doc_of d) (document i x) mid new (yield x)) where
+  module _ (last place : Span) (text : List ℕ) (p others : Erased) (ds es : List Document) (s d : Doc) (old mid new : List Shown) (more : docs_of es ≡ docs_of ds · (s · d))
+      (sign_clause : (o : Shown) → text ≡ token_value (text_of o) → GivesIf (Behind last) s (sign o) old mid (o ∷ []))
+      (clause : (x : Tree Shown k) → IsAt place (yield x) → IsNodeOf p x → GivesIf Always d (document i x) mid new (yield x)) where
     further : (done : List Shown) (rest : Rest k) → ts ≡ done ++ rest_yield rest → old ≡ (before ++ map emptied done) ++ (rest_yield rest ++ after) → end_of_tokens (before ++ map emptied done) ≡ last.end
-        → leaf text (branch (l, Some place) p others) ≡ nodes_of (rest_parts l rest) → docs_of ds · rest_document sign i rest ≡ whole → Progress k l sign i before after ts whole place ((ds ++ s ∷ []) ++ d ∷ []) new others
+        → leaf text (branch (l, Some place) p others) ≡ nodes_of (rest_parts l rest) → docs_of ds · rest_document sign i rest ≡ whole → Progress k l sign i before after ts whole place es new others
     further done [] tokens changed ends nodes made = absurd cc
     further done (x ∷ r) tokens changed ends nodes made =
         let t = opened_token text (branch (l, Some place) p others) x.0 (branch l (parts kind_of_shown x.1) (rest_parts l r)) nodes in
@@ -164,13 +173,13 @@ module _ (k : NodeKind) (l : Label) (is : is_node l ≡ true) (sign : Shown → 
           ends = ap end_of_tokens behind ∙ ends_here place (yield x.1) o.1 (b ++ (emptied x.0 ∷ []));
           nodes = o.2;
           made =
-              ap (λ z. z · rest_document sign i r) (docs_of-push (ds ++ s ∷ []) d ∙ ap (λ z. z · doc_of d) (docs_of-push ds s) ∙ dot_assoc (docs_of ds) (doc_of s) (doc_of d) ∙ ap (λ z. docs_of ds · z) q.0)
+              ap (λ z. z · rest_document sign i r) (more ∙ ap (λ z. docs_of ds · z) q.0)
               ∙ dot_assoc (docs_of ds) (sign x.0 · document i x.1) (rest_document sign i r)
               ∙ ap (λ z. docs_of ds · z) (dot_assoc (sign x.0) (document i x.1) (rest_document sign i r))
               ∙ made;
         }
 
-    pub stepped : Progress k l sign i before after ts whole last ds old (leaf text (branch (l, Some place) p others)) → Progress k l sign i before after ts whole place ((ds ++ s ∷ []) ++ d ∷ []) new others
+    pub stepped : Progress k l sign i before after ts whole last ds old (leaf text (branch (l, Some place) p others)) → Progress k l sign i before after ts whole place es new others
     stepped h = further h.done h.rest h.tokens h.changed h.ends h.nodes h.made
 
   ended : (last : Span) (ds : List Document) (now : List Shown) (done : List Shown) (rest : Rest k) → ts ≡ done ++ rest_yield rest → now ≡ (before ++ map emptied done) ++ (rest_yield rest ++ after)
@@ -190,31 +199,99 @@ abbrev pub MadeSoFar : (m k : NodeKind) → Label → (Shown → Doc) → ℤ �
 MadeSoFar m k l sign i inside whole old last docs now left =
     (t : Tree Shown m) → IsNodeOf whole t → (before after : List Shown) → old ≡ before ++ (yield t ++ after) → Progress k l sign i before after (yield t) (inside t) last docs now left
 
+-- this document shows every tree that a node with these parts is
+abbrev pub ShowsEach : (k : NodeKind) → Span → Erased → (Tree Shown k → Doc) → Doc → List Shown → List Shown → Type 0
+ShowsEach k place p whole d old new = (x : Tree Shown k) → IsAt place (yield x) → IsNodeOf p x → (before after : List Shown) → old ≡ before ++ (yield x ++ after) → (d ≡ whole x) × (new ≡ (before ++ map emptied (yield x)) ++ after)
+
 module _ (m k : NodeKind) (l : Label) (is : is_node l ≡ true) (sign : Shown → Doc) (i : ℤ) (inside : Tree Shown m → Doc) (chain : (t : Tree Shown m) → IsChain k l sign i (yield t) (parts kind_of_shown t) (inside t)) (whole : Erased) (old : List Shown) where
   -- the first operand
-  pub made_first : {place : Span} {p others : Erased} {docs : List Document} {new : List Shown} (d : Document) → whole ≡ branch (l, Some place) p others → docs ≡ d ∷ []
-      → ((x : Tree Shown k) → IsAt place (yield x) → IsNodeOf p x → GivesIf Always (doc_of d) (document i x) old new (yield x))
+  pub made_first : {place : Span} {p others : Erased} {docs : List Document} {new : List Shown} (d : Document) → whole ≡ branch (l, Some place) p others → docs ≡ d ∷ [] → ShowsEach k place p (document i) (doc_of d) old new
       → MadeSoFar m k l sign i inside whole old place docs new others
   made_first {place = place} {p = p} {others = others} {new = new} d v e first t n before after st =
       subst (λ z. Progress k l sign i before after (yield t) (inside t) place z new others) (sym e)
-      (begun k l is sign i before after (yield t) (inside t) (parts kind_of_shown t) place p others d old new (chain t) (sym v ∙ n) st first)
+      (begun k l is sign i before after (yield t) (inside t) (parts kind_of_shown t) place p others d old new (chain t) (sym v ∙ n) st (λ x at h. freely (yield x) (first x at h)))
 
   -- a sign and an operand more
-  pub made_more : {last place : Span} {text : List ℕ} {p left others : Erased} {ds es fs : List Document} {now mid new : List Shown} {j : ℤ} (s d : Document)
-      → left ≡ leaf text (branch (l, Some place) p others) → es ≡ ds ++ s ∷ [] → fs ≡ es ++ d ∷ [] → j ≡ i
-      → ((o : Shown) → text ≡ token_value (text_of o) → GivesIf (Behind last) (doc_of s) (sign o) now mid (o ∷ []))
-      → ((x : Tree Shown k) → IsAt place (yield x) → IsNodeOf p x → GivesIf Always (doc_of d) (document j x) mid new (yield x))
-      → MadeSoFar m k l sign i inside whole old last ds now left → MadeSoFar m k l sign i inside whole old place fs new others
-  made_more {last = last} {place = place} {text = text} {p = p} {others = others} {ds = ds} {now = now} {mid = mid} {new = new} s d v e f same sign_clause clause h t n before after st =
-      subst (λ z. Progress k l sign i before after (yield t) (inside t) place z new others) (sym (f ∙ ap (λ z. z ++ d ∷ []) e))
-      (stepped k l is sign i before after (yield t) (inside t) last place text p others ds s d now mid new sign_clause
-      (subst (λ z. (x : Tree Shown k) → IsAt place (yield x) → IsNodeOf p x → GivesIf Always (doc_of d) (document z x) mid new (yield x)) same clause)
-      (subst (λ z. Progress k l sign i before after (yield t) (inside t) last ds now z) v (h t n before after st)))
+  made_more : {last place : Span} {text : List ℕ} {p left others : Erased} {now mid new : List Shown} (ds es : List Document) (s d : Doc) → left ≡ leaf text (branch (l, Some place) p others) → docs_of es ≡ docs_of ds · (s · d)
+      → ((o : Shown) → text ≡ token_value (text_of o) → GivesIf (Behind last) s (sign o) now mid (o ∷ [])) → ShowsEach k place p (document i) d mid new
+      → MadeSoFar m k l sign i inside whole old last ds now left → MadeSoFar m k l sign i inside whole old place es new others
+  made_more {last = last} {place = place} {text = text} {p = p} {others = others} {now = now} {mid = mid} {new = new} ds es s d v e sign_clause clause h t n before after st =
+      stepped k l is sign i before after (yield t) (inside t) last place text p others ds es s d now mid new e sign_clause (λ x at q. freely (yield x) (clause x at q))
+      (subst (λ z. Progress k l sign i before after (yield t) (inside t) last ds now z) v (h t n before after st))
 
   -- nothing is left
-  pub made_all : {last : Span} {docs : List Document} {new : List Shown} {left : Erased} → left ≡ none → MadeSoFar m k l sign i inside whole old last docs new left
-      → (t : Tree Shown m) → IsNodeOf whole t → (before after : List Shown) → old ≡ before ++ (yield t ++ after) → (docs_of docs ≡ inside t) × (new ≡ (before ++ map emptied (yield t)) ++ after)
-  made_all {last = last} {docs = docs} {new = new} {left = left} e h t n before after st = finished k l is sign i before after (yield t) (inside t) last docs new left e (h t n before after st)
+  pub made_all : {last : Span} {new : List Shown} {left : Erased} (docs : Vec Document Global) → left ≡ none → MadeSoFar m k l sign i inside whole old last docs.items new left
+      → (t : Tree Shown m) → IsNodeOf whole t → (before after : List Shown) → old ≡ before ++ (yield t ++ after) → (doc_of (Seq docs) ≡ inside t) × (new ≡ (before ++ map emptied (yield t)) ++ after)
+  made_all {last = last} {new = new} {left = left} docs e h t n before after st =
+      let r = finished k l is sign i before after (yield t) (inside t) last docs.items new left e (h t n before after st) in
+      (doc_of_seq docs ∙ r.0, r.1)
+
+  -- one operand alone
+  pub made_alone : {place : Span} {p others : Erased} {new : List Shown} (d : Document) → whole ≡ branch (l, Some place) p others → others ≡ none → ShowsEach k place p (document i) (doc_of d) old new
+      → (t : Tree Shown m) → IsNodeOf whole t → (before after : List Shown) → old ≡ before ++ (yield t ++ after) → (doc_of d ≡ inside t) × (new ≡ (before ++ map emptied (yield t)) ++ after)
+  made_alone {place = place} {others = others} {new = new} d v e first t n before after st =
+      let r = finished k l is sign i before after (yield t) (inside t) place (d ∷ []) new others e (made_first {docs = d ∷ []} d v refl first t n before after st) in
+      (sym (dot-nil (doc_of d)) ∙ r.0, r.1)
+
+-- what tokens give, inside a document
+in_form : {P : List Shown → Type 0} {v d e : Doc} {old new : List Shown} (F : Doc → Doc) (ts : List Shown) → F d ≡ e → GivesIf P v d old new ts → GivesIf P (F v) e old new ts
+in_form F ts q h before after p s = let r = h before after p s in (ap F r.0 ∙ q, r.1)
+
+-- a document more
+pushed : (ds es : List Document) (d : Document) → es ≡ ds ++ d ∷ [] → docs_of es ≡ docs_of ds · doc_of d
+pushed ds es d e = ap docs_of e ∙ docs_of-push ds d
+
+module _ (m k : NodeKind) (l : Label) (is : is_node l ≡ true) (i : ℤ) (inside : Tree Shown m → Doc) (whole : Erased) (old : List Shown) {last place : Span} {text : List ℕ} {p left others : Erased} {now mid new : List Shown} where
+  -- a space, a sign with a line behind it, and an operand more
+  pub broken_more : {a b c e : List Document} (chain : (t : Tree Shown m) → IsChain k l breaking_sign i (yield t) (parts kind_of_shown t) (inside t)) (x s d : Document) → left ≡ leaf text (branch (l, Some place) p others)
+      → b ≡ a ++ x ∷ [] → c ≡ b ++ s ∷ [] → e ≡ c ++ d ∷ [] → doc_of x ≡ space
+      → ((o : Shown) → text ≡ token_value (text_of o) → GivesIf (Behind last) (doc_of s) (C (as_leaf o) (doc_of Line')) now mid (o ∷ [])) → ShowsEach k place p (document i) (doc_of d) mid new
+      → MadeSoFar m k l breaking_sign i inside whole old last a now left → MadeSoFar m k l breaking_sign i inside whole old place e new others
+  broken_more {a = a} {b = b} {c = c} {e = e} chain x s d v q r t is_space sign clause h =
+      made_more m k l is breaking_sign i inside chain whole old {place = place} {p = p} a e (doc_of x · doc_of s) (doc_of d) v
+      (pushed c e d t ∙ ap (λ z. z · doc_of d) (pushed b c s r ∙ ap (λ z. z · doc_of s) (pushed a b x q) ∙ dot_assoc (docs_of a) (doc_of x) (doc_of s)) ∙ dot_assoc (docs_of a) (doc_of x · doc_of s) (doc_of d))
+      (λ o f. in_form (λ z. doc_of x · z) (o ∷ []) (ap (λ z. z · C (as_leaf o) (doc_of Line')) is_space ∙ ap (λ z. space · C (as_leaf o) z) doc_of_line) (sign o f)) clause h
+
+  -- a space, a sign, a line and an operand more
+  pub lined_more : {a b c e f : List Document} (chain : (t : Tree Shown m) → IsChain k l sign_and_line i (yield t) (parts kind_of_shown t) (inside t)) (x s y d : Document) → left ≡ leaf text (branch (l, Some place) p others)
+      → b ≡ a ++ x ∷ [] → c ≡ b ++ s ∷ [] → e ≡ c ++ y ∷ [] → f ≡ e ++ d ∷ [] → doc_of x ≡ space → doc_of y ≡ line
+      → ((o : Shown) → text ≡ token_value (text_of o) → GivesIf (Behind last) (doc_of s) (C (as_leaf o) (doc_of Nil')) now mid (o ∷ [])) → ShowsEach k place p (document i) (doc_of d) mid new
+      → MadeSoFar m k l sign_and_line i inside whole old last a now left → MadeSoFar m k l sign_and_line i inside whole old place f new others
+  lined_more {a = a} {b = b} {c = c} {e = e} {f = f} chain x s y d v q r t u is_space is_line sign clause h =
+      made_more m k l is sign_and_line i inside chain whole old {place = place} {p = p} a f (doc_of x · doc_of s · doc_of y) (doc_of d) v
+      (pushed e f d u
+      ∙ ap (λ z. z · doc_of d)
+      (pushed c e y t ∙ ap (λ z. z · doc_of y) (pushed b c s r ∙ ap (λ z. z · doc_of s) (pushed a b x q)) ∙ dot_assoc (docs_of a · doc_of x) (doc_of s) (doc_of y) ∙ dot_assoc (docs_of a) (doc_of x) (doc_of s · doc_of y))
+      ∙ dot_assoc (docs_of a) (doc_of x · doc_of s · doc_of y) (doc_of d))
+      (λ o g. in_form (λ z. doc_of x · z · doc_of y) (o ∷ []) (ap (λ z. z · C (as_leaf o) (doc_of Nil') · doc_of y) is_space ∙ ap (λ z. space · z · doc_of y) (nothing_behind o) ∙ ap (λ z. space · table.leaf (as_leaf o) · z) is_line) (sign o g)) clause h
+
+-- ---- whose tokens are found
+
+and_assoc : (a b c : Bool) → (a && (b && c)) ≡ ((a && b) && c)
+and_assoc true b c = refl
+and_assoc false b c = refl
+
+-- a first operand has its tokens, or not
+module _ (l : Label) (at : List Span) {w p q : Erased} {s : Span} (e : w ≡ branch (l, Some s) p q) where
+  first_and_rest : has_its_tokens at w ≡ ((has_own at l (Some s) p && has_its_tokens at p) && has_its_tokens at q)
+  first_and_rest = ap (has_its_tokens at) e ∙ and_assoc (has_own at l (Some s) p) (has_its_tokens at p) (has_its_tokens at q)
+
+  pub first_found : (has_own at l (Some s) p && has_its_tokens at p) ≡ true → has_its_tokens at w ≡ has_its_tokens at q
+  first_found h = first_and_rest ∙ and_true _ (has_its_tokens at q) h
+
+  pub first_missed : (has_own at l (Some s) p && has_its_tokens at p) ≡ false → has_its_tokens at w ≡ false
+  first_missed h = first_and_rest ∙ and_false _ (has_its_tokens at q) h
+
+-- the same of an operand behind its sign, among tokens some of whose comments were taken
+module _ (l : Label) (old mid : List WrappedToken) (kept : map bare mid ≡ map bare old) {w p q : Erased} {s : Span} {text : List ℕ} (e : w ≡ leaf text (branch (l, Some s) p q)) where
+  at_entry : (b : Bool) → (has_own (places mid) l (Some s) p && has_its_tokens (places mid) p) ≡ b → (has_own (places old) l (Some s) p && has_its_tokens (places old) p) ≡ b
+  at_entry b h = as_before (λ z. has_own z l (Some s) p && has_its_tokens z p) b old mid kept h
+
+  pub next_found : (has_own (places mid) l (Some s) p && has_its_tokens (places mid) p) ≡ true → has_its_tokens (places old) w ≡ has_its_tokens (places old) q
+  next_found h = ap (has_its_tokens (places old)) e ∙ first_found l (places old) {w = branch (l, Some s) p q} {p = p} {q = q} {s = s} refl (at_entry true h)
+
+  pub next_missed : (has_own (places mid) l (Some s) p && has_its_tokens (places mid) p) ≡ false → has_its_tokens (places old) w ≡ false
+  next_missed h = ap (has_its_tokens (places old)) e ∙ first_missed l (places old) {w = branch (l, Some s) p q} {p = p} {q = q} {s = s} refl (at_entry false h)
 
 -- ---- what is left in a list
 
@@ -228,6 +305,9 @@ module _ {X Y : Type 0} (l : Label) (p : X → Erased) (sign : Y → List ℕ) (
   pub none_left : (i : ℕ) → length ys ≤ i → operand_trees l p sign operand (drop i xs) ≡ none
   none_left i n = ap (λ z. operand_trees l p sign operand (drop i z)) (sym q) ∙ ap (operand_trees l p sign operand) (drop_all i ys n)
 
-pub is_nil : {X : Type 0} (xs : List X) (n : ℕ) (b : Bool) → n ≡ length xs → b ≡ nat_eq n 0 → b ≡ true → xs ≡ []
-is_nil [] n b h e f = refl
-is_nil (x ∷ xs) n b h e f = absurd (omega (arith, eqb-true n 0 (sym e ∙ f)))
+empty : {X : Type 0} (xs : List X) (n : ℕ) (b : Bool) → n ≡ length xs → b ≡ nat_eq n 0 → b ≡ true → xs ≡ []
+empty [] n b h e f = refl
+empty (x ∷ xs) n b h e f = absurd (omega (arith, eqb-true n 0 (sym e ∙ f)))
+
+pub is_nil : {X : Type 0} (v : Vec X Global) (b : Bool) → b ≡ nat_eq (vec_len v) 0 → b ≡ true → v.items ≡ []
+is_nil v b e f = empty v.items (vec_len v) b v.ok.0 e f

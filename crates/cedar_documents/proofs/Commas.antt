@@ -1,6 +1,6 @@
 -- Items with commas between them, and the loops that make their documents.
 use Rattle.std.proofs.Common.{◌≡◌, ℕ, ℤ, List, [], ◌∷◌, ◌++◌, map, length, drop, get_or, ◌+◌, ◌<◌, ◌≤◌, Option, Some, None, true, refl, sym, ap, ◌∙◌, arith, append-nil, append_assoc}
-use Rattle.std.specs.Prelude.{codes}
+use Rattle.std.specs.Prelude.{codes, ◌&&◌}
 use Rattle.std.proofs.lemmas.List.{map-append, at_drop_more, at_drop_all}
 use Rattle.cedar_tokens.specs.Listing.{token_value}
 use Rattle.cedar_tokens.specs.declared.token.Span.{Span}
@@ -17,6 +17,7 @@ use Rattle.cedar_tree.specs.NodeTrees.{is_node}
 use Rattle.cedar_tree.specs.declared.tree.Node.{Node}
 use Rattle.cedar_tree.specs.declared.tree.Expr as Expr
 use Rattle.cedar_tree.specs.declared.tree.RecInit as RecInit
+use Rattle.cedar_documents.specs.Found.{has_its_tokens, has_own}
 use Rattle.cedar_canonical.specs.Table as table
 use Rattle.cedar_documents.specs.NodeDocuments.{as_leaf, nodes_of, text_of, kind_of_shown, end_of_tokens, IsAt, document}
 use Rattle.cedar_documents.proofs.Opened.{opened_tree, opened_token, ends_here}
@@ -143,6 +144,16 @@ none_from xs j h = at_drop_all (λ ys. ys) xs j h
 pub some_at : {X : Type 0} (xs : List X) (j : ℕ) → j < length xs → xs ≡ [] → ⊥
 some_at [] j h e = absurd (omega arith)
 some_at (x ∷ xs) j h e = cc
+
+-- the items from an index on have their tokens where the item there has, and those behind it have
+pub item_and_more : {X : Type 0} (places : List Span) (l : Label) → ((s : Span) (f : Erased) → has_own places l (Some s) f ≡ true) → (inside : X → Erased) (xs : List (Node X)) (j : ℕ) (n : Node X) → drop j xs ≡ n ∷ drop (j + 1) xs
+    → has_its_tokens places (item_trees l inside (drop j xs)) ≡ (has_its_tokens places (inside n.inner) && has_its_tokens places (item_trees l inside (drop (j + 1) xs)))
+item_and_more {X = X} places l own inside xs j n e = ap (λ z. has_its_tokens places (item_trees l inside z)) e ∙ ap (λ b. b && (has_its_tokens places (inside n.inner) && has_its_tokens places (more_trees l inside (drop (j + 1) xs)))) (own n.span (inside n.inner))
+    ∙ ap (λ b. has_its_tokens places (inside n.inner) && b) (first_or_more (drop (j + 1) xs))
+  where
+    first_or_more : (ns : List (Node X)) → has_its_tokens places (more_trees l inside ns) ≡ has_its_tokens places (item_trees l inside ns)
+    first_or_more [] = refl
+    first_or_more (m ∷ ns) = refl
 
 -- two documents more
 pub pushed_two : (xs ys zs : List Document) (c d : Document) → ys ≡ xs ++ (c ∷ []) → zs ≡ ys ++ (d ∷ []) → docs_of zs ≡ (docs_of xs · doc_of c) · doc_of d

@@ -1,9 +1,10 @@
 -- Nodes of operands, seen as a first operand and a list of signs and operands.
-use Rattle.std.proofs.Common.{◌≡◌, sym, ap, ◌∙◌}
+use Rattle.std.proofs.Common.{◌≡◌, refl, sym, ap, ◌∙◌}
 use Rattle.cedar_grammar.specs.Trees.{Label}
 use Rattle.cedar_tree.specs.Erased.{node, add_parts, mult_parts, or_parts, or_rest, relation_parts, unary_parts}
 use Rattle.cedar_tree.specs.NodeLists.{and_parts}
 use Rattle.cedar_tree.specs.declared.tree.Add as Add
+use Rattle.cedar_tree.specs.declared.tree.And as And
 use Rattle.cedar_tree.specs.declared.tree.Mult as Mult
 use Rattle.cedar_tree.specs.declared.tree.Or as Or
 use Rattle.cedar_tree.specs.declared.tree.Expr.TheBlock.{shown-the_row-And-extended-2-3, items_shown-the_row-And-extended-2-3, items_shown-the_row-Or-extended-2-6, items_shown-the_row-Add-extended-4-2, items_shown-the_row-Mult-extended-4-5}
@@ -23,3 +24,6 @@ unfolding out-Or denote.Hole.Carrier.out
 or_view (Or.Or' r s v row t w rest) =
     ap (λ z. node Label.and t (node Label.relation s (relation_parts r) z) (or_rest rest)) (and_row _ row ∙ ap relation_items (sym (items_shown-the_row-And-extended-2-3 v row)))
     ∙ ap (λ z. node Label.and t (node Label.relation s (relation_parts r) (relation_items (shown-the_row-And-extended-2-3 v row).items)) z) (or_row _ rest ∙ ap and_items (sym (items_shown-the_row-Or-extended-2-6 w rest)))
+
+pub and_view : (a : And.And) → and_parts a ≡ node Label.relation a.initial.span (relation_parts a.initial.inner) (relation_items a.extended.items)
+and_view a = refl

@@ -1,12 +1,11 @@
 -- What the parts of policies tell of their tokens.
-use Rattle.std.proofs.Common.{◌≡◌, ℕ, List, [], ◌∷◌, ◌++◌, map, ap, sym, ◌∙◌, append-nil, Option, Some, None}
+use Rattle.std.proofs.Common.{◌≡◌, ℕ, List, [], ◌∷◌, ◌++◌, map, Option, Some, None}
 use Rattle.std.specs.Prelude.{IsSomeAnd}
 use Rattle.cedar_grammar.specs.Trees.{Label, Forest, leaf, branch}
 use Rattle.cedar_grammar.specs.Trees as forest
 use Rattle.cedar_layout.specs.Lookups.{Shown, emptied}
 use Rattle.cedar_tree.specs.Erased.{Erased}
 use Rattle.cedar_documents.specs.NodeDocuments.{end_of_tokens, nodes_of}
-use Rattle.cedar_documents.proofs.Opened.{GivesIf}
 
 -- behind one token, with its comments or without them
 pub behind_token : (p : ℕ) (x : Shown) → x.span.end ≡ p → (b : List Shown) → end_of_tokens (b ++ map emptied (x ∷ [])) ≡ p
@@ -20,10 +19,6 @@ no_token x g e = absurd cc
 
 pub no_part : (s : List ℕ) (r : Erased) → ◌≡◌ {A = Erased} (leaf s r) forest.none → ⊥
 no_part s r e = absurd cc
-
--- where no token is taken
-pub nothing_more : {V : Type 0} (P : List Shown → Type 0) {v d : V} {old new : List Shown} → v ≡ d → new ≡ old → GivesIf P v d old new []
-nothing_more P q n before after p s = (q, n ∙ s ∙ ap (λ z. z ++ after) (sym (append-nil before)))
 
 -- what holds of an answer, and what holds beside it
 pub apart : {V : Type 0} (P : V → Type 0) (Q : Type 0) (r : Option V) → IsSomeAnd r (λ v. P v × Q) → IsSomeAnd r P × Q

@@ -41,9 +41,9 @@ pub none_annotated : (rest : List (Node Annotation)) (i : ℤ) (t : Clause Shown
 none_annotated rest i t before after now e s = record { left = t; done = []; trees = e; tokens = refl; document = refl; reached = s ∙ ap (λ z. z ++ (part_yield t ++ after)) (sym (append-nil before)) }
 
 -- one annotation more
-pub one_annotated : (n : Node Annotation) (rest : List (Node Annotation)) (i j : ℤ) → j ≡ i → (t : Clause Shown annotations) (docs new_docs : List Document) (d : Document) (before after now new : List Shown) → Annotated (n ∷ rest) i t docs before after now
-    → ((a : Clause Shown annotation) → IsAt n.span (part_yield a) → IsPartOf (annotation_parts n.inner) a → Makes (doc_of d) (part_document j a) now new (part_yield a)) → new_docs ≡ docs ++ (d ∷ []) → Annotated rest i t new_docs before after new
-one_annotated n rest i j same t docs new_docs d before after now new h shows pushed = go h.left h.trees h.tokens h.document h.reached
+pub one_annotated : (n : Node Annotation) (rest : List (Node Annotation)) (i : ℤ) (t : Clause Shown annotations) (docs new_docs : List Document) (d : Document) (before after now new : List Shown) → Annotated (n ∷ rest) i t docs before after now
+    → ((a : Clause Shown annotation) → IsAt n.span (part_yield a) → IsPartOf (annotation_parts n.inner) a → Makes (doc_of d) (part_document i a) now new (part_yield a)) → new_docs ≡ docs ++ (d ∷ []) → Annotated rest i t new_docs before after new
+one_annotated n rest i t docs new_docs d before after now new h shows pushed = go h.left h.trees h.tokens h.document h.reached
   where
     go : (left : Clause Shown annotations) → annotation_trees (n ∷ rest) none ≡ nodes_of (part_parts kind_of_shown left) → part_yield t ≡ h.done ++ part_yield left → part_document i t ≡ docs_of docs · part_document i left
         → now ≡ (before ++ map emptied h.done) ++ (part_yield left ++ after) → Annotated rest i t new_docs before after new
@@ -56,7 +56,7 @@ one_annotated n rest i j same t docs new_docs d before after now new h shows pus
           done = h.done ++ part_yield a;
           trees = o.2;
           tokens = y ∙ sym (append_assoc h.done (part_yield a) (part_yield m));
-          document = q ∙ sym (dot_assoc (docs_of docs) (part_document i a) (part_document i m)) ∙ ap (λ z. z · part_document i m) (ap (λ z. docs_of docs · z) (ap (λ z. part_document z a) (sym same) ∙ sym r.0) ∙ sym (docs_of-push docs d) ∙ ap docs_of (sym pushed));
+          document = q ∙ sym (dot_assoc (docs_of docs) (part_document i a) (part_document i m)) ∙ ap (λ z. z · part_document i m) (ap (λ z. docs_of docs · z) (sym r.0) ∙ sym (docs_of-push docs d) ∙ ap docs_of (sym pushed));
           reached = r.1 ∙ taken_more before h.done (part_yield a) (part_yield m ++ after);
         }
 
@@ -121,9 +121,9 @@ one_more i docs new d a m e (further {mid = mid} b not_none is_hard was pushed) 
     ∙ ap (λ z. docs_of z · still i z m) (sym pushed)
 
 -- one condition more
-pub one_conditioned : (n : Node Cond) (rest : List (Node Cond)) (i j : ℤ) → j ≡ i → (t : Clause Shown conds) (docs new_docs : List Document) (d : Document) (before after now new : List Shown) → Conditioned (n ∷ rest) i t docs before after now
-    → ((a : Clause Shown cond) → IsAt n.span (part_yield a) → IsPartOf (cond_parts n.inner) a → Makes (doc_of d) (part_document j a) now new (part_yield a)) → Pushed docs d new_docs → Conditioned rest i t new_docs before after new
-one_conditioned n rest i j same t docs new_docs d before after now new h shows pushed = go h.left h.trees h.tokens h.document h.reached
+pub one_conditioned : (n : Node Cond) (rest : List (Node Cond)) (i : ℤ) (t : Clause Shown conds) (docs new_docs : List Document) (d : Document) (before after now new : List Shown) → Conditioned (n ∷ rest) i t docs before after now
+    → ((a : Clause Shown cond) → IsAt n.span (part_yield a) → IsPartOf (cond_parts n.inner) a → Makes (doc_of d) (part_document i a) now new (part_yield a)) → Pushed docs d new_docs → Conditioned rest i t new_docs before after new
+one_conditioned n rest i t docs new_docs d before after now new h shows pushed = go h.left h.trees h.tokens h.document h.reached
   where
     go : (left : Clause Shown conds) → cond_trees (n ∷ rest) none ≡ nodes_of (part_parts kind_of_shown left) → part_yield t ≡ h.done ++ part_yield left → part_document i t ≡ docs_of docs · still i docs left
         → now ≡ (before ++ map emptied h.done) ++ (part_yield left ++ after) → Conditioned rest i t new_docs before after new
@@ -136,7 +136,7 @@ one_conditioned n rest i j same t docs new_docs d before after now new h shows p
           done = h.done ++ part_yield a;
           trees = o.2;
           tokens = y ∙ sym (append_assoc h.done (part_yield a) (part_yield m));
-          document = q ∙ one_more i docs new_docs d a m (r.0 ∙ ap (λ z. part_document z a) same) pushed;
+          document = q ∙ one_more i docs new_docs d a m r.0 pushed;
           reached = r.1 ∙ taken_more before h.done (part_yield a) (part_yield m ++ after);
         }
 

@@ -1,6 +1,6 @@
 -- What stands between brackets, and primaries: what their nodes tell of their parts.
 use Rattle.std.proofs.Common.{◌≡◌, ℕ, ℤ, List, [], ◌∷◌, ◌++◌, length, Option, Some, None, Bool, true, false, nat_eq, refl, sym, ap, ◌∙◌, subst, arith, rules}
-use Rattle.std.specs.Prelude.{⊤, codes, Vec, if◌then◌else◌, IsTrue, IsFalse}
+use Rattle.std.specs.Prelude.{⊤, codes, Vec, if◌then◌else◌, IsTrue, IsFalse, ◌&&◌, Result}
 use Rattle.std.specs.declared.alloc.Global.{Global}
 use Rattle.std.specs.declared.boxed.Box.{Box}
 use Rattle.std.proofs.lemmas.Bool.{eqb-true}
@@ -25,6 +25,8 @@ use Rattle.cedar_tree.specs.declared.tree.RecInit as RecInit
 use Rattle.cedar_tree.specs.declared.tree.Or as Or
 use Rattle.cedar_tree.specs.declared.tree.Expr as Expr
 use Rattle.cedar_tree.proofs.Views.{view_list, view_record}
+use Rattle.cedar_documents.specs.Found.{Finds, has_its_tokens, has_own}
+use Rattle.cedar_documents.specs.declared.doc.NoDocument.{NoDocument}
 use Rattle.cedar_documents.specs.NodeDocuments.{nodes_of, text_of, kind_of_shown}
 use Rattle.cedar_documents.proofs.Opened.{starts_here, in_turn, GivesIf, Always}
 
@@ -57,6 +59,9 @@ tests_empty (x ∷ xs) n b h e q = absurd cc
 pub tests_full : {X : Type 0} (xs : List X) (n : ℕ) (b : Bool) → n ≡ length xs → b ≡ nat_eq n 0 → (xs ≡ [] → ⊥) → IsFalse b
 tests_full [] n b h e q = absurd (q refl)
 tests_full (x ∷ xs) n b h e q = is_false b (λ t. let k : n ≡ 0 = eqb-true n 0 (sym e ∙ t) in absurd (omega arith))
+
+pub not_both : (b : Bool) → b ≡ true → b ≡ false → ⊥
+not_both b h k = cc
 
 -- ---- literals
 
@@ -158,7 +163,7 @@ only_itself (list_of l a r) = tt
 only_itself (record_empty l r) = tt
 only_itself (record_of l a r) = tt
 
-only : (s : Shape) (X : Erased) (t : Tree Shown primary) → first_shape X ≡ s → X ≡ nodes_of (parts kind_of_shown t) → Only s t
+pub only : (s : Shape) (X : Erased) (t : Tree Shown primary) → first_shape X ≡ s → X ≡ nodes_of (parts kind_of_shown t) → Only s t
 only s X t h e = subst (λ z. Only z t) (sym (shape_of_node X t e) ∙ h) (only_itself t)
 
 literal_is : (v : Literal) → label_shape (variant_label v) ≡ literals
@@ -189,37 +194,47 @@ module _ (p : Primary.Primary) (t : Tree Shown primary) (e : primary_parts p ≡
       → (variant Label.parens (leaf (codes "(") (node Label.expr b.value.span (expr_parts b.value.inner) (leaf (codes ")") none))) none ≡ nodes_of (parts kind_of_shown t)) × Only brackets t
   seen_brackets b h = let f = sym (view_brackets b) ∙ sym (ap primary_parts h) ∙ e in (f, only brackets (variant Label.parens (leaf (codes "(") (node Label.expr b.value.span (expr_parts b.value.inner) (leaf (codes ")") none))) none) t refl f)
 
-  pub seen_list : (v : Vec (Node Expr.Expr) Global) → p ≡ Primary.EList v → (variant Label.list (leaf (codes "[") (join (item_trees Label.expr expr_parts v.items) (leaf (codes "]") none))) none ≡ nodes_of (parts kind_of_shown t)) × Only lists t
-  seen_list v h = let f = sym (view_list v) ∙ sym (ap primary_parts h) ∙ e in (f, only lists (variant Label.list (leaf (codes "[") (join (item_trees Label.expr expr_parts v.items) (leaf (codes "]") none))) none) t refl f)
+  pub seen_list : (v : Vec (Node Expr.Expr) Global) (ns : List (Node Expr.Expr)) → p ≡ Primary.EList v → ns ≡ v.items → variant Label.list (leaf (codes "[") (join (item_trees Label.expr expr_parts ns) (leaf (codes "]") none))) none ≡ nodes_of (parts kind_of_shown t)
+  seen_list v ns h k = ap (λ ms. variant Label.list (leaf (codes "[") (join (item_trees Label.expr expr_parts ms) (leaf (codes "]") none))) none) k ∙ sym (view_list v) ∙ sym (ap primary_parts h) ∙ e
 
-  pub seen_record : (v : Vec (Node RecInit.RecInit) Global) → p ≡ Primary.RInits v → (variant Label.fields (leaf (codes "{") (join (item_trees Label.rec_init init_parts v.items) (leaf (codes "}") none))) none ≡ nodes_of (parts kind_of_shown t)) × Only records t
-  seen_record v h = let f = sym (view_record v) ∙ sym (ap primary_parts h) ∙ e in (f, only records (variant Label.fields (leaf (codes "{") (join (item_trees Label.rec_init init_parts v.items) (leaf (codes "}") none))) none) t refl f)
+  pub seen_record : (v : Vec (Node RecInit.RecInit) Global) (ns : List (Node RecInit.RecInit)) → p ≡ Primary.RInits v → ns ≡ v.items → variant Label.fields (leaf (codes "{") (join (item_trees Label.rec_init init_parts ns) (leaf (codes "}") none))) none ≡ nodes_of (parts kind_of_shown t)
+  seen_record v ns h k = ap (λ ms. variant Label.fields (leaf (codes "{") (join (item_trees Label.rec_init init_parts ms) (leaf (codes "}") none))) none) k ∙ sym (view_record v) ∙ sym (ap primary_parts h) ∙ e
+
+-- what is found of items between brackets is found of the items
+last_true : (b : Bool) → (b && true) ≡ b
+last_true true = refl
+last_true false = refl
+
+pub closed_has : (places : List Span) (X : Erased) (s : List ℕ) → has_its_tokens places (join X (leaf s none)) ≡ has_its_tokens places X
+closed_has places none s = refl
+closed_has places (leaf t f) s = closed_has places f s
+closed_has places (branch l f g) s = ap (λ b. has_own places l.0 l.1 f && (has_its_tokens places f && b)) (closed_has places g s)
+
+pub list_found : {D : Type 0} (r : Result D NoDocument) (places : List Span) (p : Primary.Primary) (v : Vec (Node Expr.Expr) Global) (ns : List (Node Expr.Expr)) → p ≡ Primary.EList v → ns ≡ v.items → Finds r (has_its_tokens places (item_trees Label.expr expr_parts ns)) → Finds r (has_its_tokens places (primary_parts p))
+list_found r places p v ns h k f =
+    let e : has_its_tokens places (primary_parts p) ≡ has_its_tokens places (item_trees Label.expr expr_parts ns) = ap (λ q. has_its_tokens places (primary_parts q)) h ∙ ap (λ X. has_its_tokens places X) (view_list v) ∙ last_true _
+    ∙ closed_has places (item_trees Label.expr expr_parts v.items) (codes "]") ∙ ap (λ ms. has_its_tokens places (item_trees Label.expr expr_parts ms)) (sym k) in
+    subst (λ b. Finds r b) (sym e) f
+
+pub record_found : {D : Type 0} (r : Result D NoDocument) (places : List Span) (p : Primary.Primary) (v : Vec (Node RecInit.RecInit) Global) (ns : List (Node RecInit.RecInit)) → p ≡ Primary.RInits v → ns ≡ v.items → Finds r (has_its_tokens places (item_trees Label.rec_init init_parts ns)) → Finds r (has_its_tokens places (primary_parts p))
+record_found r places p v ns h k f =
+    let e : has_its_tokens places (primary_parts p) ≡ has_its_tokens places (item_trees Label.rec_init init_parts ns) = ap (λ q. has_its_tokens places (primary_parts q)) h ∙ ap (λ X. has_its_tokens places X) (view_record v) ∙ last_true _
+    ∙ closed_has places (item_trees Label.rec_init init_parts v.items) (codes "}") ∙ ap (λ ms. has_its_tokens places (item_trees Label.rec_init init_parts ms)) (sym k) in
+    subst (λ b. Finds r b) (sym e) f
 
 -- ---- expressions
 
 view_plain : (b : Box (Node Or.Or) Global) → expr_parts (Expr.Or b) ≡ node Label.or b.value.span (or_parts b.value.inner) none
 view_plain b = search (rules, Or.the_lemmas)
 
+pub seen_plain : (x : Expr.Expr) (F : Erased) → expr_parts x ≡ F → (b : Box (Node Or.Or) Global) → x ≡ Expr.Or b → node Label.or b.value.span (or_parts b.value.inner) none ≡ F
+seen_plain x F e b h = sym (view_plain b) ∙ sym (ap expr_parts h) ∙ e
+
 view_if : (a b c : Box (Node Expr.Expr) Global) → expr_parts (Expr.If a b c)
     ≡ leaf (codes "if") (node Label.expr a.value.span (expr_parts a.value.inner) (leaf (codes "then") (node Label.expr b.value.span (expr_parts b.value.inner) (leaf (codes "else") (node Label.expr c.value.span (expr_parts c.value.inner) none)))))
 view_if a b c = search (rules, Or.the_lemmas)
 
-module _ (x : Expr.Expr) (F : Erased) (e : expr_parts x ≡ F) where
-  pub seen_plain : (b : Box (Node Or.Or) Global) → x ≡ Expr.Or b → node Label.or b.value.span (or_parts b.value.inner) none ≡ F
-  seen_plain b h = sym (view_plain b) ∙ sym (ap expr_parts h) ∙ e
-
-  pub seen_if : (a b c : Box (Node Expr.Expr) Global) → x ≡ Expr.If a b c
-      → leaf (codes "if") (node Label.expr a.value.span (expr_parts a.value.inner) (leaf (codes "then") (node Label.expr b.value.span (expr_parts b.value.inner) (leaf (codes "else") (node Label.expr c.value.span (expr_parts c.value.inner) none))))) ≡ F
-  seen_if a b c h = sym (view_if a b c) ∙ sym (ap expr_parts h) ∙ e
-
-pub no_leaf : (l : Label × Option Span) (p r : Erased) (x : Shown) (f : Forest Label Shown) → branch l p r ≡ nodes_of (leaf x f) → ⊥
-no_leaf l p r x f e = cc
-
-pub no_branch : (s : List ℕ) (r : Erased) (l : Label) (f g : Forest Label Shown) → leaf s r ≡ nodes_of (branch l f g) → ⊥
-no_branch s r l f g e = cc
-
--- the document of `if`, as it is put together
-pub three_lines : (w : ℤ) (i c t a e b r1 r2 r3 r4 n g nl ln : Doc) → nl ≡ nil → ln ≡ line → r1 ≡ e · nest w (line · b) · nl → r2 ≡ ln · r1 → r3 ≡ t · nest w (line · a) · r2 → r4 ≡ ln · r3 → n ≡ i · nest w (line · c) · r4 → g ≡ group n
-    → g ≡ group (i · (nest w (line · c) · line · (t · (nest w (line · a) · line · (e · nest w (line · b))))))
-three_lines w i c t a e b r1 r2 r3 r4 n g nl ln h1 h2 h3 h4 h5 h6 h7 h8 =
-    h8 ∙ ap group (h7 ∙ ap (λ z. i · nest w (line · c) · z) (h6 ∙ ap (λ z. z · r3) h2 ∙ ap (λ z. line · z) (h5 ∙ ap (λ z. t · nest w (line · a) · z) (h4 ∙ ap (λ z. z · r1) h2 ∙ ap (λ z. line · z) (h3 ∙ ap (λ z. e · nest w (line · b) · z) h1)))))
+-- the parts of an `if`, where its boxes hold these nodes
+pub seen_if : (x : Expr.Expr) (a b c : Box (Node Expr.Expr) Global) (l m n : Node Expr.Expr) → x ≡ Expr.If a b c → l ≡ a.value → m ≡ b.value → n ≡ c.value
+    → leaf (codes "if") (node Label.expr l.span (expr_parts l.inner) (leaf (codes "then") (node Label.expr m.span (expr_parts m.inner) (leaf (codes "else") (node Label.expr n.span (expr_parts n.inner) none))))) ≡ expr_parts x
+seen_if x a b c l m n h p q r = rw (p, q, r) (sym (view_if a b c) ∙ sym (ap expr_parts h))

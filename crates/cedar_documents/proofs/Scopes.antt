@@ -1,11 +1,11 @@
 -- What the trees of a scope tell of its variables, and their documents.
-use Rattle.std.proofs.Common.{◌≡◌, false, List, [], ◌∷◌, ◌++◌, map, ℕ, ℤ, Option, Some, None, refl, sym, ap, subst, append_assoc, append-nil, arith}
+use Rattle.std.proofs.Common.{◌≡◌, Bool, true, false, List, [], ◌∷◌, ◌++◌, map, ℕ, ℤ, Option, Some, None, refl, sym, ap, subst, append_assoc, append-nil, arith}
 use Rattle.std.proofs.lemmas.Bool.Decides.{nat_tests}
-use Rattle.std.specs.Prelude.{codes, not, is_some, ◌||◌, if◌then◌else◌, ◌==◌, length, suc}
+use Rattle.std.specs.Prelude.{codes, not, is_some, ◌||◌, ◌&&◌, if◌then◌else◌, ◌==◌, length, suc}
 use Rattle.cedar_tokens.specs.Listing.{Decorated, token_value}
 use Rattle.cedar_tokens.specs.declared.token.Span.{Span}
 use Rattle.cedar_grammar.specs.Trees.{Label, Forest, leaf, branch, none}
-use Rattle.cedar_grammar.specs.TypedTrees.{Tree, Clause, parts, yield, variable_bare, variable_is, variable_op, variable_is_op, no_cond, conds_more}
+use Rattle.cedar_grammar.specs.TypedTrees.{Tree, Clause, parts, part_yield, yield, variable_bare, variable_is, variable_op, variable_is_op, no_cond, conds_more}
 use Rattle.cedar_grammar.specs.TypedTrees as kind
 use Rattle.cedar_layout.specs.Comments.{lead_of, trail_of}
 use Rattle.cedar_layout.specs.Layout.{Doc, ◌·◌, hard, nil, text}
@@ -18,11 +18,12 @@ use Rattle.cedar_tree.specs.declared.tree.Name.{Name}
 use Rattle.cedar_tree.specs.declared.tree.Node.{Node}
 use Rattle.cedar_tree.specs.declared.tree.RelOp.{RelOp}
 use Rattle.cedar_tree.specs.declared.tree.VariableDef.{VariableDef}
+use Rattle.cedar_documents.specs.Found.{has_its_tokens}
 use Rattle.cedar_canonical.specs.Leaves.{part_map}
-use Rattle.cedar_documents.specs.NodeDocuments.{IsAt, IsNodeOf, IsPartOf, as_leaf, compared_document, end_of_tokens, kind_of_shown, nodes_of, text_of, variable_parts}
-use Rattle.cedar_canonical.specs.Table.{between_conds, is_bare, lead, tok, trail}
+use Rattle.cedar_documents.specs.NodeDocuments.{IsAt, IsNodeOf, IsPartOf, as_leaf, compared_document, document, end_of_tokens, kind_of_shown, nodes_of, part_document, text_of, variable_parts, variables_document}
+use Rattle.cedar_canonical.specs.Table.{C, between_conds, is_bare, lead, tok, trail}
 use Rattle.cedar_canonical.specs.Table.{leaf as leaf_document}
-use Rattle.cedar_documents.proofs.Opened.{GivesIf, ends_here, opened_leaf, opened_token, opened_tree}
+use Rattle.cedar_documents.proofs.Opened.{Always, Behind, GivesIf, ends_here, in_turn, opened_leaf, opened_token, opened_tree}
 
 abbrev Operator : Type 0
 Operator = RelOp × Node Expr.TheBlock.the_data-4
@@ -101,6 +102,17 @@ is_bound v (variable_is_op x w n p a) e =
     let o = opened_leaf Label.ident _ _ _ x (leaf w (branch Label.name (parts kind_of_shown n) (leaf p (branch Label.add (parts kind_of_shown a) none)))) refl e in
     rw ((typed v.entity_type v.ineq w n (leaf p (branch Label.add (parts kind_of_shown a) none)) o.3).is) refl
 
+-- ---- what is found of a variable
+
+-- a type has its tokens apart from what is behind it
+pub typed_found : (ps : List Span) (n : Option (Node Name)) (f : Erased) → has_its_tokens ps (type_parts n f) ≡ (has_its_tokens ps (type_parts n none) && has_its_tokens ps f)
+typed_found ps None f = refl
+typed_found ps (Some n) f = with_true (has_its_tokens ps (path_parts n.inner.path.items n.inner.name)) (has_its_tokens ps f)
+  where
+    with_true : (b c : Bool) → (b && c) ≡ ((b && true) && c)
+    with_true true c = refl
+    with_true false c = refl
+
 -- ---- tokens in a row
 
 pub nothing_more : {V : Type 0} {v d : V} {old new : List Shown} (P : List Shown → Type 0) (ts : List Shown) → GivesIf P v d old new (ts ++ []) → GivesIf P v d old new ts
@@ -109,6 +121,19 @@ nothing_more {v = v} {d = d} {old = old} {new = new} P ts h = subst (λ z. Gives
 -- behind tokens with this span, and one token before them
 pub ends_later : (s : Span) (x : Shown) (ts : List Shown) → IsAt s ts → (b : List Shown) → end_of_tokens (b ++ map emptied (x ∷ ts)) ≡ s.end
 ends_later s x ts h b = subst (λ z. end_of_tokens z ≡ s.end) (append_assoc b (emptied x ∷ []) (map emptied ts)) (ends_here s ts h (b ++ (emptied x ∷ [])))
+
+-- ---- the document of a scope
+
+-- three variables, the first two with this span, and two commas
+pub scope_in_turn : {first comma second other third : Doc} {o m n p q r : List Shown} (i : ℤ) (next : Doc) (s u : Span) (x y z : Clause Shown kind.variable) (c d : Shown) → IsAt s (part_yield x) → IsAt u (part_yield y)
+    → GivesIf Always first (part_document i x) o m (part_yield x) → GivesIf (Behind s) comma (C (as_leaf c) next) m n (c ∷ []) → GivesIf Always second (part_document i y) n p (part_yield y)
+    → GivesIf (Behind u) other (C (as_leaf d) next) p q (d ∷ []) → GivesIf Always third (part_document i z) q r (part_yield z)
+    → GivesIf Always (first · comma · second · other · third) (variables_document i next x c y d z) o r (part_yield x ++ (c ∷ (part_yield y ++ (d ∷ part_yield z))))
+scope_in_turn i next s u x y z c d sx uy h1 h2 h3 h4 h5 =
+    let behind_other = in_turn (λ a b. a · b) (Behind u) Always (d ∷ []) (part_yield z) h4 (λ b h. tt) h5 in
+    let behind_second = in_turn (λ a b. a · b) Always (Behind u) (part_yield y) (d ∷ part_yield z) h3 (λ b h. ends_here u (part_yield y) uy b) behind_other in
+    let behind_comma = in_turn (λ a b. a · b) (Behind s) Always (c ∷ []) (part_yield y ++ (d ∷ part_yield z)) h2 (λ b h. tt) behind_second in
+    in_turn (λ a b. a · b) Always (Behind s) (part_yield x) (c ∷ (part_yield y ++ (d ∷ part_yield z))) h1 (λ b h. ends_here s (part_yield x) sx b) behind_comma
 
 -- ---- the document of a variable
 

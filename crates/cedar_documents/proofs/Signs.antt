@@ -1,10 +1,11 @@
 -- Signs: the tokens between a span's start and a member's, and their documents.
-use Rattle.std.proofs.Common.{◌≡◌, ℕ, ℤ, zero, suc, Option, Some, None, ◌+◌, ◌<◌, ◌≤◌, List, [], ◌∷◌, ◌++◌, map, length, take, get_or, true, false, refl, sym, ap, ◌∙◌, subst, arith}
-use Rattle.std.specs.Prelude.{IsTrue, IsFalse, Result, Ok, Err, IfOk, codes}
+use Rattle.std.proofs.Common.{◌≡◌, ◌≢◌, ℕ, ℤ, zero, suc, Option, Some, None, ◌+◌, ◌<◌, ◌≤◌, List, [], ◌∷◌, ◌++◌, map, length, take, get_or, true, false, refl, sym, ap, ◌∙◌, subst, arith}
+use Rattle.std.specs.Prelude.{Bool, IsTrue, IsFalse, Result, Ok, Err, IfOk, codes, if◌then◌else◌, ◌==◌, ◌&&◌, ◌||◌}
 use Rattle.std.specs.List.{AllByRecursion, filter}
 use Rattle.std.proofs.lemmas.Bool.{false≢true}
 use Rattle.std.proofs.lemmas.Bool.Decides.{nat_tests}
-use Rattle.std.proofs.lemmas.List.{append_assoc, append-nil, map-append, take_more}
+use Rattle.std.proofs.lemmas.List.{append_assoc, append-nil, length-map, map-append, take_more}
+use Rattle.std.proofs.Math.Bool.{and-true, or-true}
 use Rattle.cedar_tokens.specs.Places.{InOrderFrom}
 use Rattle.cedar_tokens.specs.declared.token.Comment.{Comment}
 use Rattle.cedar_tokens.specs.declared.token.Span.{Span}
@@ -18,7 +19,7 @@ use Rattle.cedar_layout.proofs.Values.{dot_assoc, dot-nil, docs_of-push}
 use Rattle.cedar_tokens.specs.Listing.{token_value}
 use Rattle.cedar_grammar.specs.Trees.{Label, none}
 use Rattle.cedar_grammar.specs.TypedTrees.{Tree, unary, unsigned, signed, parts, yield}
-use Rattle.cedar_tree.specs.Erased.{Erased, node, variant, times, signs, primary_parts, unary_parts}
+use Rattle.cedar_tree.specs.Erased.{Erased, node, variant, times, signs, signs_or, primary_parts, unary_parts}
 use Rattle.cedar_tree.specs.NodeLists.{access_items, member_parts}
 use Rattle.cedar_tree.specs.NodeTrees.{is_node}
 use Rattle.cedar_tree.specs.declared.tree.NegOp.{NegOp}
@@ -26,6 +27,8 @@ use Rattle.cedar_tree.specs.declared.tree.Unary as Unary
 use Rattle.cedar_tree.specs.declared.tree.Expr.TheViews.{out-Unary}
 use Rattle.cedar_tree.specs.declared.tree.Expr.TheBlock.{items_shown-the_row-Member-access-2-4}
 use Rattle.cedar_tree.proofs.Views.{access_row}
+use Rattle.cedar_documents.specs.Found.{count_between, has_its_tokens, has_own, signs_before, start_of_node}
+use Rattle.cedar_documents.specs.Found as found
 use Rattle.cedar_documents.specs.NodeDocuments.{IsAt, IsNodeOf, text_of, kind_of_shown, document}
 use Rattle.cedar_documents.specs.Signs.{sign_text, sign_count, signs_of, signs_in, member_in}
 use Rattle.cedar_documents.proofs.Focus.{places, shown_order, starts_late}
@@ -95,7 +98,7 @@ module _ (s : Span) where
     outside_behind : AllByRecursion Outside (m ∷ a)
     outside_behind = behind_it m.span.start (m ∷ a) (omega (arith, last)) (rest_of x.span.start (x ∷ ss) a m from_first)
 
-    those_between : (filter (stands_in s) (b ++ (x ∷ (ss ++ (m ∷ a)))) ≡ x ∷ ss) × (emptied_in s (b ++ (x ∷ (ss ++ (m ∷ a)))) ≡ (b ++ map emptied (x ∷ ss)) ++ (m ∷ a))
+    pub those_between : (filter (stands_in s) (b ++ (x ∷ (ss ++ (m ∷ a)))) ≡ x ∷ ss) × (emptied_in s (b ++ (x ∷ (ss ++ (m ∷ a)))) ≡ (b ++ map emptied (x ∷ ss)) ++ (m ∷ a))
     those_between =
         let r = nothing_more (m ∷ a) outside_behind in (
           none_kept b (x ∷ (ss ++ (m ∷ a))) outside_before ∙ all_kept (x ∷ ss) (m ∷ a) inside ∙ ap (λ z. (x ∷ ss) ++ z) r.0 ∙ append-nil (x ∷ ss),
@@ -109,6 +112,61 @@ taken_between s ts order b ss a x m first last e =
     let o = subst (λ z. InOrderFrom 0 (places z)) e (shown_order 0 ts order) in
     let r = those_between s b ss a x m first last o in
     (ap (comments_in s) e ∙ ap (map (λ (t : Shown). t.comment)) r.0, ap (emptied_in s) e ∙ r.1)
+
+-- ---- how many they are
+
+one_more : {X Y : Type 0} (b : Bool) (x : X) (xs : List X) (y : Y) (ys : List Y) → length xs ≡ length ys → length (if b then x ∷ xs else xs) ≡ length (if b then y ∷ ys else ys)
+one_more true x xs y ys h = ap suc h
+one_more false x xs y ys h = h
+
+counted : (s : Span) (ts : List WrappedToken) → length (filter (stands_in s) (map shown ts)) ≡ count_between s.start s.end (found.places ts)
+counted s [] = refl
+counted s (t ∷ ts) = one_more (stands_in s (shown t)) (shown t) _ t.span _ (counted s ts)
+
+-- as many comments are handed out as tokens stand there
+pub comments_counted : (s : Span) (ts : List WrappedToken) (cs : List Comment) → map comment_parts cs ≡ comments_in s (map shown ts) → length cs ≡ count_between s.start s.end (found.places ts)
+comments_counted s ts cs e = sym (length-map cs comment_parts) ∙ ap length e ∙ length-map (filter (stands_in s) (map shown ts)) (λ (t : Shown). t.comment) ∙ counted s ts
+
+-- so many signs as there are, or another number
+pub as_many : (n count len between : ℕ) → count ≡ n → len ≡ between → len ≡ count → (n == 0 || between == n) ≡ true
+as_many n count len between e f g = let h : (between == n) ≡ true = grind (arith, nat_tests) in ap (λ z. n == 0 || z) h ∙ or-true (n == 0)
+
+pub not_as_many : (n count len between : ℕ) → count ≡ n → count ≢ 0 → len ≡ between → len ≢ count → (n == 0 || between == n) ≡ false
+not_as_many n count len between e k f g =
+    let h : (n == 0) ≡ false = grind (arith, nat_tests) in
+    let m : (between == n) ≡ false = grind (arith, nat_tests) in ap (λ z. z || between == n) h ∙ m
+
+before_times : (n : ℕ) (sign : List ℕ) (s : Span) (p : Erased) → signs_before (times n sign (node Label.member s p none)) ≡ n
+before_times zero sign s p = refl
+before_times (suc n) sign s p = ap suc (before_times n sign s p)
+
+start_behind : (n : ℕ) (sign : List ℕ) (s : Span) (p : Erased) → start_of_node (times n sign (node Label.member s p none)) ≡ s.start
+start_behind zero sign s p = refl
+start_behind (suc n) sign s p = start_behind n sign s p
+
+signs_or_need : (ps : List Span) (l : Label) (n : ℕ) (sign : List ℕ) (span s : Span) (p : Erased) → has_own ps Label.unary (Some span) (signs_or l n sign (node Label.member s p none)) ≡ (n == 0 || count_between span.start s.start ps == n)
+signs_or_need ps l zero sign span s p = refl
+signs_or_need ps l (suc n) sign span s p =
+    ap (λ k. suc k == 0 || count_between span.start (start_of_node (times n sign (node Label.member s p none))) ps == suc k) (before_times n sign s p) ∙ ap (λ q. suc n == 0 || count_between span.start q ps == suc n) (start_behind n sign s p)
+
+-- what signs need
+pub signs_need : (ps : List Span) (op : NegOp) (span s : Span) (p : Erased) → has_own ps Label.unary (Some span) (signs (Some op) (node Label.member s p none)) ≡ (sign_count op == 0 || count_between span.start s.start ps == sign_count op)
+signs_need ps (NegOp.Bang n) span s p = signs_or_need ps Label.bang n (codes "!") span s p
+signs_need ps (NegOp.Dash n) span s p = signs_or_need ps Label.dash n (codes "-") span s p
+
+times_need : (ps : List Span) (n : ℕ) (sign : List ℕ) (s : Span) (p : Erased) → has_its_tokens ps (times n sign (node Label.member s p none)) ≡ has_its_tokens ps p
+times_need ps zero sign s p = and-true (has_its_tokens ps p)
+times_need ps (suc n) sign s p = times_need ps n sign s p
+
+-- beside them only the member needs tokens
+signs_or_rest : (ps : List Span) (l : Label) (n : ℕ) (sign : List ℕ) (s : Span) (p : Erased) → has_own ps l None none ≡ true → has_its_tokens ps (signs_or l n sign (node Label.member s p none)) ≡ has_its_tokens ps p
+signs_or_rest ps l zero sign s p e = ap (λ z. z && (has_its_tokens ps p && true)) e ∙ and-true (has_its_tokens ps p)
+signs_or_rest ps l (suc n) sign s p e = times_need ps n sign s p
+
+member_needs : (ps : List Span) (op : Option NegOp) (s : Span) (p : Erased) → has_its_tokens ps (signs op (node Label.member s p none)) ≡ has_its_tokens ps p
+member_needs ps None s p = and-true (has_its_tokens ps p)
+member_needs ps (Some (NegOp.Bang n)) s p = signs_or_rest ps Label.bang n (codes "!") s p refl
+member_needs ps (Some (NegOp.Dash n)) s p = signs_or_rest ps Label.dash n (codes "-") s p refl
 
 -- ---- the documents
 
@@ -127,11 +185,6 @@ sign_step sign old new comments i c d l e f h =
     let more : map comment_parts (take (i + 1) comments) ≡ map comment_parts (take i comments) ++ comment_parts x ∷ [] = ap (map comment_parts) (take_more comments i c l) ∙ map-append comment_parts (take i comments) (x ∷ []) in
     ap docs_of e ∙ docs_of-push old d ∙ ap (λ z. z · doc_of d) h ∙ ap (λ z. signs_of sign (map comment_parts (take i comments)) · z) f
     ∙ sym (ap (signs_of sign) more ∙ signs_of-push sign (map comment_parts (take i comments)) (comment_parts x))
-
--- a document that is made and the tokens afterwards
-pub with_tokens : {E Q : Type 0} (m : Result Document E) (a d : Doc) → IfOk m (λ x. doc_of x ≡ a) → a ≡ d → Q → IfOk m (λ x. (doc_of x ≡ d) × Q)
-with_tokens (Err e) a d h f q = tt
-with_tokens (Ok x) a d h f q = (h ∙ f, q)
 
 -- ---- signs and their member
 
@@ -218,6 +271,14 @@ pub view_of_unary : (u : Unary.Unary) → unary_parts u ≡ signs (out-Unary u).
 unfolding out-Unary denote.Hole.Carrier.out
 view_of_unary (Unary.Unary' op p s v row t) =
     ap (λ z. signs op (node Label.member t (node Label.primary s (primary_parts p) z) none)) (access_row _ row ∙ ap access_items (sym (items_shown-the_row-Member-access-2-4 v row)))
+
+-- what a unary needs: its signs' tokens, and its member's
+pub unary_needs : (ps : List Span) (span : Span) (u : Unary.Unary) → (has_own ps Label.unary (Some span) (unary_parts u) && has_its_tokens ps (unary_parts u))
+    ≡ (has_own ps Label.unary (Some span) (signs (out-Unary u).op (node Label.member (out-Unary u).item.span (member_parts (out-Unary u).item.inner) none)) && has_its_tokens ps (member_parts (out-Unary u).item.inner))
+unary_needs ps span u =
+    let v = out-Unary u in
+    let f = signs v.op (node Label.member v.item.span (member_parts v.item.inner) none) in
+    ap (λ z. has_own ps Label.unary (Some span) z && has_its_tokens ps z) (view_of_unary u) ∙ ap (λ z. has_own ps Label.unary (Some span) f && z) (member_needs ps v.op v.item.span (member_parts v.item.inner))
 
 -- the document of signs and their member, made one after the other
 pub unary_shown : (i : ℤ) (t : Tree Shown unary) (before after mid new : List Shown) (sd md made : Doc) → sd · document i (member_in t) ≡ document i t → mid ≡ (before ++ map emptied (signs_in t)) ++ (yield (member_in t) ++ after)

@@ -1,15 +1,18 @@
 -- What the tree of a policy tells of its parts.
-use Rattle.std.proofs.Common.{◌≡◌, ℕ, List, [], ◌∷◌, ◌++◌, map, Option, refl, ap, sym, ◌∙◌, subst}
+use Rattle.std.proofs.Common.{◌≡◌, ℕ, Bool, true, false, List, [], ◌∷◌, ◌++◌, map, Option, refl, ap, sym, ◌∙◌, subst}
+use Rattle.std.specs.Prelude.{◌&&◌, codes}
 use Rattle.std.proofs.lemmas.List.{append_assoc, map-append}
 use Rattle.cedar_tokens.specs.declared.token.Span.{Span}
 use Rattle.cedar_grammar.specs.Trees.{Label, Forest, none, leaf, branch, join}
 use Rattle.cedar_grammar.specs.TypedTrees.{Clause, annotations, annotations_more, conds, conds_more, no_annotation, no_cond, part_parts}
 use Rattle.cedar_layout.specs.Lookups.{Shown, emptied}
-use Rattle.cedar_tree.specs.Erased.{Erased, annotation_trees, cond_trees}
+use Rattle.cedar_tree.specs.Erased.{Erased, annotation_trees, cond_trees, ident_tree, policy_parts, scope_variables, variable_items}
 use Rattle.cedar_tree.specs.declared.tree.Annotation.{Annotation}
 use Rattle.cedar_tree.specs.declared.tree.Cond.{Cond}
 use Rattle.cedar_tree.specs.declared.tree.Node.{Node}
-use Rattle.cedar_documents.specs.NodeDocuments.{IsAt, end_of_tokens, kind_of_shown, nodes_of}
+use Rattle.cedar_tree.specs.declared.tree.Policy.{Policy}
+use Rattle.cedar_documents.specs.Found.{has_its_tokens, has_own, starts}
+use Rattle.cedar_documents.specs.NodeDocuments.{IsAt, annotation_parts, cond_parts, end_of_tokens, kind_of_shown, nodes_of}
 use Rattle.cedar_documents.proofs.Opened.{GivesIf}
 use Rattle.cedar_documents.proofs.PolicyParts.{behind_token}
 
@@ -68,3 +71,37 @@ policy_ends ns xs ys zs cs e l c d q s =
     (ends_after p (e ∷ l ∷ []) (xs ++ (c ∷ (ys ++ (d ∷ ts))))
     (scope_ends p xs ys ts c d
     (ends_after p zs (q ∷ us) (ends_after p (q ∷ []) us (ends_after p cs (s ∷ []) (behind_token p s refl))))))
+
+-- ---- the tokens that a policy needs
+
+and_and : (a b c : Bool) → (a && (b && c)) ≡ ((a && b) && c)
+and_and true b c = refl
+and_and false b c = refl
+
+annotation_tokens : (p : List Span) (xs : List (Node Annotation)) (f : Erased) → has_its_tokens p (annotation_trees xs f) ≡ (has_its_tokens p (annotation_trees xs none) && has_its_tokens p f)
+annotation_tokens p [] f = refl
+annotation_tokens p (x ∷ xs) f =
+    ap (λ z. has_its_tokens p (annotation_parts x.inner) && z) (annotation_tokens p xs f)
+    ∙ and_and (has_its_tokens p (annotation_parts x.inner)) (has_its_tokens p (annotation_trees xs none)) (has_its_tokens p f)
+
+cond_tokens : (p : List Span) (xs : List (Node Cond)) (s : List ℕ) → has_its_tokens p (cond_trees xs (leaf s none)) ≡ has_its_tokens p (cond_trees xs none)
+cond_tokens p [] s = refl
+cond_tokens p (x ∷ xs) s = ap (λ z. has_its_tokens p (cond_parts x.inner) && z) (cond_tokens p xs s)
+
+joined_tokens : (p : List Span) (f g : Erased) → has_its_tokens p (join f g) ≡ (has_its_tokens p f && has_its_tokens p g)
+joined_tokens p none g = refl
+joined_tokens p (leaf s f) g = joined_tokens p f g
+joined_tokens p (branch l f h) g =
+    ap (λ z. has_own p l.0 l.1 f && (has_its_tokens p f && z)) (joined_tokens p h g)
+    ∙ ap (λ z. has_own p l.0 l.1 f && z) (and_and (has_its_tokens p f) (has_its_tokens p h) (has_its_tokens p g))
+    ∙ and_and (has_own p l.0 l.1 f) (has_its_tokens p f && has_its_tokens p h) (has_its_tokens p g)
+
+-- those of its annotations, of its effect, of its variables and of its conditions
+pub policy_tokens : (p : List Span) (x : Policy)
+    → has_its_tokens p (policy_parts x) ≡ (has_its_tokens p (annotation_trees x.annotations.items none) && (starts x.effect.span.start p && (has_its_tokens p (variable_items (scope_variables x)) && has_its_tokens p (cond_trees x.conds.items none))))
+policy_tokens p x =
+    let scope = variable_items (scope_variables x) in
+    let rest = leaf (codes ")") (cond_trees x.conds.items (leaf (codes ";") none)) in
+    annotation_tokens p x.annotations.items (ident_tree x.effect (leaf (codes "(") (join scope rest)))
+    ∙ ap (λ z. has_its_tokens p (annotation_trees x.annotations.items none) && (starts x.effect.span.start p && z))
+    (joined_tokens p scope rest ∙ ap (λ z. has_its_tokens p scope && z) (cond_tokens p x.conds.items (codes ";")))

@@ -1,4 +1,5 @@
 pub mod Kept
+pub mod Found
 pub mod NodeDocuments
 pub mod Signs
 pub mod Breaks

@@ -1,5 +1,5 @@
 -- The document of a node among the tokens of a context, and what making it does to them.
-use Rattle.std.specs.Prelude.{◌≡◌, ℕ, ℤ, List, [], ◌∷◌, ◌++◌, map, Option, Some, Result, IfOk, IfSome, IsSomeAnd, codes, None, if◌then◌else◌, ◌&&◌}
+use Rattle.std.specs.Prelude.{◌≡◌, ℕ, ℤ, List, [], ◌∷◌, ◌++◌, map, Option, Some, Result, IfOk, IsSomeAnd, codes, None, if◌then◌else◌, ◌&&◌}
 use Rattle.cedar_tokens.specs.Listing.{Decorated, token_value}
 use Rattle.cedar_tokens.specs.Tokens.{token_text}
 use Rattle.cedar_tokens.specs.declared.token.Comment.{Comment}
@@ -131,7 +131,7 @@ IsPartWith k span inner i ts doc = (t : Clause Shown k) × IsAt span (part_yield
 abbrev pub IsLeafWith : Span → List ℕ → List Shown → Doc → Type 0
 IsLeafWith span text ts doc = (t : Shown) × (t.span ≡ span) × (text ≡ token_value (text_of t)) × (ts ≡ t ∷ []) × (doc ≡ leaf_of (as_leaf t))
 
--- what `to_doc` answers: the same as `Shows`, where it answers a document
+-- the same of what `to_doc` answers: a document, if memory suffices
 abbrev pub ShowsPart : Result (Option Document) AllocError → List WrappedToken → List WrappedToken → List Shown → Doc → Type 0
 ShowsPart result old new ts doc = (before after : List Shown) → map shown old ≡ before ++ (ts ++ after)
-    → IfOk result (λ r. IfSome r (λ d. (doc_of d ≡ doc) × (map shown new ≡ (before ++ map emptied ts) ++ after)))
+    → IfOk result (λ r. IsSomeAnd r (λ d. (doc_of d ≡ doc) × (map shown new ≡ (before ++ map emptied ts) ++ after)))

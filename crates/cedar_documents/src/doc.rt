@@ -1,12 +1,15 @@
 //! The document of each node: its tokens, each between its comments, with the places where a line may break.
-ghost use Rattle.std.specs.Prelude.{◌≡◌, ℤ, List, [], Some, None, Ok, codes, IfOk, IfErr};
+ghost use Rattle.std.specs.Prelude.{◌≡◌, ℤ, List, [], Some, None, Ok, codes, true, IfOk, is_some};
 ghost use Rattle.cedar_grammar.specs.Trees.{Label, branch, leaf, none};
 ghost use Rattle.cedar_grammar.specs.TypedTrees as kind;
 ghost use Rattle.cedar_layout.specs.Layout as layout;
+ghost use Rattle.cedar_layout.specs.Value.{doc_of};
 ghost use Rattle.cedar_tree.specs.Erased as erased;
 ghost use Rattle.cedar_tree.specs.NodeLists as lists;
 ghost use Rattle.cedar_layout.specs.Lookups.{AreInOrder, Shown};
+ghost use Rattle.cedar_documents.specs.Found.{answer_of, has_its_tokens, places};
 ghost use Rattle.cedar_documents.specs.Kept.{KeepsTokens};
+ghost use Rattle.cedar_documents.specs.declared.doc.NoDocument.TheVariants.{OutOfMemory};
 ghost use Rattle.cedar_documents.specs.NodeDocuments.{IsLeafWith, IsNodeWith, IsPartWith, IsRowWith, ShowsPart, annotation_parts, cond_parts, variable_parts};
 
 use crate::config::Context;
@@ -27,7 +30,6 @@ use std::alloc::{AllocError, AllocFailed, Global};
 mod expressions;
 mod names;
 mod policies;
-mod taking;
 mod tokens;
 
 /// A part of a policy that has a document.
@@ -38,13 +40,16 @@ pub trait Doc<'src> {
     /// That this part is made of these tokens, and what its document is at an indentation.
     ghost is_shown: { Self → ℤ → List Shown → layout.Doc → Type 0 };
 
+    /// The nodes that this part is.
+    ghost nodes: { Self → erased.Erased };
+
     /// The document of this part: the one that the table has for it and its tokens, with the comments that the context
     /// holds at entry. Afterwards these tokens have no comments, and every other token is as before. This is said of a part
     /// whose own tokens stand side by side among the context's (`is_shown`), as those of a part of a text do.
     ///
-    /// `None` where an identifier, a string, a literal or a slot in it has no token that starts where it does, or where
-    /// the number of tokens between the start of signs and their member isn't the number of these signs. It is never so
-    /// for a part of a text and the tokens of that text. After `None` or a refusal tokens and spans are as before, some
+    /// `None` exactly where an identifier, a string, a literal or a slot in it has no token that starts where it does, or
+    /// where the number of tokens between the start of signs and their member isn't the number of these signs. It is never
+    /// so where the part's own tokens stand side by side. After `None` or a refusal tokens and spans are as before, some
     /// comments may be taken, and the context is of no more use.
     fn to_doc(
         &self,
@@ -55,6 +60,7 @@ pub trait Doc<'src> {
         ensures order { AreInOrder context.new.tokens.items }
         ensures kept { KeepsTokens context.old.tokens.items context.new.tokens.items }
         ensures config { context.new.config ≡ context.old.config }
+        ensures none { IfOk result (λ doc. is_some doc ≡ has_its_tokens (places context.old.tokens.items) (nodes self.now)) }
         ensures shows { (ts : List Shown) (doc : layout.Doc) → is_shown self.now context.old.config.now.indent_width ts doc → ShowsPart result context.old.tokens.items context.new.tokens.items ts doc };
 }
 
@@ -68,12 +74,16 @@ pub(crate) enum NoDocument {
 }
 
 impl From<AllocError> for NoDocument {
+    ghost from_gives = { λ _ e. e ≡ OutOfMemory };
+
     fn from(_error: AllocError) -> NoDocument {
         NoDocument::OutOfMemory
     }
 }
 
 impl<T: Drop> From<AllocFailed<T>> for NoDocument {
+    ghost from_gives = { λ _ e. e ≡ OutOfMemory };
+
     fn from(_failed: AllocFailed<T>) -> NoDocument {
         NoDocument::OutOfMemory
     }
@@ -84,8 +94,7 @@ pub(crate) type Made<'src> = Result<Document<'src>, NoDocument>;
 
 // The same as `to_doc` answers it.
 fn answer<'src>(made: Made<'src>) -> Result<Option<Document<'src>>, AllocError>
-    ensures made { IfOk made.entry (λ d. result ≡ Ok (Some d)) }
-    ensures none { IfErr made.entry (λ _. IfOk result (λ r. r ≡ None)) }
+    ensures { result ≡ answer_of made.entry }
 {
     match made {
         Ok(doc) => Ok(Some(doc)),
@@ -95,6 +104,8 @@ fn answer<'src>(made: Made<'src>) -> Result<Option<Document<'src>>, AllocError>
 }
 
 impl<'src> Doc<'src> for Node<Policy<'src>> {
+    ghost nodes = { λ n. erased.node Label.policy n.span (erased.policy_parts n.inner) none };
+
     ghost is_shown = { λ n. IsPartWith kind.policy n.span (erased.policy_parts n.inner) };
 
     fn to_doc(
@@ -102,11 +113,19 @@ impl<'src> Doc<'src> for Node<Policy<'src>> {
         alloc: Global,
         context: &mut Context<'_, 'src>,
     ) -> Result<Option<Document<'src>>, AllocError> {
-        answer(policy_doc(alloc, &self.inner, self.span, context))
+        answer(policy_doc(
+            alloc,
+            &self.inner,
+            self.span,
+            context.config.indent_width,
+            context.tokens.as_mut_slice(),
+        ))
     }
 }
 
 impl<'src> Doc<'src> for Node<Annotation<'src>> {
+    ghost nodes = { λ n. erased.node Label.annotation n.span (annotation_parts n.inner) none };
+
     ghost is_shown = { λ n. IsPartWith kind.annotation n.span (annotation_parts n.inner) };
 
     fn to_doc(
@@ -114,11 +133,13 @@ impl<'src> Doc<'src> for Node<Annotation<'src>> {
         alloc: Global,
         context: &mut Context<'_, 'src>,
     ) -> Result<Option<Document<'src>>, AllocError> {
-        answer(annotation_doc(alloc, &self.inner, self.span, context))
+        answer(annotation_doc(alloc, &self.inner, self.span, context.tokens.as_mut_slice()))
     }
 }
 
 impl<'src> Doc<'src> for Node<VariableDef<'src>> {
+    ghost nodes = { λ n. erased.node Label.variable n.span (variable_parts n.inner) none };
+
     ghost is_shown = { λ n. IsPartWith kind.variable n.span (variable_parts n.inner) };
 
     fn to_doc(
@@ -126,11 +147,18 @@ impl<'src> Doc<'src> for Node<VariableDef<'src>> {
         alloc: Global,
         context: &mut Context<'_, 'src>,
     ) -> Result<Option<Document<'src>>, AllocError> {
-        answer(variable_doc(alloc, &self.inner, context))
+        answer(variable_doc(
+            alloc,
+            &self.inner,
+            context.config.indent_width,
+            context.tokens.as_mut_slice(),
+        ))
     }
 }
 
 impl<'src> Doc<'src> for Node<Cond<'src>> {
+    ghost nodes = { λ n. erased.node Label.condition n.span (cond_parts n.inner) none };
+
     ghost is_shown = { λ n. IsPartWith kind.cond n.span (cond_parts n.inner) };
 
     fn to_doc(
@@ -138,11 +166,19 @@ impl<'src> Doc<'src> for Node<Cond<'src>> {
         alloc: Global,
         context: &mut Context<'_, 'src>,
     ) -> Result<Option<Document<'src>>, AllocError> {
-        answer(cond_doc(alloc, &self.inner, self.span, context))
+        answer(cond_doc(
+            alloc,
+            &self.inner,
+            self.span,
+            context.config.indent_width,
+            context.tokens.as_mut_slice(),
+        ))
     }
 }
 
 impl<'src> Doc<'src> for Node<Expr<'src>> {
+    ghost nodes = { λ n. erased.node Label.expr n.span (erased.expr_parts n.inner) none };
+
     ghost is_shown = { λ n. IsNodeWith kind.expr n.span (erased.expr_parts n.inner) };
 
     fn to_doc(
@@ -150,11 +186,19 @@ impl<'src> Doc<'src> for Node<Expr<'src>> {
         alloc: Global,
         context: &mut Context<'_, 'src>,
     ) -> Result<Option<Document<'src>>, AllocError> {
-        answer(expr_doc(alloc, &self.inner, self.span, context))
+        answer(expr_doc(
+            alloc,
+            &self.inner,
+            self.span,
+            context.config.indent_width,
+            context.tokens.as_mut_slice(),
+        ))
     }
 }
 
 impl<'src> Doc<'src> for Node<Or<'src>> {
+    ghost nodes = { λ n. erased.node Label.or n.span (erased.or_parts n.inner) none };
+
     ghost is_shown = { λ n. IsNodeWith kind.ors n.span (erased.or_parts n.inner) };
 
     fn to_doc(
@@ -162,11 +206,18 @@ impl<'src> Doc<'src> for Node<Or<'src>> {
         alloc: Global,
         context: &mut Context<'_, 'src>,
     ) -> Result<Option<Document<'src>>, AllocError> {
-        answer(or_doc(alloc, &self.inner, context))
+        answer(or_doc(
+            alloc,
+            &self.inner,
+            context.config.indent_width,
+            context.tokens.as_mut_slice(),
+        ))
     }
 }
 
 impl<'src> Doc<'src> for Node<And<'src>> {
+    ghost nodes = { λ n. erased.node Label.and n.span (lists.and_parts n.inner) none };
+
     ghost is_shown = { λ n. IsNodeWith kind.ands n.span (lists.and_parts n.inner) };
 
     fn to_doc(
@@ -174,11 +225,18 @@ impl<'src> Doc<'src> for Node<And<'src>> {
         alloc: Global,
         context: &mut Context<'_, 'src>,
     ) -> Result<Option<Document<'src>>, AllocError> {
-        answer(and_doc(alloc, &self.inner, context))
+        answer(and_doc(
+            alloc,
+            &self.inner,
+            context.config.indent_width,
+            context.tokens.as_mut_slice(),
+        ))
     }
 }
 
 impl<'src> Doc<'src> for Node<Relation<'src>> {
+    ghost nodes = { λ n. erased.node Label.relation n.span (erased.relation_parts n.inner) none };
+
     ghost is_shown = { λ n. IsNodeWith kind.relation n.span (erased.relation_parts n.inner) };
 
     fn to_doc(
@@ -186,11 +244,18 @@ impl<'src> Doc<'src> for Node<Relation<'src>> {
         alloc: Global,
         context: &mut Context<'_, 'src>,
     ) -> Result<Option<Document<'src>>, AllocError> {
-        answer(relation_doc(alloc, &self.inner, context))
+        answer(relation_doc(
+            alloc,
+            &self.inner,
+            context.config.indent_width,
+            context.tokens.as_mut_slice(),
+        ))
     }
 }
 
 impl<'src> Doc<'src> for Node<Add<'src>> {
+    ghost nodes = { λ n. erased.node Label.add n.span (erased.add_parts n.inner) none };
+
     ghost is_shown = { λ n. IsNodeWith kind.add n.span (erased.add_parts n.inner) };
 
     fn to_doc(
@@ -198,11 +263,18 @@ impl<'src> Doc<'src> for Node<Add<'src>> {
         alloc: Global,
         context: &mut Context<'_, 'src>,
     ) -> Result<Option<Document<'src>>, AllocError> {
-        answer(add_doc(alloc, &self.inner, context))
+        answer(add_doc(
+            alloc,
+            &self.inner,
+            context.config.indent_width,
+            context.tokens.as_mut_slice(),
+        ))
     }
 }
 
 impl<'src> Doc<'src> for Node<Mult<'src>> {
+    ghost nodes = { λ n. erased.node Label.mult n.span (erased.mult_parts n.inner) none };
+
     ghost is_shown = { λ n. IsNodeWith kind.mult n.span (erased.mult_parts n.inner) };
 
     fn to_doc(
@@ -210,35 +282,64 @@ impl<'src> Doc<'src> for Node<Mult<'src>> {
         alloc: Global,
         context: &mut Context<'_, 'src>,
     ) -> Result<Option<Document<'src>>, AllocError> {
-        answer(mult_doc(alloc, &self.inner, context))
+        answer(mult_doc(
+            alloc,
+            &self.inner,
+            context.config.indent_width,
+            context.tokens.as_mut_slice(),
+        ))
     }
 }
 
 impl<'src> Doc<'src> for AddOp {
+    ghost nodes = { λ o. none };
+
     ghost is_shown = { λ o i ts doc. (ts ≡ []) × (doc ≡ layout.text (erased.addop_text o)) };
 
     fn to_doc(
         &self,
         _alloc: Global,
         _context: &mut Context<'_, 'src>,
-    ) -> Result<Option<Document<'src>>, AllocError> {
+    ) -> Result<Option<Document<'src>>, AllocError>
+        requires { AreInOrder _context.old.tokens.items }
+        ensures order { AreInOrder _context.new.tokens.items }
+        ensures kept { KeepsTokens _context.old.tokens.items _context.new.tokens.items }
+        ensures config { _context.new.config ≡ _context.old.config }
+        ensures none { IfOk result (λ doc. is_some doc ≡ true) }
+        ensures shows { (ts : List Shown) (doc : layout.Doc) → (ts ≡ []) × (doc ≡ layout.text (erased.addop_text self.now)) → ShowsPart result _context.old.tokens.items _context.new.tokens.items ts doc }
+        ensures text { (d : Document) × (result ≡ Ok (Some d)) × (doc_of d ≡ layout.text (erased.addop_text self.now)) }
+        ensures context { _context.new ≡ _context.old }
+    {
         Ok(Some(Document::Text(add_op_text(*self))))
     }
 }
 
 impl<'src> Doc<'src> for MultOp {
+    ghost nodes = { λ o. none };
+
     ghost is_shown = { λ o i ts doc. (ts ≡ []) × (doc ≡ layout.text (codes "*")) };
 
     fn to_doc(
         &self,
         _alloc: Global,
         _context: &mut Context<'_, 'src>,
-    ) -> Result<Option<Document<'src>>, AllocError> {
+    ) -> Result<Option<Document<'src>>, AllocError>
+        requires { AreInOrder _context.old.tokens.items }
+        ensures order { AreInOrder _context.new.tokens.items }
+        ensures kept { KeepsTokens _context.old.tokens.items _context.new.tokens.items }
+        ensures config { _context.new.config ≡ _context.old.config }
+        ensures none { IfOk result (λ doc. is_some doc ≡ true) }
+        ensures shows { (ts : List Shown) (doc : layout.Doc) → (ts ≡ []) × (doc ≡ layout.text (codes "*")) → ShowsPart result _context.old.tokens.items _context.new.tokens.items ts doc }
+        ensures text { (d : Document) × (result ≡ Ok (Some d)) × (doc_of d ≡ layout.text (codes "*")) }
+        ensures context { _context.new ≡ _context.old }
+    {
         Ok(Some(Document::Text("*")))
     }
 }
 
 impl<'src> Doc<'src> for Node<Unary<'src>> {
+    ghost nodes = { λ n. erased.node Label.unary n.span (erased.unary_parts n.inner) none };
+
     ghost is_shown = { λ n. IsNodeWith kind.unary n.span (erased.unary_parts n.inner) };
 
     fn to_doc(
@@ -246,11 +347,19 @@ impl<'src> Doc<'src> for Node<Unary<'src>> {
         alloc: Global,
         context: &mut Context<'_, 'src>,
     ) -> Result<Option<Document<'src>>, AllocError> {
-        answer(unary_doc(alloc, &self.inner, self.span, context))
+        answer(unary_doc(
+            alloc,
+            &self.inner,
+            self.span,
+            context.config.indent_width,
+            context.tokens.as_mut_slice(),
+        ))
     }
 }
 
 impl<'src> Doc<'src> for Member<'src> {
+    ghost nodes = { λ m. lists.member_parts m };
+
     ghost is_shown = { λ m i ts doc. IsRowWith kind.member (lists.member_parts m) i ts doc };
 
     fn to_doc(
@@ -258,11 +367,18 @@ impl<'src> Doc<'src> for Member<'src> {
         alloc: Global,
         context: &mut Context<'_, 'src>,
     ) -> Result<Option<Document<'src>>, AllocError> {
-        answer(member_doc(alloc, self, context))
+        answer(member_doc(
+            alloc,
+            self,
+            context.config.indent_width,
+            context.tokens.as_mut_slice(),
+        ))
     }
 }
 
 impl<'src> Doc<'src> for Node<MemAccess<'src>> {
+    ghost nodes = { λ n. erased.node Label.access n.span (erased.access_parts n.inner) none };
+
     ghost is_shown = { λ n i ts doc. IsRowWith kind.accesses (branch (Label.access, Some n.span) (erased.access_parts n.inner) none) i ts doc };
 
     fn to_doc(
@@ -270,11 +386,19 @@ impl<'src> Doc<'src> for Node<MemAccess<'src>> {
         alloc: Global,
         context: &mut Context<'_, 'src>,
     ) -> Result<Option<Document<'src>>, AllocError> {
-        answer(access_doc(alloc, &self.inner, self.span, context))
+        answer(access_doc(
+            alloc,
+            &self.inner,
+            self.span,
+            context.config.indent_width,
+            context.tokens.as_mut_slice(),
+        ))
     }
 }
 
 impl<'src> Doc<'src> for Node<Primary<'src>> {
+    ghost nodes = { λ n. erased.node Label.primary n.span (erased.primary_parts n.inner) none };
+
     ghost is_shown = { λ n. IsNodeWith kind.primary n.span (erased.primary_parts n.inner) };
 
     fn to_doc(
@@ -282,11 +406,19 @@ impl<'src> Doc<'src> for Node<Primary<'src>> {
         alloc: Global,
         context: &mut Context<'_, 'src>,
     ) -> Result<Option<Document<'src>>, AllocError> {
-        answer(primary_doc(alloc, &self.inner, self.span, context))
+        answer(primary_doc(
+            alloc,
+            &self.inner,
+            self.span,
+            context.config.indent_width,
+            context.tokens.as_mut_slice(),
+        ))
     }
 }
 
 impl<'src> Doc<'src> for Node<RecInit<'src>> {
+    ghost nodes = { λ n. erased.node Label.rec_init n.span (lists.init_parts n.inner) none };
+
     ghost is_shown = { λ n. IsNodeWith kind.init n.span (lists.init_parts n.inner) };
 
     fn to_doc(
@@ -294,11 +426,18 @@ impl<'src> Doc<'src> for Node<RecInit<'src>> {
         alloc: Global,
         context: &mut Context<'_, 'src>,
     ) -> Result<Option<Document<'src>>, AllocError> {
-        answer(init_doc(alloc, &self.inner, context))
+        answer(init_doc(
+            alloc,
+            &self.inner,
+            context.config.indent_width,
+            context.tokens.as_mut_slice(),
+        ))
     }
 }
 
 impl<'src> Doc<'src> for Node<Name<'src>> {
+    ghost nodes = { λ n. erased.name_tree n none };
+
     ghost is_shown = { λ n. IsNodeWith kind.name n.span (erased.path_parts n.inner.path.items n.inner.name) };
 
     fn to_doc(
@@ -306,11 +445,13 @@ impl<'src> Doc<'src> for Node<Name<'src>> {
         alloc: Global,
         context: &mut Context<'_, 'src>,
     ) -> Result<Option<Document<'src>>, AllocError> {
-        answer(name_doc(alloc, &self.inner, context))
+        answer(name_doc(alloc, &self.inner, context.tokens.as_mut_slice()))
     }
 }
 
 impl<'src> Doc<'src> for Node<Ref<'src>> {
+    ghost nodes = { λ n. erased.ref_tree n none };
+
     ghost is_shown = { λ n. IsNodeWith kind.ref n.span (erased.name_tree n.inner.path (leaf (codes "::") (erased.str_tree n.inner.eid none))) };
 
     fn to_doc(
@@ -318,11 +459,13 @@ impl<'src> Doc<'src> for Node<Ref<'src>> {
         alloc: Global,
         context: &mut Context<'_, 'src>,
     ) -> Result<Option<Document<'src>>, AllocError> {
-        answer(ref_doc(alloc, &self.inner, context))
+        answer(ref_doc(alloc, &self.inner, context.tokens.as_mut_slice()))
     }
 }
 
 impl<'src> Doc<'src> for Node<Ident<'src>> {
+    ghost nodes = { λ n. erased.ident_tree n none };
+
     ghost is_shown = { λ n i. IsLeafWith n.span n.inner.0.now };
 
     fn to_doc(
@@ -330,11 +473,18 @@ impl<'src> Doc<'src> for Node<Ident<'src>> {
         alloc: Global,
         context: &mut Context<'_, 'src>,
     ) -> Result<Option<Document<'src>>, AllocError> {
-        answer(leaf_doc(alloc, self.inner.0, self.span, context))
+        answer(leaf_doc(
+            alloc,
+            self.inner.0,
+            self.span,
+            context.tokens.as_mut_slice(),
+        ))
     }
 }
 
 impl<'src> Doc<'src> for Node<Str<'src>> {
+    ghost nodes = { λ n. erased.str_tree n none };
+
     ghost is_shown = { λ n i. IsLeafWith n.span n.inner.0.now };
 
     fn to_doc(
@@ -342,11 +492,18 @@ impl<'src> Doc<'src> for Node<Str<'src>> {
         alloc: Global,
         context: &mut Context<'_, 'src>,
     ) -> Result<Option<Document<'src>>, AllocError> {
-        answer(leaf_doc(alloc, self.inner.0, self.span, context))
+        answer(leaf_doc(
+            alloc,
+            self.inner.0,
+            self.span,
+            context.tokens.as_mut_slice(),
+        ))
     }
 }
 
 impl<'src> Doc<'src> for Node<Literal<'src>> {
+    ghost nodes = { λ n. erased.node (erased.variant_label n.inner) n.span (leaf (erased.literal_text n.inner) none) none };
+
     ghost is_shown = { λ n i. IsLeafWith n.span (erased.literal_text n.inner) };
 
     fn to_doc(
@@ -354,11 +511,18 @@ impl<'src> Doc<'src> for Node<Literal<'src>> {
         alloc: Global,
         context: &mut Context<'_, 'src>,
     ) -> Result<Option<Document<'src>>, AllocError> {
-        answer(leaf_doc(alloc, literal_text(&self.inner), self.span, context))
+        answer(leaf_doc(
+            alloc,
+            literal_text(&self.inner),
+            self.span,
+            context.tokens.as_mut_slice(),
+        ))
     }
 }
 
 impl<'src> Doc<'src> for Node<Slot> {
+    ghost nodes = { λ n. erased.node Label.slot n.span (leaf (erased.slot_text n.inner) none) none };
+
     ghost is_shown = { λ n i. IsLeafWith n.span (erased.slot_text n.inner) };
 
     fn to_doc(
@@ -366,18 +530,34 @@ impl<'src> Doc<'src> for Node<Slot> {
         alloc: Global,
         context: &mut Context<'_, 'src>,
     ) -> Result<Option<Document<'src>>, AllocError> {
-        answer(leaf_doc(alloc, slot_text(self.inner), self.span, context))
+        answer(leaf_doc(
+            alloc,
+            slot_text(self.inner),
+            self.span,
+            context.tokens.as_mut_slice(),
+        ))
     }
 }
 
 impl<'src> Doc<'src> for Ident<'src> {
+    ghost nodes = { λ n. none };
+
     ghost is_shown = { λ n i ts doc. (ts ≡ []) × (doc ≡ layout.text n.0.now) };
 
     fn to_doc(
         &self,
         _alloc: Global,
         _context: &mut Context<'_, 'src>,
-    ) -> Result<Option<Document<'src>>, AllocError> {
+    ) -> Result<Option<Document<'src>>, AllocError>
+        requires { AreInOrder _context.old.tokens.items }
+        ensures order { AreInOrder _context.new.tokens.items }
+        ensures kept { KeepsTokens _context.old.tokens.items _context.new.tokens.items }
+        ensures config { _context.new.config ≡ _context.old.config }
+        ensures none { IfOk result (λ doc. is_some doc ≡ true) }
+        ensures shows { (ts : List Shown) (doc : layout.Doc) → (ts ≡ []) × (doc ≡ layout.text self.now.0.now) → ShowsPart result _context.old.tokens.items _context.new.tokens.items ts doc }
+        ensures text { (d : Document) × (result ≡ Ok (Some d)) × (doc_of d ≡ layout.text self.now.0.now) }
+        ensures context { _context.new ≡ _context.old }
+    {
         Ok(Some(Document::Text(self.0)))
     }
 }

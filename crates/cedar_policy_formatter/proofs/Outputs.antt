@@ -1,6 +1,6 @@
 -- The output of policies that are laid out one after the other.
 use Rattle.std.proofs.Common.{◌≡◌, ◌≢◌, ℕ, ℤ, List, [], ◌∷◌, ◌++◌, map, Bool, true, false, Option, Some, None, refl, sym, ap, ◌∙◌, subst, append-nil}
-use Rattle.std.specs.Prelude.{IfSome}
+use Rattle.std.specs.Prelude.{IsSomeAnd}
 use Rattle.std.specs.List.{flat_map}
 use Rattle.std.proofs.lemmas.List.{append_assoc, map-append}
 use Rattle.cedar_grammar.specs.Trees.{Label}
@@ -29,8 +29,11 @@ use Rattle.cedar_tree.specs.declared.tree.Policies.{Policies}
 use Rattle.std.specs.Str.{IsUtf8}
 use Rattle.cedar_policy_formatter.specs.Written.{IsPolicyText, AreJoined, IsParted, IsPlainStream}
 
-pub some_is : {X : Type 0} (P : X → Type 0) (o : Option X) (x : X) → o ≡ Some x → IfSome o P → P x
-some_is P o x e h = subst (λ z. IfSome z P) e h
+pub some_is : {X : Type 0} (P : X → Type 0) (o : Option X) (x : X) → o ≡ Some x → IsSomeAnd o P → P x
+some_is P o x e h = subst (λ z. IsSomeAnd z P) e h
+
+pub none_is : {X : Type 0} (P : X → Type 0) (o : Option X) → o ≡ None → IsSomeAnd o P → ⊥
+none_is P o e h = subst (λ z. IsSomeAnd z P) e h
 
 pub cleaned_layout : (w : ℕ) (i : ℤ) (p : Clause Shown policy) (d : Document) (empty rendered text out : List ℕ) → doc_of d ≡ part_document i p → empty ≡ [] → ((t : List ℕ) × IsTheLayoutAt w (doc_of d) t × (rendered ≡ empty ++ t))
     → text ≡ rendered → IsCleaned text out → IsPolicyText w i p out
@@ -106,6 +109,17 @@ module _ (w : ℕ) (i : ℤ) (all : List (Clause Shown policy)) where
             written = e ∙ written_more h.texts first out parted t h.is_first h.written d;
             is_first = some_texts h.texts t;
           }
+
+  -- where the text of the next policy is wanting, so is the whole
+  pub joined_fails : (n : Node Policy) (rest : List (Node Policy)) (now : List Shown) (out : List ℕ) (first : Bool) (R : Type 0) → JoinedSoFar w i all (n ∷ rest) now out first
+      → ((p : Clause Shown policy) → IsAt n.span (part_yield p) → IsPartOf (erased.policy_parts n.inner) p → (before after : List Shown) → now ≡ before ++ (part_yield p ++ after) → R) → R
+  joined_fails n rest now out first R h f = go h.left h.nodes h.state
+    where
+      go : (left : List (Clause Shown policy)) → erased.policy_trees (n ∷ rest) ≡ nodes_of (policy_trees kind_of_shown left) → now ≡ map emptied (flat_map part_yield h.done) ++ flat_map part_yield left → R
+      go [] b s = absurd cc
+      go (p ∷ ps) b s =
+          let o = opened Label.policy n.span (erased.policy_parts n.inner) (erased.policy_trees rest) (part_parts kind_of_shown p) (policy_trees kind_of_shown ps) refl b in
+          f p (part_at p o.1) o.0 (map emptied (flat_map part_yield h.done)) (flat_map part_yield ps) s
 
   pub joined_ends : (now : List Shown) (out : List ℕ) (first : Bool) → JoinedSoFar w i all [] now out first → AreJoined w i all out
   joined_ends now out first h = go h.left h.parts h.nodes

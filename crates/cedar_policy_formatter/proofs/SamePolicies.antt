@@ -17,12 +17,12 @@ use Rattle.cedar_grammar.proofs.TreeLaws.{list_has_one_tree}
 use Rattle.cedar_tree.specs.Erased.{erase, without_spans, SameTree}
 use Rattle.cedar_tree.specs.Laws.{NodesHaveThePlainTexts}
 use Rattle.cedar_tree.specs.NodeTrees.{IsTreeOf, spanned}
+use Rattle.cedar_tree.specs.Refusals.{Refuses}
 use Rattle.cedar_tree.specs.declared.error.FormatError.{FormatError}
 use Rattle.cedar_tree.specs.declared.error.FormatError.TheVariants.{UnknownCharacter, UnfinishedString, NumberTooLarge, Grammar, TooDeep, NoDocument, Unsound, OutOfMemory}
 use Rattle.cedar_tree.specs.declared.tree.Policies.{Policies}
 use Rattle.cedar_canonical.specs.Canonical.{IsOutputOf, OutputHasTheList, OutputIsAccepted, plain_listing}
 use Rattle.cedar_canonical.proofs.Grammatical.{value_kind}
-use Rattle.cedar_policy_formatter.specs.Refused.{RefusesText}
 use Rattle.cedar_policy_formatter.specs.Texts.{FailsCheck, plain_values}
 use Rattle.cedar_policy_formatter.proofs.Checked.{leaves_without_spans}
 
@@ -65,7 +65,7 @@ module _ (texts : NodesHaveThePlainTexts) (has_list : OutputHasTheList) (w : ℕ
       (subst (λ z. G kind_of greatest_depth (without_spans (erase p)) z) (same_values m is_m) g) (values_tree texts x t o.list a o.is_list)
 
   -- a check of it can only want memory
-  pub never_fails : OutputIsAccepted → Accepted x → (t : Policies) (e : FormatError) → IsTreeOf x t → FailsCheck y t e → RefusesText x e
+  pub never_fails : OutputIsAccepted → Accepted x → (t : Policies) (e : FormatError) → IsTreeOf x t → FailsCheck y t e → Refuses x e
   never_fails accepted a t OutOfMemory b f = tt
   never_fails accepted a t Unsound b (inl n) = absurd (n (accepted w i x y utf8 a o))
   never_fails accepted a t Unsound b (inr (p, q, s)) = absurd (s (same_policies t p b q))

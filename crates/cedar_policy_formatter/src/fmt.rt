@@ -1,6 +1,7 @@
 //! Formatting of whole texts.
 ghost use Rattle.std.specs.Prelude.{◌≡◌, ◌↔◌, IsTrue, ◌++◌, ◌∷◌, List, map, IfOk, IfErr, OnOk, MatchResult, string_bytes};
 ghost use Rattle.std.specs.List.{flat_map};
+ghost use Rattle.cedar_tokens.specs.Split.{Splits};
 ghost use Rattle.cedar_tokens.specs.Tokens.{comments_left};
 ghost use Rattle.cedar_tree.specs.Erased as erased;
 ghost use Rattle.cedar_tree.specs.NodeTrees.{IsTreeOf};
@@ -15,7 +16,8 @@ ghost use Rattle.cedar_policy_formatter.specs.Compared.{HaveEqualLists};
 ghost use Rattle.cedar_policy_formatter.specs.Written.{IsPolicyText, AreJoined, IsParted, IsPlainStream};
 ghost use Rattle.cedar_documents.specs.Kept.{KeepsTokens};
 ghost use Rattle.cedar_policy_formatter.specs.OutputPolicies.{OutputsKeepThePolicies};
-ghost use Rattle.cedar_policy_formatter.specs.Refused.{IsOwn, RefusesText, RefusesOne};
+ghost use Rattle.cedar_policy_formatter.specs.Refused.{IsMemory, RefusesOne};
+ghost use Rattle.cedar_tree.specs.Refusals.{Refuses};
 ghost use Rattle.cedar_policy_formatter.specs.Texts.{IsTextOf, KeepsPolicies, FailsCheck, KeptPoliciesHaveTheSameTokens};
 
 use cedar_cst::cst::laws::{
@@ -43,21 +45,21 @@ pub use stream::{RunFault, Watched, format_stream};
 ///
 /// Trailing commas are dropped, leading zeros of numbers too; every comment is kept in its place. The result is the written
 /// layout of the list of `ps` without trailing commas, at the width and the indentation of `config`. It is accepted, and its
-/// tree is that of `ps` but for spans. A text that isn't accepted is refused as
-/// `cst::parse_policies` refuses it, with the same reason at the same place; only an accepted one could be refused
-/// otherwise, and then as `NoDocument`.
+/// tree is that of `ps` but for spans. Every accepted text has its result, if memory suffices; every other is refused as
+/// `cst::parse_policies` refuses it, with the same reason at the same place.
 pub fn policies_str_to_pretty(
     alloc: Global,
     ps: &str,
     config: &Config,
 ) -> Result<String, FormatError>
-    ensures answer { MatchResult result (λ _. Accepted ps.now) (RefusesText ps.now) }
+    ensures answer { MatchResult result (λ _. Accepted ps.now) (Refuses ps.now) }
     ensures kept { IfOk result (λ out. KeepsPolicies ps.now (string_bytes out)) }
     ensures output { IfOk result (λ out. IsOutputOf config.now.line_width config.now.indent_width ps.now (string_bytes out)) }
 {
     tree_is_of_accepted();
     nodes_have_the_plain_texts();
     outputs_are_canonical();
+    outputs_keep_the_policies();
     let tree = parse_policies(alloc, ps)?;
     let text = lay_out(alloc, ps, &tree, config)?;
     soundness_check(alloc, text.as_str(), &tree)?;
@@ -83,10 +85,10 @@ pub fn soundness_check(alloc: Global, ps: &str, tree: &Policies<'_>) -> Result<(
     }
 }
 
-/// Whether `ps` is as `policies_str_to_pretty` lays it out: it is its own output. Only an accepted text gets an answer; every other is refused as
-/// there.
+/// Whether `ps` is as `policies_str_to_pretty` lays it out: it is its own output. Every accepted text gets an answer, if
+/// memory suffices; every other is refused as there.
 pub fn is_formatted(alloc: Global, ps: &str, config: &Config) -> Result<bool, FormatError>
-    ensures answer { MatchResult result (λ _. Accepted ps.now) (RefusesText ps.now) }
+    ensures answer { MatchResult result (λ _. Accepted ps.now) (Refuses ps.now) }
     ensures output { IfOk result (λ r. IsTrue r ↔ IsOutputOf config.now.line_width config.now.indent_width ps.now ps.now) }
 {
     outputs_are_canonical();
@@ -95,8 +97,8 @@ pub fn is_formatted(alloc: Global, ps: &str, config: &Config) -> Result<bool, Fo
     Ok(text.as_str() == ps)
 }
 
-/// Whether `a` and `b` are laid out alike: their lists without trailing commas are equal by value. Only accepted texts get an answer. A refusal of `a` is answered before one of
-/// `b`.
+/// Whether `a` and `b` are laid out alike: their lists without trailing commas are equal by value. Accepted texts get an
+/// answer, if memory suffices. A refusal of `a` is answered before one of `b`.
 pub fn same_layout(alloc: Global, a: &str, b: &str, config: &Config) -> Result<bool, FormatError>
     ensures answer { MatchResult result (λ _. Accepted a.now × Accepted b.now) (RefusesOne a.now b.now) }
     ensures lists { IfOk result (λ r. IsTrue r ↔ HaveEqualLists a.now b.now) }
@@ -133,8 +135,7 @@ fn lay_out<'src>(
     tree: &Policies<'src>,
     config: &Config,
 ) -> Result<String, FormatError>
-    ensures refused { IfErr result IsOwn }
-    ensures output { IsTreeOf ps.now tree.now → IfOk result (λ out. IsOutputOf config.now.line_width config.now.indent_width ps.now (string_bytes out)) }
+    ensures { IsTreeOf ps.now tree.now → MatchResult result (λ out. IsOutputOf config.now.line_width config.now.indent_width ps.now (string_bytes out)) IsMemory }
 {
     let (tokens, closing) = plain_stream(alloc, ps)?;
     let mut context = Context { config, tokens };
@@ -150,7 +151,7 @@ fn plain_stream<'src>(
 ) -> Result<(Vec<WrappedToken<'src>>, Comments<'src>), FormatError>
     ensures order { IfOk result (λ p. AreInOrder p.0.items) }
     ensures stream { IfOk result (λ p. IsPlainStream ps.now p.0.items (comments_left p.1)) }
-    ensures refused { IfErr result IsOwn }
+    ensures refused { Splits ps.now → IfErr result IsMemory }
 {
     let Some((mut tokens, closing)) = get_token_stream(alloc, ps)? else {
         return Err(FormatError::NoDocument);
@@ -169,9 +170,8 @@ fn joined_policies<'src>(
     ensures order { AreInOrder context.new.tokens.items }
     ensures kept { KeepsTokens context.old.tokens.items context.new.tokens.items }
     ensures config { context.new.config ≡ context.old.config }
-    ensures refused { IfErr result IsOwn }
     ensures joined { (ps : List (Clause Shown kind.policy)) → erased.policy_trees tree.now.policies.items ≡ nodes_of (policy_trees kind_of_shown ps) → map shown context.old.tokens.items ≡ flat_map part_yield ps
-        → IfOk result (λ out. AreJoined context.old.config.now.line_width context.old.config.now.indent_width ps (string_bytes out)) }
+        → MatchResult result (λ out. AreJoined context.old.config.now.line_width context.old.config.now.indent_width ps (string_bytes out)) IsMemory }
 {
     let mut text = String::new(alloc);
     let mut is_first = true;
@@ -204,9 +204,8 @@ fn policy_text<'src>(
     ensures order { AreInOrder context.new.tokens.items }
     ensures kept { KeepsTokens context.old.tokens.items context.new.tokens.items }
     ensures config { context.new.config ≡ context.old.config }
-    ensures refused { IfErr result IsOwn }
     ensures text { (p : Clause Shown kind.policy) → IsAt policy.now.span (part_yield p) → IsPartOf (erased.policy_parts policy.now.inner) p → (before after : List Shown) → map shown context.old.tokens.items ≡ before ++ (part_yield p ++ after)
-        → IfOk result (λ out. IsPolicyText context.old.config.now.line_width context.old.config.now.indent_width p (string_bytes out) × (map shown context.new.tokens.items ≡ (before ++ map emptied (part_yield p)) ++ after)) }
+        → MatchResult result (λ out. IsPolicyText context.old.config.now.line_width context.old.config.now.indent_width p (string_bytes out) × (map shown context.new.tokens.items ≡ (before ++ map emptied (part_yield p)) ++ after)) IsMemory }
 {
     let width = context.config.line_width;
     let Some(doc) = policy.to_doc(alloc, context)? else {

@@ -1,4 +1,6 @@
 //! The documents of words, strings, literals, slots, paths and entities.
+#![tactic(auto, using(cedar_tokens::proofs::KeptOrder::order_kept))]
+
 ghost use Rattle.std.specs.Prelude.{◌≡◌, ◌∷◌, [], ℤ, codes};
 ghost use Rattle.cedar_tokens.specs.Listing.{token_value};
 ghost use Rattle.cedar_grammar.specs.Trees.{leaf, none};
@@ -6,76 +8,70 @@ ghost use Rattle.cedar_grammar.specs.TypedTrees.{Tree, yield};
 ghost use Rattle.cedar_grammar.specs.TypedTrees as kind;
 ghost use Rattle.cedar_tree.specs.Erased.{addop_text, literal_text, name_tree, path_parts, relop_text, slot_text, str_tree};
 ghost use Rattle.cedar_layout.specs.Lookups.{AreInOrder, Shown};
+ghost use Rattle.cedar_documents.specs.Found.{Finds, has_its_tokens, places, starts};
 ghost use Rattle.cedar_documents.specs.Kept.{KeepsTokens};
 ghost use Rattle.cedar_documents.specs.NodeDocuments.{IsNodeOf, Shows, as_leaf, document, text_of};
 ghost use Rattle.cedar_canonical.specs.Table as table;
 
-use crate::config::Context;
-use crate::doc::taking::take_at_start;
-use crate::doc::tokens::mark_after;
-use crate::doc::{Made, NoDocument};
+use crate::doc::Made;
+use crate::doc::tokens::{comment_at_start, mark_after};
 use cedar_layout::layout::Document;
 use cedar_layout::utils::add_comment;
-use cedar_tokens::token::Span;
+use cedar_tokens::token::{Span, WrappedToken};
 use cedar_tree::tree::{AddOp, Literal, Name, Ref, RelOp, Slot};
 use std::alloc::Global;
 
-/// A part that is one token: `text` between the comments of the token that starts where the part does.
+/// `C(token)`: `text` between the comments of the token that starts where the part does.
 pub(super) fn leaf_doc<'src>(
     alloc: Global,
     text: &'src str,
     span: Span,
-    context: &mut Context<'_, 'src>,
+    tokens: &mut [WrappedToken<'src>],
 ) -> Made<'src>
-    requires { AreInOrder context.old.tokens.items }
-    ensures order { AreInOrder context.new.tokens.items }
-    ensures kept { KeepsTokens context.old.tokens.items context.new.tokens.items }
-    ensures config { context.new.config ≡ context.old.config }
-    ensures shows { (t : Shown) → t.span.start ≡ span.start → text.now ≡ token_value (text_of t) → Shows result context.old.tokens.items context.new.tokens.items (t ∷ []) (table.leaf (as_leaf t)) }
+    requires { AreInOrder tokens.old }
+    ensures kept { KeepsTokens tokens.old tokens.new }
+    ensures found { Finds result (starts span.start (places tokens.old)) }
+    ensures shows { (t : Shown) → t.span.start ≡ span.start → text.now ≡ token_value (text_of t) → Shows result tokens.old tokens.new (t ∷ []) (table.leaf (as_leaf t)) }
 {
-    match take_at_start(span, context) {
-        Some(comment) => Ok(add_comment(alloc, Document::Text(text), &comment, Document::Nil)?),
-        None => Err(NoDocument::NoToken),
-    }
+    let comment = comment_at_start(span, tokens)?;
+    Ok(add_comment(alloc, Document::Text(text), &comment, Document::Nil)?)
 }
 
-/// The words of a path, joined by `::`.
+/// Identifiers `C(id)` joined by `C("::")`.
 pub(super) fn name_doc<'src>(
     alloc: Global,
     name: &Name<'src>,
-    context: &mut Context<'_, 'src>,
+    tokens: &mut [WrappedToken<'src>],
 ) -> Made<'src>
-    requires { AreInOrder context.old.tokens.items }
-    ensures order { AreInOrder context.new.tokens.items }
-    ensures kept { KeepsTokens context.old.tokens.items context.new.tokens.items }
-    ensures config { context.new.config ≡ context.old.config }
-    ensures shows { (i : ℤ) (t : Tree Shown kind.name) → IsNodeOf (path_parts name.now.path.items name.now.name) t → Shows result context.old.tokens.items context.new.tokens.items (yield t) (document i t) }
+    requires { AreInOrder tokens.old }
+    ensures kept { KeepsTokens tokens.old tokens.new }
+    ensures found { Finds result (has_its_tokens (places tokens.old) (path_parts name.now.path.items name.now.name)) }
+    ensures shows { (i : ℤ) (t : Tree Shown kind.name) → IsNodeOf (path_parts name.now.path.items name.now.name) t → Shows result tokens.old tokens.new (yield t) (document i t) }
 {
     let mut docs = Vec::new(alloc);
     for word in &name.path {
-        docs.push(leaf_doc(alloc, word.inner.0, word.span, context)?)?;
-        docs.push(mark_after(alloc, "::", word.span, Document::Nil, context)?)?;
+        docs.push(leaf_doc(alloc, word.inner.0, word.span, tokens)?)?;
+        docs.push(mark_after(alloc, "::", word.span, Document::Nil, tokens)?)?;
     }
-    docs.push(leaf_doc(alloc, name.name.inner.0, name.name.span, context)?)?;
+    docs.push(leaf_doc(alloc, name.name.inner.0, name.name.span, tokens)?)?;
     Ok(Document::Seq(docs))
 }
 
-/// An entity: its type, `::`, and its name in quotes.
+/// `path . C("::") . C(str)`
 pub(super) fn ref_doc<'src>(
     alloc: Global,
     entity: &Ref<'src>,
-    context: &mut Context<'_, 'src>,
+    tokens: &mut [WrappedToken<'src>],
 ) -> Made<'src>
-    requires { AreInOrder context.old.tokens.items }
-    ensures order { AreInOrder context.new.tokens.items }
-    ensures kept { KeepsTokens context.old.tokens.items context.new.tokens.items }
-    ensures config { context.new.config ≡ context.old.config }
-    ensures shows { (i : ℤ) (t : Tree Shown kind.ref) → IsNodeOf (name_tree entity.now.path (leaf (codes "::") (str_tree entity.now.eid none))) t → Shows result context.old.tokens.items context.new.tokens.items (yield t) (document i t) }
+    requires { AreInOrder tokens.old }
+    ensures kept { KeepsTokens tokens.old tokens.new }
+    ensures found { Finds result (has_its_tokens (places tokens.old) (name_tree entity.now.path (leaf (codes "::") (str_tree entity.now.eid none)))) }
+    ensures shows { (i : ℤ) (t : Tree Shown kind.ref) → IsNodeOf (name_tree entity.now.path (leaf (codes "::") (str_tree entity.now.eid none))) t → Shows result tokens.old tokens.new (yield t) (document i t) }
 {
-    let path = name_doc(alloc, &entity.path.inner, context)?;
-    let colons = mark_after(alloc, "::", entity.path.span, Document::Nil, context)?;
-    let eid = leaf_doc(alloc, entity.eid.inner.0, entity.eid.span, context)?;
-    Ok(path.append(alloc, colons.append(alloc, eid)?)?)
+    let path = name_doc(alloc, &entity.path.inner, tokens)?;
+    let colons = mark_after(alloc, "::", entity.path.span, Document::Nil, tokens)?;
+    let eid = leaf_doc(alloc, entity.eid.inner.0, entity.eid.span, tokens)?;
+    Ok(Document::Seq(vec![in alloc; path, colons, eid]?))
 }
 
 /// The text of a literal; that of a number has no leading zeros.

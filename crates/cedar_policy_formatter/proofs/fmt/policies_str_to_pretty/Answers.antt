@@ -1,18 +1,19 @@
 use Rattle.std.proofs.Common.{sym, subst}
 use Rattle.std.proofs.lemmas.Result.{err_from_is_err_and}
 use Rattle.cedar_canonical.specs.Canonical.{IsOutputOf}
-use Rattle.cedar_policy_formatter.specs.Texts.{IsTextOf}
 use Rattle.cedar_policy_formatter.proofs.SamePolicies.{never_fails}
 use Rattle.cedar_policy_formatter.proofs.fmt.policies_str_to_pretty.Goals as goal
 
 pub returns-clause-kept : goal.returns-clause-kept
-returns-clause-kept c = (c.in_ok-tree.tree, c.in_ok-tree.ensures.tree, subst (λ z. IsTextOf z c.in_ok-tree.tree) c.as_str.ensures.value c.in_ok-soundness_check.ensures)
+returns-clause-kept c =
+    let t = c.in_ok-tree.ensures.tree in
+    (c.in_ok-tree.tree, t, c.outputs_keep_the_policies.ensures c.args.config.now.line_width c.args.config.now.indent_width c.args.ps.now _ c.in_ok-tree.tree c.utf8.ps (c.in_ok-text.ensures t) t)
 
 pub returns-in_err-soundness_check-clause-answer : goal.returns-in_err-soundness_check-clause-answer
 returns-in_err-soundness_check-clause-answer c =
     let p = err_from_is_err_and c.from_residual-in_err-soundness_check.result c.from_residual-in_err-soundness_check.ensures.1 in
     let width = c.args.config.now.line_width in
     let indent = c.args.config.now.indent_width in
-    let output = subst (λ z. IsOutputOf width indent c.args.ps.now z) (sym c.as_str.ensures.value) (c.in_ok-text.ensures.output c.in_ok-tree.ensures.tree) in
+    let output = subst (λ z. IsOutputOf width indent c.args.ps.now z) (sym c.as_str.ensures.value) (c.in_ok-text.ensures c.in_ok-tree.ensures.tree) in
     let accepted = c.tree_is_of_accepted.ensures c.args.ps.now c.in_ok-tree.tree c.in_ok-tree.ensures.tree in
     rw (p.1, p.2) (never_fails c.nodes_have_the_plain_texts.ensures c.outputs_are_canonical.ensures.list width indent c.args.ps.now c.as_str.result.now c.utf8.ps output c.outputs_are_canonical.ensures.accepted accepted c.in_ok-tree.tree _ c.in_ok-tree.ensures.tree c.in_err-soundness_check.ensures)

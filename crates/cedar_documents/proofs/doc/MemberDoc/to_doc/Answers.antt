@@ -1,5 +1,24 @@
-use Rattle.cedar_documents.proofs.Answered.{shown_row}
+use Rattle.std.proofs.Common.{◌≡◌, to_z, of_z, w64, arith, rules, refl}
+use Rattle.std.proofs.lemmas.Int.{ints}
+use Rattle.cedar_tree.specs.NodeLists.{member_parts}
+use Rattle.cedar_grammar.specs.Trees.{none}
+use Rattle.cedar_documents.specs.Found.{has_its_tokens}
+use Rattle.cedar_documents.proofs.Answered.{Called, kept_after, none_after, order_after, shown_row}
 use Rattle.cedar_documents.proofs.doc.MemberDoc.to_doc.Goals as goal
 
+called : (c : goal.After-answer) → Called c.member_doc.result c.answer.result (member_parts c.args.self.now) (λ P. has_its_tokens P (member_parts c.args.self.now)) c.args.context.now.tokens.len c.args.context.now.tokens.items c.as_mut_slice.result.now c.member_doc.new.tokens
+called c = record { len = search rules; given = c.as_mut_slice.ensures.value; order = c.requires; kept = c.member_doc.ensures.kept; found = c.member_doc.ensures.found; same = refl; answer = c.answer.ensures }
+
+pub returns-clause-order : goal.returns-clause-order
+returns-clause-order c = order_after (called c)
+
+pub returns-clause-kept : goal.returns-clause-kept
+returns-clause-kept c = kept_after (called c)
+
+pub returns-clause-none : goal.returns-clause-none
+returns-clause-none c = none_after (called c)
+
 pub returns-clause-shows : goal.returns-clause-shows
-returns-clause-shows c = shown_row c.member_doc.result c.answer.result (record { made_one = c.answer.ensures.made; made_none = c.answer.ensures.none }) _ _ _ _ (λ t n. c.member_doc.ensures.shows t n)
+returns-clause-shows c =
+    let width : to_z w64 (of_z w64 c.args.context.now.config.now.indent_width) ≡ c.args.context.now.config.now.indent_width = omega (arith, ints) in
+    shown_row c.args.context.now.config.now.indent_width width (member_parts c.args.self.now) (called c) (λ t n. c.member_doc.ensures.shows t n)

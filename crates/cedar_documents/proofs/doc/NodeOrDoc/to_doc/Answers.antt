@@ -1,5 +1,25 @@
-use Rattle.cedar_documents.proofs.Answered.{shown_node}
+use Rattle.std.proofs.Common.{◌≡◌, to_z, of_z, w64, arith, rules, refl}
+use Rattle.std.proofs.lemmas.Int.{ints}
+use Rattle.cedar_tree.specs.Erased.{node, or_parts}
+use Rattle.cedar_grammar.specs.Trees.{Label, none}
+use Rattle.cedar_documents.specs.Found.{has_its_tokens}
+use Rattle.cedar_documents.proofs.Answered.{Called, and_one, kept_after, none_after, order_after, shown_node}
+use Rattle.cedar_documents.proofs.OwnTokens.{signed_tree}
 use Rattle.cedar_documents.proofs.doc.NodeOrDoc.to_doc.Goals as goal
 
+called : (c : goal.After-answer) → Called c.or_doc.result c.answer.result (node Label.or c.args.self.now.span (or_parts c.args.self.now.inner) none) (λ P. has_its_tokens P (or_parts c.args.self.now.inner)) c.args.context.now.tokens.len c.args.context.now.tokens.items c.as_mut_slice.result.now c.or_doc.new.tokens
+called c = record { len = search rules; given = c.as_mut_slice.ensures.value; order = c.requires; kept = c.or_doc.ensures.kept; found = c.or_doc.ensures.found; same = and_one _; answer = c.answer.ensures }
+
+pub returns-clause-order : goal.returns-clause-order
+returns-clause-order c = order_after (called c)
+
+pub returns-clause-kept : goal.returns-clause-kept
+returns-clause-kept c = kept_after (called c)
+
+pub returns-clause-none : goal.returns-clause-none
+returns-clause-none c = none_after (called c)
+
 pub returns-clause-shows : goal.returns-clause-shows
-returns-clause-shows c = shown_node c.or_doc.result c.answer.result (record { made_one = c.answer.ensures.made; made_none = c.answer.ensures.none }) _ _ _ _ _ (λ t s n. c.or_doc.ensures.shows t n)
+returns-clause-shows c =
+    let width : to_z w64 (of_z w64 c.args.context.now.config.now.indent_width) ≡ c.args.context.now.config.now.indent_width = omega (arith, ints) in
+    shown_node c.args.context.now.config.now.indent_width width Label.or c.args.self.now.span (or_parts c.args.self.now.inner) refl (λ t. (tt, signed_tree t, tt)) (called c) (λ t s n. c.or_doc.ensures.shows t n)

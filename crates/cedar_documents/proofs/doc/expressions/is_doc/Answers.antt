@@ -1,26 +1,34 @@
-use Rattle.std.proofs.Common.{◌≡◌, to_z, of_z, w64, arith, ap, ◌∙◌, ◌∷◌, []}
+use Rattle.std.proofs.Common.{◌≡◌, ◌∷◌, [], to_z, of_z, w64, arith, ap, ◌∙◌, true, false}
 use Rattle.std.proofs.lemmas.Int.{ints}
 use Rattle.cedar_grammar.specs.TypedTrees.{yield}
 use Rattle.cedar_layout.specs.Comments.{space}
-use Rattle.cedar_layout.specs.Layout.{◌·◌, nest, group}
+use Rattle.cedar_layout.specs.Layout.{◌·◌, line, nest, group}
 use Rattle.cedar_layout.specs.Value.{doc_of}
-use Rattle.cedar_layout.proofs.Values.{dot_assoc}
-use Rattle.cedar_documents.specs.NodeDocuments.{as_leaf, document}
-use Rattle.cedar_canonical.specs.Table.{leaf}
-use Rattle.cedar_documents.proofs.Opened.{in_turn, freely, Always, Behind}
+use Rattle.cedar_layout.proofs.Values.{doc_of_text, doc_of_line}
+use Rattle.cedar_tree.specs.Erased.{add_parts, path_parts}
+use Rattle.cedar_documents.specs.Found.{has_its_tokens}
+use Rattle.cedar_documents.specs.NodeDocuments.{document}
+use Rattle.cedar_documents.proofs.Found.{as_before, missed}
+use Rattle.cedar_documents.proofs.Opened.{in_turn, freely, rewritten, nothing_behind, ends_here, Always, Behind}
+use Rattle.cedar_documents.proofs.Relations.{row_of_five, row_of_nine}
 use Rattle.cedar_documents.proofs.doc.expressions.is_doc.Goals as goal
 
+pub returns-in_err-name_doc-clause-found : goal.returns-in_err-name_doc-clause-found
+returns-in_err-name_doc-clause-found c =
+    missed c.from_residual-in_err-name_doc.result _ _ _ c.from_residual-in_err-name_doc.ensures.1 c.in_err-name_doc.ensures.found
+    (λ h. as_before (λ z. has_its_tokens z (path_parts c.args.entity_type.now.inner.path.items c.args.entity_type.now.inner.name)) false c.args.tokens.now c.mark_after.new.tokens c.in_ok-is_word.ensures.kept h)
+
+pub returns-clause-found : goal.returns-clause-found
+returns-clause-found c = as_before (λ z. has_its_tokens z (path_parts c.args.entity_type.now.inner.path.items c.args.entity_type.now.inner.name)) true c.args.tokens.now c.mark_after.new.tokens c.in_ok-is_word.ensures.kept c.in_ok-name_doc.ensures.found
+
 pub returns-clause-shows : goal.returns-clause-shows
-returns-clause-shows c o n f e =
-    let indent = c.args.context.now.config.now.indent_width in
+returns-clause-shows c o n f g =
+    let i = to_z w64 (of_z w64 c.args.indent) in
+    let w : i ≡ c.args.indent = omega (arith, ints) in
     let left = doc_of c.args.left in
-    let width : to_z w64 (of_z w64 c.name_doc.new.context.config.now.indent_width) ≡ c.name_doc.new.context.config.now.indent_width = omega (arith, ints) in
-    let same = width ∙ ap (λ z. z.now.indent_width) (c.name_doc.ensures.config ∙ c.between_spaces.ensures.config) in
-    let all = in_turn (λ a b. group (left · a · nest indent b)) (Behind c.args.before) Always (o ∷ []) (yield n) (c.in_ok-is_word.ensures.shows o f) (λ b h. tt) (freely (yield n) (c.in_ok-type_name.ensures.shows indent n e)) in
-    λ before after p st. let r = all before after p st in (
-      c.in_ok-group.ensures
-          ∙ ap group (c.in_ok-whole.ensures ∙ ap (λ z. left · z) (c.in_ok-append.ensures ∙ ap (λ z. doc_of c.in_ok-is_word.is_word · z) (c.in_ok-type_name-2.ensures ∙ ap (λ z. nest z (doc_of c.in_ok-type_name.type_name)) same)))
-          ∙ r.0
-          ∙ ap (λ z. group (left · space · z)) (dot_assoc (leaf (as_leaf o)) space (nest indent (document indent n))),
-      r.1,
-    )
+    let word = rewritten (o ∷ []) (nothing_behind o) (c.in_ok-is_word.ensures.shows o f) in
+    let second = freely (yield n) (c.in_ok-name_doc.ensures.shows c.args.indent n g) in
+    let all = in_turn (λ x y. group (left · space · x · space · nest c.args.indent y)) (Behind c.args.before) Always (o ∷ []) (yield n) word (λ b h. tt) second in
+    let inside = c.in_ok-type_name.ensures ∙ ap (λ z. nest z (doc_of c.in_ok-name_doc.field-0)) w in
+    let made = row_of_five _ c.in_ok-row.ensures.items (doc_of_text _) (doc_of_text _) ∙ ap (λ z. left · space · doc_of c.in_ok-is_word.is_word · space · z) inside in
+    λ before after at st. let r = all before after at st in (c.in_ok-group.ensures ∙ ap group made ∙ r.0, r.1)

@@ -5,6 +5,7 @@ use Rattle.cedar_layout.specs.Layout.{◌·◌, group, line, nil, text}
 use Rattle.cedar_layout.specs.Lookups.{Parts}
 use Rattle.cedar_layout.proofs.Values.{doc_of_line, doc_of_nil, doc_of_text}
 use Rattle.cedar_documents.specs.NodeDocuments.{text_of}
+use Rattle.cedar_documents.proofs.Flat.{flat}
 use Rattle.cedar_documents.proofs.Opened.{in_turn, freely, rewritten, nothing_behind, Always, Behind}
 use Rattle.cedar_documents.proofs.PolicyParts.{behind_token}
 use Rattle.cedar_documents.proofs.doc.policies.head_doc.Goals as goal
@@ -16,4 +17,4 @@ returns-clause-shows c e l starts ends is_word is_bracket =
     let word = freely (e ∷ []) (λ b a s. c.in_ok-comment.ensures.taken b e a starts s) in
     let all = in_turn (λ (p : Parts) d. lead_of p.leading · group (text (token_value (text_of e)) · trail_of p.trailing nil · line · d)) Always (Behind span) (e ∷ []) (l ∷ []) word (λ b h. behind_token span.end e ends b) bracket in
     λ before after st. let r = all before after tt st in
-    (rw (c.in_ok-append.ensures, c.in_ok-lead.ensures, c.in_ok-group.ensures, c.in_ok-head.ensures, doc_of_text, is_word, c.in_ok-behind-2.ensures, c.in_ok-trail.ensures, doc_of_nil, c.in_ok-behind.ensures, doc_of_line) r.0, r.1)
+    (rw (flat c.in_ok-vec.field-0 _ c.in_ok-vec.ensures.items, c.in_ok-lead.ensures, c.in_ok-head-2.ensures, flat c.in_ok-head.head _ c.in_ok-head.ensures.items, doc_of_text, is_word, c.in_ok-behind.ensures, doc_of_nil, doc_of_line) r.0, r.1)
