@@ -98,7 +98,13 @@ fn parse_or<'t, 'src>(
     let (first, mut rest) = parse_and(alloc, tokens, depth)?;
     let mut extended = Vec::new(alloc);
     'operands: while let Some(after) = past(rest, Kind::Or) {
-        keep(parse_and(alloc, after, depth), &mut extended, &mut rest)?;
+        match keep(parse_and(alloc, after, depth), &mut extended, &mut rest) {
+            Ok(()) => {}
+            Err(refusal) => {
+                drop(first);
+                return Err(refusal);
+            }
+        }
     }
     Ok((or_node(first, extended), rest))
 }
@@ -116,11 +122,13 @@ fn parse_and<'t, 'src>(
     let (first, mut rest) = parse_relation(alloc, tokens, depth)?;
     let mut extended = Vec::new(alloc);
     'operands: while let Some(after) = past(rest, Kind::And) {
-        keep(
-            parse_relation(alloc, after, depth),
-            &mut extended,
-            &mut rest,
-        )?;
+        match keep(parse_relation(alloc, after, depth), &mut extended, &mut rest) {
+            Ok(()) => {}
+            Err(refusal) => {
+                drop(first);
+                return Err(refusal);
+            }
+        }
     }
     Ok((and_node(first, extended), rest))
 }

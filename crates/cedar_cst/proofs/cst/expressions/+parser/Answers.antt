@@ -47,17 +47,16 @@ parse_or-operands-preserved _ c =
     let i = c.operands.invariant in
     let d = c.in-Some.ensures.token in
     let g = plain_operand Label.and and_parts c.parse_and-in-Some.result _ c.parse_and-in-Some.ensures.reads in
-    let y = operand_kept Label.and and_parts (λ _. codes "||") (λ n. n) (λ n. Unit {0}) c.parse_and-in-Some.result _ _ c.keep.new.rest c.in_ok-keep.field-0 _ g c.in_ok-keep.ensures in
-    let s = keep_shorter c.parse_and-in-Some.result _ _ c.keep.new.rest c.in_ok-keep.field-0 _ c.parse_and-in-Some.ensures.shorter c.in_ok-keep.ensures in
+    let y = operand_kept Label.and and_parts (λ _. codes "||") (λ n. n) (λ n. Unit {0}) c.parse_and-in-Some.result _ _ c.keep.new.rest c.in-Ok.field-0 _ g c.in-Ok.ensures in
+    let s = keep_shorter c.parse_and-in-Some.result _ _ c.keep.new.rest c.in-Ok.field-0 _ c.parse_and-in-Some.ensures.shorter c.in-Ok.ensures in
     let b = c.in-Some.ensures.shorter in
     (omega (arith, s, b, i.0), operands_next Label.and and_parts (λ _. codes "||") (λ n. n) Label.or (is K.Or) (at_depth c.args.depth and_rule) refl (depth_takes c.args.depth and_rule refl refl) _ _ _ _ _ _ _ d.0 K.Or y.0 y.1 i.1 d.1 d.2 refl (record { comma = refl; number = refl; closing = refl; shows = λ u. refl }) y.2 y.3 y.5)
 
-pub parse_or-returns-in_err-keep-clause-reads : goal.parse_or-returns-in_err-keep-clause-reads
-parse_or-returns-in_err-keep-clause-reads _ c =
-    let p = err_from_is_err_and c.from_residual-in_err-keep.result c.from_residual-in_err-keep.ensures.1 in
+pub parse_or-returns-in-Err-clause-reads : goal.parse_or-returns-in-Err-clause-reads
+parse_or-returns-in-Err-clause-reads _ c =
     let d = c.in-Some.ensures.token in
     let g = plain_operand Label.and and_parts c.parse_and-in-Some.result _ c.parse_and-in-Some.ensures.reads in
-    rw (p.1, p.2) (passes _ _ _ (operand_fails Label.and and_parts (λ _. codes "||") (λ n. n) (λ n. Unit {0}) c.parse_and-in-Some.result _ _ _ _ _ g c.in_err-keep.ensures)
+    (passes _ _ _ (operand_fails Label.and and_parts (λ _. codes "||") (λ n. n) (λ n. Unit {0}) c.parse_and-in-Some.result _ _ _ _ _ g c.in-Err.ensures)
     (λ x r e. operands_stuck Label.and and_parts (λ _. codes "||") (λ n. n) Label.or (is K.Or) (at_depth c.args.depth and_rule) _ _ _ _ _ d.0 K.Or x r c.operands.invariant.1 d.1 d.2 refl e))
 
 pub parse_or-returns-clause-reads : goal.parse_or-returns-clause-reads
@@ -78,17 +77,16 @@ parse_and-operands-preserved _ c =
     let i = c.operands.invariant in
     let d = c.in-Some.ensures.token in
     let g = plain_operand Label.relation relation_parts c.parse_relation-in-Some.result _ c.parse_relation-in-Some.ensures.reads in
-    let y = operand_kept Label.relation relation_parts (λ _. codes "&&") (λ n. n) (λ n. Unit {0}) c.parse_relation-in-Some.result _ _ c.keep.new.rest c.in_ok-keep.field-0 _ g c.in_ok-keep.ensures in
-    let s = keep_shorter c.parse_relation-in-Some.result _ _ c.keep.new.rest c.in_ok-keep.field-0 _ c.parse_relation-in-Some.ensures.shorter c.in_ok-keep.ensures in
+    let y = operand_kept Label.relation relation_parts (λ _. codes "&&") (λ n. n) (λ n. Unit {0}) c.parse_relation-in-Some.result _ _ c.keep.new.rest c.in-Ok.field-0 _ g c.in-Ok.ensures in
+    let s = keep_shorter c.parse_relation-in-Some.result _ _ c.keep.new.rest c.in-Ok.field-0 _ c.parse_relation-in-Some.ensures.shorter c.in-Ok.ensures in
     let b = c.in-Some.ensures.shorter in
     (omega (arith, s, b, i.0), operands_next Label.relation relation_parts (λ _. codes "&&") (λ n. n) Label.and (is K.And) (at_depth c.args.depth relation_rule) refl (depth_takes c.args.depth relation_rule refl refl) _ _ _ _ _ _ _ d.0 K.And y.0 y.1 i.1 d.1 d.2 refl (record { comma = refl; number = refl; closing = refl; shows = λ u. refl }) y.2 y.3 y.5)
 
-pub parse_and-returns-in_err-keep-clause-reads : goal.parse_and-returns-in_err-keep-clause-reads
-parse_and-returns-in_err-keep-clause-reads _ c =
-    let p = err_from_is_err_and c.from_residual-in_err-keep.result c.from_residual-in_err-keep.ensures.1 in
+pub parse_and-returns-in-Err-clause-reads : goal.parse_and-returns-in-Err-clause-reads
+parse_and-returns-in-Err-clause-reads _ c =
     let d = c.in-Some.ensures.token in
     let g = plain_operand Label.relation relation_parts c.parse_relation-in-Some.result _ c.parse_relation-in-Some.ensures.reads in
-    rw (p.1, p.2) (passes _ _ _ (operand_fails Label.relation relation_parts (λ _. codes "&&") (λ n. n) (λ n. Unit {0}) c.parse_relation-in-Some.result _ _ _ _ _ g c.in_err-keep.ensures)
+    (passes _ _ _ (operand_fails Label.relation relation_parts (λ _. codes "&&") (λ n. n) (λ n. Unit {0}) c.parse_relation-in-Some.result _ _ _ _ _ g c.in-Err.ensures)
     (λ x r e. operands_stuck Label.relation relation_parts (λ _. codes "&&") (λ n. n) Label.and (is K.And) (at_depth c.args.depth relation_rule) _ _ _ _ _ d.0 K.And x r c.operands.invariant.1 d.1 d.2 refl e))
 
 pub parse_and-returns-clause-reads : goal.parse_and-returns-clause-reads
