@@ -1,16 +1,15 @@
 -- The document of a node among the tokens of a context, and what making it does to them.
-use Rattle.std.specs.Prelude.{◌≡◌, ℕ, ℤ, List, [], ◌∷◌, ◌++◌, map, Option, Some, Result, IfOk, IsSomeAnd, codes, None, if◌then◌else◌, ◌&&◌}
+use Rattle.std.specs.Prelude.{◌≡◌, ℕ, ℤ, List, [], ◌∷◌, ◌++◌, map, Option, Some, Result, IfOk, IsSomeAnd, codes, None, ◌&&◌}
 use Rattle.cedar_tokens.specs.Listing.{Decorated, token_value}
 use Rattle.cedar_tokens.specs.Tokens.{token_text}
-use Rattle.cedar_tokens.specs.declared.token.Comment.{Comment}
 use Rattle.cedar_tokens.specs.declared.token.Span.{Span}
 use Rattle.cedar_tokens.specs.declared.token.WrappedToken.{WrappedToken}
 use Rattle.cedar_grammar.specs.TokenKinds.{kind_of}
 use Rattle.cedar_grammar.specs.Trees.{Label, Forest, leaf, none}
 use Rattle.cedar_grammar.specs.TypedTrees.{NodeKind, Tree, PartKind, Clause, parts, part_parts, tree_map, yield, part_yield, add, variable, expr}
 use Rattle.cedar_grammar.specs.declared.kind.Kind.{Kind}
-use Rattle.cedar_layout.specs.Layout.{Doc, ◌·◌, group, hard, line, nest}
-use Rattle.cedar_layout.specs.Lookups.{Shown, shown, emptied, comment_parts}
+use Rattle.cedar_layout.specs.Layout.{Doc}
+use Rattle.cedar_layout.specs.Lookups.{Shown, shown, emptied}
 use Rattle.cedar_layout.specs.Value.{doc_of}
 use Rattle.cedar_layout.specs.declared.layout.Document.{Document}
 use Rattle.cedar_tree.specs.Erased.{Erased, ident_tree, value_parts, type_parts, operator_parts, expr_parts, node}
@@ -18,10 +17,11 @@ use Rattle.cedar_tree.specs.declared.tree.Annotation.{Annotation}
 use Rattle.cedar_tree.specs.declared.tree.Cond.{Cond}
 use Rattle.cedar_tree.specs.declared.tree.Name.{Name}
 use Rattle.cedar_tree.specs.declared.tree.Node.{Node}
+use Rattle.cedar_tree.specs.declared.tree.Policy.{Policy}
 use Rattle.cedar_tree.specs.declared.tree.VariableDef.{VariableDef}
 use Rattle.cedar_tree.specs.NodeTrees.{spanned, span_of}
 use Rattle.cedar_canonical.specs.Leaves.{part_map}
-use Rattle.cedar_canonical.specs.Table.{table, part_table, C, body, is_bare, space}
+use Rattle.cedar_canonical.specs.Table.{table, part_table, body, is_bare}
 use Rattle.cedar_canonical.specs.Table.{leaf as leaf_of}
 use Rattle.std.specs.declared.alloc.AllocError.{AllocError}
 use Rattle.cedar_canonical.specs.Table as table
@@ -76,16 +76,16 @@ part_document i t = part_table i (part_map as_leaf t)
 
 -- a variable, its operator, and what it is compared with
 abbrev pub compared_document : ℤ → Doc → Shown → Tree Shown add → Doc
-compared_document i left o t = group (group (left · line · table.leaf (as_leaf o)) · nest i (line · document i t))
+compared_document i left o t = table.comparison i left (as_leaf o) (document i t)
 
 -- the variables of a scope, and `next` behind each comma without trailing text
 abbrev pub variables_document : ℤ → Doc → Clause Shown variable → Shown → Clause Shown variable → Shown → Clause Shown variable → Doc
-variables_document i next p c a d r = part_document i p · C (as_leaf c) next · part_document i a · C (as_leaf d) next · part_document i r
+variables_document i next p c a d r = table.variables next (part_document i p) (as_leaf c) (part_document i a) (as_leaf d) (part_document i r)
 
 -- the same as the table lays them out between the scope's brackets
 abbrev pub scope_document : ℤ → Clause Shown variable → Shown → Clause Shown variable → Shown → Clause Shown variable → Doc
 scope_document i p c a d r =
-    if is_bare (part_map as_leaf p) && is_bare (part_map as_leaf a) && is_bare (part_map as_leaf r) then group (nest i (variables_document i space p c a d r)) else (nest i (hard · variables_document i hard p c a d r) · hard)
+    table.scope i (is_bare (part_map as_leaf p) && is_bare (part_map as_leaf a) && is_bare (part_map as_leaf r)) (part_document i p) (as_leaf c) (part_document i a) (as_leaf d) (part_document i r)
 
 -- the document of an expression between braces: the leading lines of its first token, and then the rest
 abbrev pub body_document : ℤ → Tree Shown expr → Doc
@@ -101,11 +101,6 @@ end_of_tokens (t ∷ (u ∷ us)) = end_of_tokens (u ∷ us)
 abbrev pub IsAt : Span → List Shown → Type 0
 IsAt span ts = span_of text_of (λ t. t.span) ts ≡ Some span
 
--- the comment of a token that fits is handed out, and nothing else has changed
-abbrev pub HandsOut : Option Comment → List WrappedToken → List WrappedToken → (List Shown → Shown → Type 0) → Type 0
-HandsOut result old new fits = (before : List Shown) (t : Shown) (after : List Shown) → fits before t → map shown old ≡ before ++ (t ∷ after)
-    → IsSomeAnd result (λ c. (comment_parts c ≡ t.comment) × (map shown new ≡ (before ++ (emptied t ∷ [])) ++ after))
-
 -- the tokens ts stand among the others and are shown in the document, if it is made; then they have no comments, and nothing else has changed
 abbrev pub Shows : {E : Type 0} → Result Document E → List WrappedToken → List WrappedToken → List Shown → Doc → Type 0
 Shows result old new ts doc = (before after : List Shown) → map shown old ≡ before ++ (ts ++ after)
@@ -115,6 +110,14 @@ Shows result old new ts doc = (before after : List Shown) → map shown old ≡ 
 abbrev pub ShowsBehind : {E : Type 0} → ℕ → Result Document E → List WrappedToken → List WrappedToken → List Shown → Doc → Type 0
 ShowsBehind place result old new ts doc = (before after : List Shown) → end_of_tokens before ≡ place → map shown old ≡ before ++ (ts ++ after)
     → IfOk result (λ d. (doc_of d ≡ doc) × (map shown new ≡ (before ++ map emptied ts) ++ after))
+
+-- the variables of a policy and the commas between them are shown in the document that these have
+abbrev pub ShowsScope : {E : Type 0} → Result Document E → List WrappedToken → List WrappedToken → Policy → (Clause Shown variable → Shown → Clause Shown variable → Shown → Clause Shown variable → Doc) → Type 0
+ShowsScope result old new policy doc = (p a r : Clause Shown variable) (c d : Shown) → IsPartOf (variable_parts policy.variables.0.inner) p → IsAt policy.variables.0.span (part_yield p)
+    → IsPartOf (variable_parts policy.variables.1.inner) a → IsAt policy.variables.1.span (part_yield a)
+    → IsPartOf (variable_parts policy.variables.2.inner) r → IsAt policy.variables.2.span (part_yield r)
+    → codes "," ≡ token_value (text_of c) → codes "," ≡ token_value (text_of d)
+    → Shows result old new (part_yield p ++ (c ∷ (part_yield a ++ (d ∷ part_yield r)))) (doc p c a d r)
 
 -- a node with this span and these parts is the tree of the tokens ts, and the table's document of that tree is doc
 abbrev pub IsNodeWith : (k : NodeKind) → Span → Erased → ℤ → List Shown → Doc → Type 0

@@ -12,12 +12,12 @@ ghost use Rattle.cedar_grammar.specs.TypedTrees as kind;
 ghost use Rattle.cedar_tree.specs.Erased.{add_parts, annotation_trees, cond_trees, expr_parts, operator_parts, path_parts, policy_parts, relop_text, scope_variables, type_parts, variable_items};
 ghost use Rattle.cedar_layout.specs.Comments.{lead_of, space, trail_of};
 ghost use Rattle.cedar_layout.specs.Layout.{hard, nil, ◌·◌, group, line, nest};
-ghost use Rattle.cedar_layout.specs.Lookups.{AreInOrder, Shown, comment_parts, emptied, shown, Parts};
+ghost use Rattle.cedar_layout.specs.Lookups.{AreInOrder, Shown, comment_parts, Parts};
 ghost use Rattle.cedar_layout.specs.Value.{doc_of};
 ghost use Rattle.cedar_documents.specs.Found.{Finds, has_its_tokens, places, starts};
 ghost use Rattle.cedar_documents.specs.Kept.{KeepsTokens};
 ghost use Rattle.cedar_canonical.specs.Leaves.{part_map};
-ghost use Rattle.cedar_documents.specs.NodeDocuments.{IsAt, IsNodeOf, IsPartOf, Shows, ShowsBehind, annotation_parts, as_leaf, body_document, compared_document, cond_parts, document, part_document, scope_document, span_before, text_of, variable_parts, variables_document};
+ghost use Rattle.cedar_documents.specs.NodeDocuments.{IsAt, IsNodeOf, IsPartOf, Shows, ShowsBehind, ShowsScope, annotation_parts, as_leaf, body_document, compared_document, cond_parts, document, part_document, scope_document, span_before, text_of, variable_parts, variables_document};
 ghost use Rattle.cedar_canonical.specs.Table as table;
 
 use crate::doc::Made;
@@ -153,11 +153,7 @@ fn scope_doc<'src>(
     requires { AreInOrder tokens.old }
     ensures kept { KeepsTokens tokens.old tokens.new }
     ensures found { Finds result (has_its_tokens (places tokens.old) (variable_items (scope_variables policy.now))) }
-    ensures shows { (p a r : Clause Shown kind.variable) (c d : Shown) → IsPartOf (variable_parts policy.now.variables.0.inner) p → IsAt policy.now.variables.0.span (part_yield p)
-        → IsPartOf (variable_parts policy.now.variables.1.inner) a → IsAt policy.now.variables.1.span (part_yield a)
-        → IsPartOf (variable_parts policy.now.variables.2.inner) r → IsAt policy.now.variables.2.span (part_yield r)
-        → codes "," ≡ token_value (text_of c) → codes "," ≡ token_value (text_of d)
-        → Shows result tokens.old tokens.new (part_yield p ++ (c ∷ (part_yield a ++ (d ∷ part_yield r)))) (scope_document indent p c a d r) }
+    ensures shows { ShowsScope result tokens.old tokens.new policy.now (scope_document indent) }
 {
     let (principal, action, resource) = &policy.variables;
     if is_bound(&principal.inner) || is_bound(&action.inner) || is_bound(&resource.inner) {
@@ -184,11 +180,7 @@ fn bare_scope_doc<'src>(
     requires { AreInOrder tokens.old }
     ensures kept { KeepsTokens tokens.old tokens.new }
     ensures found { Finds result (has_its_tokens (places tokens.old) (variable_items (scope_variables policy.now))) }
-    ensures shows { (p a r : Clause Shown kind.variable) (c d : Shown) → IsPartOf (variable_parts policy.now.variables.0.inner) p → IsAt policy.now.variables.0.span (part_yield p)
-        → IsPartOf (variable_parts policy.now.variables.1.inner) a → IsAt policy.now.variables.1.span (part_yield a)
-        → IsPartOf (variable_parts policy.now.variables.2.inner) r → IsAt policy.now.variables.2.span (part_yield r)
-        → codes "," ≡ token_value (text_of c) → codes "," ≡ token_value (text_of d)
-        → Shows result tokens.old tokens.new (part_yield p ++ (c ∷ (part_yield a ++ (d ∷ part_yield r)))) (group (nest indent (variables_document indent space p c a d r))) }
+    ensures shows { ShowsScope result tokens.old tokens.new policy.now (λ p c a d r. group (nest indent (variables_document indent space p c a d r))) }
 {
     let (principal, action, resource) = &policy.variables;
     let first = variable_doc(alloc, &principal.inner, indent, tokens)?;
@@ -210,11 +202,7 @@ fn bound_scope_doc<'src>(
     requires { AreInOrder tokens.old }
     ensures kept { KeepsTokens tokens.old tokens.new }
     ensures found { Finds result (has_its_tokens (places tokens.old) (variable_items (scope_variables policy.now))) }
-    ensures shows { (p a r : Clause Shown kind.variable) (c d : Shown) → IsPartOf (variable_parts policy.now.variables.0.inner) p → IsAt policy.now.variables.0.span (part_yield p)
-        → IsPartOf (variable_parts policy.now.variables.1.inner) a → IsAt policy.now.variables.1.span (part_yield a)
-        → IsPartOf (variable_parts policy.now.variables.2.inner) r → IsAt policy.now.variables.2.span (part_yield r)
-        → codes "," ≡ token_value (text_of c) → codes "," ≡ token_value (text_of d)
-        → Shows result tokens.old tokens.new (part_yield p ++ (c ∷ (part_yield a ++ (d ∷ part_yield r)))) (nest indent (hard · variables_document indent hard p c a d r) · hard) }
+    ensures shows { ShowsScope result tokens.old tokens.new policy.now (λ p c a d r. nest indent (hard · variables_document indent hard p c a d r) · hard) }
 {
     let (principal, action, resource) = &policy.variables;
     let first = variable_doc(alloc, &principal.inner, indent, tokens)?;
@@ -384,7 +372,7 @@ fn block_doc<'src>(
     ensures kept { KeepsTokens tokens.old tokens.new }
     ensures found { Finds result (has_its_tokens (places tokens.old) (expr_parts expr.now.inner)) }
     ensures shows { (l : Shown) (t : Tree Shown kind.expr) (r : Shown) → codes "{" ≡ token_value (text_of l) → IsAt expr.now.span (yield t) → IsNodeOf (expr_parts expr.now.inner) t → r.span.end ≡ span.end → codes "}" ≡ token_value (text_of r)
-        → ShowsBehind before.end result tokens.old tokens.new (l ∷ yield t ++ r ∷ []) (table.lead (as_leaf l) · table.tok (as_leaf l) · group (nest indent (table.trail (as_leaf l) line · body_document indent t) · line · table.leaf (as_leaf r))) }
+        → ShowsBehind before.end result tokens.old tokens.new (l ∷ yield t ++ r ∷ []) (table.braced indent (as_leaf l) (body_document indent t) (as_leaf r)) }
 {
     let brace = get_comment_after_end(before, tokens);
     let (lines, behind) = brace_comment(alloc, brace)?;
