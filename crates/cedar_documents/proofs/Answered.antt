@@ -5,7 +5,6 @@ use Rattle.std.specs.declared.alloc.AllocError.{AllocError}
 use Rattle.std.proofs.lemmas.List.{append-nil}
 use Rattle.std.proofs.lemmas.Bool.{false≢true}
 use Rattle.cedar_tokens.specs.Listing.{token_value}
-use Rattle.cedar_tokens.specs.Places.{InOrderFrom}
 use Rattle.cedar_tokens.specs.Tokens.{bare}
 use Rattle.cedar_tokens.specs.declared.token.Span.{Span}
 use Rattle.cedar_tokens.specs.declared.token.WrappedToken.{WrappedToken}
@@ -26,10 +25,9 @@ use Rattle.cedar_documents.specs.NodeDocuments.{IsAt, IsNodeOf, IsPartOf, IsNode
 use Rattle.cedar_canonical.specs.Table as table
 use Rattle.cedar_documents.specs.declared.doc.NoDocument.{NoDocument}
 use Rattle.cedar_documents.specs.declared.doc.NoDocument.TheVariants.{NoToken, OutOfMemory}
-use Rattle.cedar_documents.proofs.Found.{places_kept}
 use Rattle.cedar_documents.proofs.Keeping.{refilled}
 use Rattle.cedar_tokens.proofs.KeptOrder.{order_kept}
-use Rattle.cedar_documents.proofs.OwnTokens.{AreSigned, Within, first_starts, own, signed_part, signed_tree}
+use Rattle.cedar_documents.proofs.OwnTokens.{AreSigned, Within, first_starts, own, signed_tree}
 
 -- A document that a function made of the tokens of a context, and its answer: the slice is that of the n tokens before, `left` is what
 -- is left of it, and the nodes have their tokens where `has` says so.

@@ -5,7 +5,7 @@ use Rattle.std.specs.List.{All, list_any}
 use Rattle.cedar_tokens.specs.Tokens.{bare}
 use Rattle.cedar_tokens.specs.declared.token.WrappedToken.{WrappedToken}
 use Rattle.cedar_tokens.specs.declared.token.Span.{Span}
-use Rattle.cedar_layout.specs.Lookups.{Shown, Parts, shown, HandedOut, LeadingHandedOut, Unmatched, starts_at}
+use Rattle.cedar_layout.specs.Lookups.{Shown, Parts, shown, HandedOut, Unmatched, starts_at}
 use Rattle.cedar_grammar.specs.Trees.{none, leaf, branch, join}
 use Rattle.cedar_tree.specs.Erased.{Erased}
 use Rattle.cedar_documents.specs.Found.{Finds, Misses, has_its_tokens, has_own, places, starts}

@@ -1,6 +1,7 @@
 pub mod Keeping
 pub mod Found
 pub mod Flat
+pub mod TypedNodes
 pub mod OwnTokens
 pub mod Focus
 pub mod Marks
@@ -9,6 +10,7 @@ pub mod LastTokens
 pub mod Names
 pub mod ShownTrees
 pub mod StreamTrees
+pub mod MetTokens
 pub mod Answered
 pub mod Scopes
 pub mod Commas

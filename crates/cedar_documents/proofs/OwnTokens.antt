@@ -2,21 +2,19 @@
 use Rattle.std.proofs.Common.{◌≡◌, ℕ, suc, cond, Bool, true, false, List, [], ◌∷◌, ◌++◌, map, length, Option, Some, None, ◌==◌, ◌||◌, refl, sym, ap, ◌∙◌, subst, arith}
 use Rattle.std.specs.Prelude.{⊤, ◌&&◌, nat_le, if◌then◌else◌}
 use Rattle.std.specs.List.{filter}
-use Rattle.std.proofs.lemmas.List.{append_assoc, map-append}
+use Rattle.std.proofs.lemmas.List.{append_assoc}
 use Rattle.std.proofs.lemmas.Bool.Decides.{nat_tests}
 use Rattle.cedar_tokens.specs.Places.{InOrderFrom}
 use Rattle.cedar_tokens.specs.declared.token.Span.{Span}
-use Rattle.cedar_tokens.specs.declared.token.WrappedToken.{WrappedToken}
-use Rattle.cedar_grammar.specs.declared.kind.Kind.{Kind}
-use Rattle.cedar_grammar.specs.Trees.{Label, Forest, none, leaf, branch, join, yield}
-use Rattle.cedar_grammar.specs.TypedTrees.{Tree, Clause, parts, part_parts, literal_label, name_one, name_more, ref_of, args_one, args_more, init_of, inits_one, inits_more, literal, slot, reference, named, parens, list_empty, list_of, record_empty, record_of, no_access, field, call_empty, call, index, member_of, unsigned, signed, products_one, products_more, mult_of, sums_one, sums_more, add_of, single, compare, has_or_like, is_type, is_in, ands_one, ands_more, ors_one, ors_more, plain_expr, if_expr, variable_bare, variable_is, variable_op, variable_is_op, cond_of, no_cond, conds_more, annotation_bare, annotation_value, no_annotation, annotations_more, policy_of}
+use Rattle.cedar_grammar.specs.Trees.{Label, Forest, none, leaf, branch, yield}
+use Rattle.cedar_grammar.specs.TypedTrees.{Tree, Clause, parts, part_parts, name_one, name_more, ref_of, literal, slot, reference, named, parens, list_empty, list_of, record_empty, record_of, member_of, unsigned, signed}
 use Rattle.cedar_grammar.specs.TypedTrees as kind
-use Rattle.cedar_grammar.specs.Kinds.{is}
-use Rattle.cedar_layout.specs.Lookups.{AreInOrder, Shown, shown, stands_in}
+use Rattle.cedar_layout.specs.Lookups.{Shown, stands_in}
 use Rattle.cedar_tree.specs.NodeTrees.{end_of, is_node, span_of}
-use Rattle.cedar_documents.specs.Found.{count_between, has_its_tokens, has_own, places, signs_before, start_of_node, starts}
+use Rattle.cedar_documents.specs.Found.{count_between, has_its_tokens, has_own, signs_before, start_of_node, starts}
 use Rattle.cedar_documents.proofs.Found.{and_true}
 use Rattle.cedar_documents.proofs.Signs.{those_between}
+use Rattle.cedar_documents.proofs.TypedNodes.{AreTyped, IsTyped, typed_part, typed_tree}
 use Rattle.cedar_documents.specs.NodeDocuments.{kind_of_shown, nodes_of, text_of}
 
 -- the tokens ts stand side by side among others, which stand at these places
@@ -163,11 +161,6 @@ own {P = P} (branch l f g) s w =
 
 -- ---- typed trees
 
-joined_signed : (f g : Forest Label Shown) → AreSigned f → AreSigned g → AreSigned (join f g)
-joined_signed none g s t = t
-joined_signed (leaf x f) g s t = joined_signed f g s t
-joined_signed (branch l f h) g s t = (s.0, s.1, joined_signed h g s.2 t)
-
 nonempty_front : (xs ys : List Shown) → ((x : Shown) × (ts : List Shown) × (xs ≡ x ∷ ts)) → (x : Shown) × (ts : List Shown) × (xs ++ ys ≡ x ∷ ts)
 nonempty_front xs ys (x, ts, e) = (x, ts ++ ys, ap (λ z. z ++ ys) e)
 
@@ -196,67 +189,18 @@ pub unary_signed : (t : Tree Shown kind.unary) → IsSigned (parts kind_of_shown
 unary_signed (unsigned m) = (refl, refl, member_token m)
 unary_signed (signed s u) = unary_signed u
 
-free : (a b : Bool) (f : Forest Label Shown) → Own (if a then Label.number else (if b then Label.string else Label.boolean)) f
-free true b f = tt
-free false true f = tt
-free false false f = tt
+-- the parts of a typed unary are signs and a member
+own_of : (l : Label) (f : Forest Label Shown) → IsTyped l f → Own l f
+own_of Label.unary f (t, e) = subst IsSigned (sym e) (unary_signed t)
+own_of l f t = tt
+
+signed_of : (f : Forest Label Shown) → AreTyped f → AreSigned f
+signed_of none t = tt
+signed_of (leaf x f) t = signed_of f t
+signed_of (branch l f g) t = (own_of l f t.0, signed_of f t.1, signed_of g t.2)
 
 pub signed_tree : {k : kind.NodeKind} (t : Tree Shown k) → AreSigned (parts kind_of_shown t)
-signed_tree (name_one x) = (tt, tt, tt)
-signed_tree (name_more x c r) = (tt, tt, signed_tree r)
-signed_tree (ref_of n c s) = (tt, signed_tree n, (tt, tt, tt))
-signed_tree (args_one e) = (tt, signed_tree e, tt)
-signed_tree (args_more e c r) = (tt, signed_tree e, signed_tree r)
-signed_tree (init_of k c v) = (tt, signed_tree k, (tt, signed_tree v, tt))
-signed_tree (inits_one e) = (tt, signed_tree e, tt)
-signed_tree (inits_more e c r) = (tt, signed_tree e, signed_tree r)
-signed_tree (literal x) = (free (is Kind.Number (kind_of_shown x)) (is Kind.Str (kind_of_shown x)) (leaf x none), tt, tt)
-signed_tree (slot x) = (tt, tt, tt)
-signed_tree (reference r) = (tt, signed_tree r, tt)
-signed_tree (named n) = (tt, signed_tree n, tt)
-signed_tree (parens l e r) = (tt, (tt, signed_tree e, tt), tt)
-signed_tree (list_empty l r) = (tt, tt, tt)
-signed_tree (list_of l a r) = (tt, joined_signed (parts kind_of_shown a) (leaf r none) (signed_tree a) tt, tt)
-signed_tree (record_empty l r) = (tt, tt, tt)
-signed_tree (record_of l a r) = (tt, joined_signed (parts kind_of_shown a) (leaf r none) (signed_tree a) tt, tt)
-signed_tree no_access = tt
-signed_tree (field d x m) = (tt, (tt, tt, tt), signed_tree m)
-signed_tree (call_empty l r m) = (tt, tt, signed_tree m)
-signed_tree (call l a r m) = (tt, joined_signed (parts kind_of_shown a) (leaf r none) (signed_tree a) tt, signed_tree m)
-signed_tree (index l x r m) = (tt, (tt, tt, tt), signed_tree m)
-signed_tree (member_of p m) = (tt, signed_tree p, signed_tree m)
-signed_tree (unsigned m) = (tt, signed_tree m, tt)
-signed_tree (signed s u) = signed_tree u
-signed_tree (products_one u) = (unary_signed u, signed_tree u, tt)
-signed_tree (products_more u o r) = (unary_signed u, signed_tree u, signed_tree r)
-signed_tree (mult_of p) = signed_tree p
-signed_tree (sums_one m) = (tt, signed_tree m, tt)
-signed_tree (sums_more m o r) = (tt, signed_tree m, signed_tree r)
-signed_tree (add_of s) = signed_tree s
-signed_tree (single a) = (tt, signed_tree a, tt)
-signed_tree (compare a o b) = (tt, signed_tree a, (tt, (tt, signed_tree b, tt), tt))
-signed_tree (has_or_like a o b) = (tt, signed_tree a, (tt, (tt, signed_tree b, tt), tt))
-signed_tree (is_type a o n) = (tt, signed_tree a, (tt, (tt, signed_tree n, tt), tt))
-signed_tree (is_in a o n p b) = (tt, signed_tree a, (tt, (tt, signed_tree n, (tt, signed_tree b, tt)), tt))
-signed_tree (ands_one r) = (tt, signed_tree r, tt)
-signed_tree (ands_more r o m) = (tt, signed_tree r, signed_tree m)
-signed_tree (ors_one a) = (tt, signed_tree a, tt)
-signed_tree (ors_more a o m) = (tt, signed_tree a, signed_tree m)
-signed_tree (plain_expr o) = (tt, signed_tree o, tt)
-signed_tree (if_expr i c t a f b) = (tt, signed_tree c, (tt, signed_tree a, (tt, signed_tree b, tt)))
+signed_tree t = signed_of (parts kind_of_shown t) (typed_tree t)
 
 pub signed_part : {k : kind.PartKind} (t : Clause Shown k) → AreSigned (part_parts kind_of_shown t)
-signed_part (variable_bare v) = (tt, tt, tt)
-signed_part (variable_is v i n) = (tt, tt, (tt, signed_tree n, tt))
-signed_part (variable_op v o a) = (tt, tt, (tt, signed_tree a, tt))
-signed_part (variable_is_op v i n o a) = (tt, tt, (tt, signed_tree n, (tt, signed_tree a, tt)))
-signed_part (cond_of k l e r) = (tt, tt, (tt, signed_tree e, tt))
-signed_part no_cond = tt
-signed_part (conds_more c m) = (tt, signed_part c, signed_part m)
-signed_part (annotation_bare a k) = (tt, tt, tt)
-signed_part (annotation_value a k l s r) = (tt, tt, (tt, tt, tt))
-signed_part no_annotation = tt
-signed_part (annotations_more a m) = (tt, signed_part a, signed_part m)
-signed_part (policy_of ns e l p c a d r q cs s) =
-    joined_signed (part_parts kind_of_shown ns) _ (signed_part ns)
-    (tt, tt, (tt, signed_part p, (tt, signed_part a, (tt, signed_part r, joined_signed (part_parts kind_of_shown cs) (leaf s none) (signed_part cs) tt))))
+signed_part t = signed_of (part_parts kind_of_shown t) (typed_part t)

@@ -1,5 +1,5 @@
 -- What stands between brackets, and primaries: what their nodes tell of their parts.
-use Rattle.std.proofs.Common.{◌≡◌, ℕ, ℤ, List, [], ◌∷◌, ◌++◌, length, Option, Some, None, Bool, true, false, nat_eq, refl, sym, ap, ◌∙◌, subst, arith, rules}
+use Rattle.std.proofs.Common.{◌≡◌, ℕ, List, [], ◌∷◌, ◌++◌, length, Option, Some, None, Bool, true, false, nat_eq, refl, sym, ap, ◌∙◌, subst, arith, rules}
 use Rattle.std.specs.Prelude.{⊤, codes, Vec, if◌then◌else◌, IsTrue, IsFalse, ◌&&◌, Result}
 use Rattle.std.specs.declared.alloc.Global.{Global}
 use Rattle.std.specs.declared.boxed.Box.{Box}
@@ -8,9 +8,8 @@ use Rattle.cedar_tokens.specs.Listing.{token_value}
 use Rattle.cedar_tokens.specs.declared.token.Span.{Span}
 use Rattle.cedar_grammar.specs.declared.kind.Kind.{Kind}
 use Rattle.cedar_grammar.specs.Kinds.{is}
-use Rattle.cedar_grammar.specs.Trees.{Label, Forest, leaf, branch, none, join}
+use Rattle.cedar_grammar.specs.Trees.{Label, leaf, branch, none, join}
 use Rattle.cedar_grammar.specs.TypedTrees.{Tree, parts, primary, inits, inits_one, inits_more, literal_label, literal, slot, reference, named, parens, list_empty, list_of, record_empty, record_of}
-use Rattle.cedar_layout.specs.Layout.{Doc, nil, line, nest, group, ◌·◌}
 use Rattle.cedar_layout.specs.Lookups.{Shown}
 use Rattle.cedar_tree.specs.Erased.{Erased, node, variant, expr_parts, or_parts, primary_parts, ref_tree, name_tree, variant_label, literal_text, slot_text}
 use Rattle.cedar_tree.specs.NodeLists.{init_parts, item_trees}

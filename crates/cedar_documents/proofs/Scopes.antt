@@ -20,7 +20,7 @@ use Rattle.cedar_tree.specs.declared.tree.RelOp.{RelOp}
 use Rattle.cedar_tree.specs.declared.tree.VariableDef.{VariableDef}
 use Rattle.cedar_documents.specs.Found.{has_its_tokens}
 use Rattle.cedar_canonical.specs.Leaves.{part_map}
-use Rattle.cedar_documents.specs.NodeDocuments.{IsAt, IsNodeOf, IsPartOf, as_leaf, compared_document, document, end_of_tokens, kind_of_shown, nodes_of, part_document, text_of, variable_parts, variables_document}
+use Rattle.cedar_documents.specs.NodeDocuments.{IsAt, IsNodeOf, IsPartOf, as_leaf, compared_document, end_of_tokens, kind_of_shown, nodes_of, part_document, text_of, variable_parts, variables_document}
 use Rattle.cedar_canonical.specs.Table.{C, between_conds, is_bare, lead, tok, trail}
 use Rattle.cedar_canonical.specs.Table.{leaf as leaf_document}
 use Rattle.cedar_documents.proofs.Opened.{Always, Behind, GivesIf, ends_here, in_turn, opened_leaf, opened_token, opened_tree}

@@ -84,6 +84,30 @@ kept_places (c ∷ (b ∷ ws)) = go (is_trailing_comma (decorated c) (decorated 
 
 -- ---- the typed policies
 
+-- the typed policies whose leaves are these tokens: they have the policies' nodes and no trailing comma
+pub record NodesOver (p : Policies) (ts : List Shown) : Type 0 where
+  pub policies : List (Clause Shown policy)
+  pub leaves : flat_map part_yield policies ≡ ts
+  pub nodes : erased.policy_trees p.policies.items ≡ nodes_of (policy_trees kind_of_shown policies)
+  pub grammar : G kind_of_shown greatest_depth (set_tree kind_of_shown policies) ts
+  pub plain : without_trailing kind_of_shown (set_tree kind_of_shown policies) ≡ set_tree kind_of_shown policies
+
+pub nodes_over : (text : List ℕ) (p : Policies) (l : Listing) (old new : List WrappedToken) → IsTreeOf text p → IsListing text l → l.tokens ≡ map decorated old → AreTokenSpans text (map (λ w. w.span) old)
+    → map bare new ≡ map bare (kept_tokens old) → NodesOver p (map shown new)
+nodes_over text p l old new t is_list e spans kept =
+    let ts = map shown new in
+    let all = placed t.units in
+    let f = without_trailing kind_of_placed t.tree in
+    let at : map place_of ts ≡ plain kind_of_placed all = places_of_bare new ∙ ap (map with_place) kept ∙ sym (places_of_bare (kept_tokens old)) ∙ kept_places old ∙ ap (plain kind_of_placed) (stream_places text old l t.units t.split is_list e spans) in
+    let g : G kind_of_placed greatest_depth f (plain kind_of_placed all) = plain_is_in_the_grammar kind_of_placed greatest_depth all t.tree t.grammar in
+    let twice : plain kind_of_placed (plain kind_of_placed all) ≡ plain kind_of_placed all = plain_is_plain kind_of_placed greatest_depth all t.tree t.grammar in
+    let same_places : map place_of (plain kind_of_shown ts) ≡ map place_of ts =
+    sym (each_map place_of (plain kind_of_shown ts)) ∙ sym (plain_each place_of kind_of_shown kind_of_placed (λ _. refl) ts) ∙ ap (plain kind_of_placed) (each_map place_of ts ∙ at) ∙ twice ∙ sym at in
+    let same : plain kind_of_shown ts ≡ ts = plain_of_length kind_of_shown ts (sym (map_length place_of (plain kind_of_shown ts)) ∙ ap length same_places ∙ map_length place_of ts) in
+    let r = typed_over ts f (subst (λ z. G kind_of_placed greatest_depth f z) (sym at) g) same in
+    let whole : branch (Label.policies, None) (erased.policy_trees p.policies.items) none ≡ branch (Label.policies, None) (nodes_of (policy_trees kind_of_shown r.policies)) none = t.nodes ∙ sym r.nodes in
+    record { policies = r.policies; leaves = r.leaves; nodes = cc; grammar = r.grammar; plain = r.plain }
+
 -- the policies over these tokens: their leaves, their nodes, and the trees of the table
 pub record PoliciesOver (p : Policies) (ts : List Shown) : Type 0 where
   pub policies : List (Clause Shown policy)
@@ -100,16 +124,7 @@ pub policies_over : (text : List ℕ) (p : Policies) (l : Listing) (old new : Li
     → map decorated new ≡ plain_list (map decorated old) → map bare new ≡ map bare (kept_tokens old) → PoliciesOver p (map shown new)
 policies_over text p l old new utf8 t is_list e spans plain_texts kept =
     let ts = map shown new in
-    let all = placed t.units in
-    let f = without_trailing kind_of_placed t.tree in
-    let at : map place_of ts ≡ plain kind_of_placed all = places_of_bare new ∙ ap (map with_place) kept ∙ sym (places_of_bare (kept_tokens old)) ∙ kept_places old ∙ ap (plain kind_of_placed) (stream_places text old l t.units t.split is_list e spans) in
-    let g : G kind_of_placed greatest_depth f (plain kind_of_placed all) = plain_is_in_the_grammar kind_of_placed greatest_depth all t.tree t.grammar in
-    let twice : plain kind_of_placed (plain kind_of_placed all) ≡ plain kind_of_placed all = plain_is_plain kind_of_placed greatest_depth all t.tree t.grammar in
-    let same_places : map place_of (plain kind_of_shown ts) ≡ map place_of ts =
-    sym (each_map place_of (plain kind_of_shown ts)) ∙ sym (plain_each place_of kind_of_shown kind_of_placed (λ _. refl) ts) ∙ ap (plain kind_of_placed) (each_map place_of ts ∙ at) ∙ twice ∙ sym at in
-    let same : plain kind_of_shown ts ≡ ts = plain_of_length kind_of_shown ts (sym (map_length place_of (plain kind_of_shown ts)) ∙ ap length same_places ∙ map_length place_of ts) in
-    let r = typed_over ts f (subst (λ z. G kind_of_placed greatest_depth f z) (sym at) g) same in
-    let whole : branch (Label.policies, None) (erased.policy_trees p.policies.items) none ≡ branch (Label.policies, None) (nodes_of (policy_trees kind_of_shown r.policies)) none = t.nodes ∙ sym r.nodes in
+    let r = nodes_over text p l old new t is_list e spans kept in
     let leaves : tokens_of (map (part_map as_leaf) r.policies) ≡ map as_leaf ts = tokens_mapped r.policies ∙ ap (map as_leaf) r.leaves in
     let listed : map as_leaf ts ≡ plain_list l.tokens = map_map as_leaf shown new ∙ plain_texts ∙ ap plain_list (sym e) in
     let good = good_tokens (plain_list l.tokens) (plain_list_good l.tokens (every_list_good text l utf8 is_list).0) in
@@ -118,7 +133,7 @@ policies_over text p l old new utf8 t is_list e spans plain_texts kept =
     record {
       policies = r.policies;
       leaves = r.leaves;
-      nodes = cc;
+      nodes = r.nodes;
       trees = record {
         tokens = subst (λ z. AllTokens z) (sym (leaves ∙ listed)) good;
         grammar = subst (λ z. G kind_of_decorated greatest_depth (set_tree kind_of_decorated (map (part_map as_leaf) r.policies)) z) (sym leaves)

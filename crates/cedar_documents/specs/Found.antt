@@ -1,5 +1,5 @@
 -- Which tokens a node needs, and when making its document answers that one is missing.
-use Rattle.std.specs.Prelude.{◌≡◌, ◌==◌, ◌&&◌, ◌||◌, ℕ, zero, suc, List, [], ◌∷◌, Bool, true, false, length, map, nat_le, ⊤, Option, Some, None, Result, Ok, Err, IsTrue, IsFalse, alloc_error}
+use Rattle.std.specs.Prelude.{◌==◌, ◌&&◌, ◌||◌, ℕ, suc, List, Bool, true, length, map, nat_le, ⊤, Option, Some, None, Result, Ok, Err, IsTrue, IsFalse, alloc_error}
 use Rattle.std.specs.List.{filter, list_any}
 use Rattle.std.specs.declared.alloc.AllocError.{AllocError}
 use Rattle.cedar_tokens.specs.declared.token.Span.{Span}

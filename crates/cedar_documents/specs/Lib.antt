@@ -1,5 +1,6 @@
 pub mod Kept
 pub mod Found
 pub mod NodeDocuments
+pub mod OwnTokens
 pub mod Signs
 pub mod Breaks

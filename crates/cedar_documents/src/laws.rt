@@ -1,4 +1,6 @@
 //! The laws of documents, cleaning and outputs.
+ghost use Rattle.cedar_documents.specs.OwnTokens.{NodesMeetTheirTokens, PoliciesMeetTheirTokens};
+
 pub use cedar_canonical::laws::{
     accepted_texts_have_trees, every_gap_holds, every_layout_reads_back, last_width_decides,
     outputs_are_canonical, outputs_are_determined, policies_stand_alone, raw_layouts_read_back,
@@ -7,3 +9,11 @@ pub use cedar_text_laws::laws::{
     cleaning_is_unique, cleaning_keeps_the_list, cleaning_takes_blanks, every_list_is_good,
     lists_join,
 };
+
+/// Among the tokens of an accepted text without trailing commas, whatever comments they have left, each policy of the text's
+/// tree and every node inside one is made of tokens that stand side by side: so `to_doc`'s clause `shows` speaks of each. A
+/// law: its body does nothing.
+pub fn own_tokens_are_met()
+    ensures policies { PoliciesMeetTheirTokens }
+    ensures within { NodesMeetTheirTokens }
+{}

@@ -29,7 +29,7 @@ use cedar_documents::doc::Doc;
 pub use cedar_documents::laws::{
     accepted_texts_have_trees, cleaning_is_unique, cleaning_keeps_the_list, cleaning_takes_blanks,
     every_layout_reads_back, every_list_is_good, last_width_decides, lists_join,
-    outputs_are_canonical, outputs_are_determined, policies_stand_alone,
+    outputs_are_canonical, outputs_are_determined, own_tokens_are_met, policies_stand_alone,
 };
 use cedar_layout::layout::render;
 use cedar_layout::utils::remove_empty_lines;

@@ -1,5 +1,5 @@
 use Rattle.cedar_tokens.proofs.KeptOrder.{order_kept}
-use Rattle.std.proofs.Common.{rules, ◌≡◌, refl, ap, ◌∙◌, arith, of_z, to_z, w64, ◌∷◌, [], ◌++◌, codes, sym, true, false, Some, subst, ◌+◌, map, drop, None}
+use Rattle.std.proofs.Common.{rules, ◌≡◌, refl, ap, ◌∙◌, arith, of_z, to_z, w64, ◌∷◌, [], ◌++◌, codes, sym, true, false, Some, subst, ◌+◌, map, drop}
 use Rattle.std.proofs.lemmas.Int.{ints}
 use Rattle.cedar_grammar.specs.Trees.{Label, none, leaf, branch, join}
 use Rattle.cedar_grammar.specs.TypedTrees.{plain_expr, if_expr, parts, yield, compare, has_or_like, is_type, is_in, member_of, literal, slot, reference, named, parens, list_empty, list_of, record_empty, record_of, init_of}

@@ -2,15 +2,14 @@ use Rattle.std.proofs.Common.{◌≡◌, ◌∷◌, [], to_z, of_z, w64, arith, 
 use Rattle.std.proofs.lemmas.Int.{ints}
 use Rattle.cedar_grammar.specs.TypedTrees.{yield}
 use Rattle.cedar_layout.specs.Comments.{space}
-use Rattle.cedar_layout.specs.Layout.{◌·◌, line, nest, group}
+use Rattle.cedar_layout.specs.Layout.{◌·◌, nest, group}
 use Rattle.cedar_layout.specs.Value.{doc_of}
-use Rattle.cedar_layout.proofs.Values.{doc_of_text, doc_of_line}
-use Rattle.cedar_tree.specs.Erased.{add_parts, path_parts}
+use Rattle.cedar_layout.proofs.Values.{doc_of_text}
+use Rattle.cedar_tree.specs.Erased.{path_parts}
 use Rattle.cedar_documents.specs.Found.{has_its_tokens}
-use Rattle.cedar_documents.specs.NodeDocuments.{document}
 use Rattle.cedar_documents.proofs.Found.{as_before, missed}
-use Rattle.cedar_documents.proofs.Opened.{in_turn, freely, rewritten, nothing_behind, ends_here, Always, Behind}
-use Rattle.cedar_documents.proofs.Relations.{row_of_five, row_of_nine}
+use Rattle.cedar_documents.proofs.Opened.{in_turn, freely, rewritten, nothing_behind, Always, Behind}
+use Rattle.cedar_documents.proofs.Relations.{row_of_five}
 use Rattle.cedar_documents.proofs.doc.expressions.is_doc.Goals as goal
 
 pub returns-in_err-name_doc-clause-found : goal.returns-in_err-name_doc-clause-found

@@ -1,7 +1,7 @@
 use Rattle.std.proofs.Common.{◌≡◌, ◌++◌, ℤ, List, map, drop}
 use Rattle.cedar_grammar.specs.TypedTrees.{Tree, yield}
 use Rattle.cedar_grammar.specs.TypedTrees as kind
-use Rattle.cedar_layout.specs.Lookups.{AreInOrder, Shown, shown}
+use Rattle.cedar_layout.specs.Lookups.{Shown, shown}
 use Rattle.cedar_layout.specs.Value.{docs_of}
 use Rattle.cedar_tree.specs.Erased.{path_parts}
 use Rattle.cedar_documents.specs.Found.{has_its_tokens, places}

@@ -2,7 +2,6 @@ use Rattle.std.proofs.Common.{refl, true, false, ◌∙◌, ◌∷◌, []}
 use Rattle.cedar_grammar.specs.Trees.{Label, leaf, branch, none}
 use Rattle.cedar_grammar.specs.TypedTrees.{ref_of, yield}
 use Rattle.cedar_layout.specs.Layout.{◌·◌}
-use Rattle.cedar_layout.specs.Value.{doc_of}
 use Rattle.cedar_tree.specs.Erased.{path_parts}
 use Rattle.cedar_documents.specs.Found.{has_its_tokens, places, starts}
 use Rattle.cedar_documents.proofs.Flat.{flat}

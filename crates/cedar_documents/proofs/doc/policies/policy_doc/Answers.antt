@@ -3,12 +3,10 @@ use Rattle.std.proofs.lemmas.Int.{to_z-of_z}
 use Rattle.cedar_grammar.specs.Trees.{Label, branch, join, leaf, none}
 use Rattle.cedar_grammar.specs.TypedTrees.{policy_of, part_parts, part_yield}
 use Rattle.cedar_tree.specs.Erased.{annotation_trees, cond_trees, scope_variables, variable_items}
-use Rattle.cedar_layout.specs.Layout.{◌·◌, group, line, nil}
-use Rattle.cedar_layout.proofs.Values.{dot_assoc}
+use Rattle.cedar_layout.specs.Layout.{◌·◌}
 use Rattle.cedar_documents.specs.Found.{has_its_tokens, places, starts}
 use Rattle.cedar_documents.specs.NodeDocuments.{as_leaf, kind_of_shown, part_document, scope_document}
 use Rattle.cedar_canonical.specs.Table.{C}
-use Rattle.cedar_canonical.specs.Table as table
 use Rattle.cedar_documents.proofs.Flat.{flat}
 use Rattle.cedar_documents.proofs.Found.{and_false, and_true, as_before, missed}
 use Rattle.cedar_documents.proofs.Opened.{opened, opened_leaf, opened_token, part_at, ends_here, in_turn, freely, rewritten, nothing_behind, Always, Behind}

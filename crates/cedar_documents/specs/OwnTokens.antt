@@ -1,0 +1,82 @@
+-- The nodes of an accepted text, and their own tokens among the text's.
+use Rattle.std.specs.Prelude.{◌≡◌, ◌⊎◌, ℕ, ℤ, List, ◌++◌, map, Some}
+use Rattle.std.specs.List.{Contains}
+use Rattle.cedar_tokens.specs.Listing.{IsListing}
+use Rattle.cedar_tokens.specs.Places.{AreTokenSpans}
+use Rattle.cedar_tokens.specs.PlainList.{kept_tokens}
+use Rattle.cedar_tokens.specs.Tokens.{decorated}
+use Rattle.cedar_tokens.specs.declared.token.Span.{Span}
+use Rattle.cedar_tokens.specs.declared.token.WrappedToken.{WrappedToken}
+use Rattle.cedar_grammar.specs.Trees.{Label, none, leaf, branch}
+use Rattle.cedar_grammar.specs.TypedTrees as kind
+use Rattle.cedar_layout.specs.Layout.{Doc}
+use Rattle.cedar_layout.specs.Lookups.{Shown, shown}
+use Rattle.cedar_tree.specs.Erased.{Erased, policy_parts, policy_trees}
+use Rattle.cedar_tree.specs.NodeTrees.{IsTreeOf}
+use Rattle.cedar_tree.specs.declared.tree.Node.{Node}
+use Rattle.cedar_tree.specs.declared.tree.Policies.{Policies}
+use Rattle.cedar_tree.specs.declared.tree.Policy.{Policy}
+use Rattle.cedar_documents.specs.Kept.{KeepsTokens}
+use Rattle.cedar_documents.specs.NodeDocuments.{IsLeafWith, IsNodeWith, IsPartWith, IsRowWith}
+
+-- these trees hold a node with this label, span and parts: as one of them, or inside one
+abbrev pub Holds : Erased → Label → Span → Erased → Type 0
+Holds none l s parts = ⊥
+Holds (leaf text f) l s parts = Holds f l s parts
+Holds (branch k f g) l s parts = ((k ≡ (l, Some s)) × (f ≡ parts)) ⊎ (Holds f l s parts ⊎ Holds g l s parts)
+
+-- a node of one token, whose text is its only part
+abbrev pub IsTokenWith : Span → Erased → List Shown → Doc → Type 0
+IsTokenWith s parts ts doc = (text : List ℕ) × (parts ≡ leaf text none) × IsLeafWith s text ts doc
+
+-- a node with this label is made of these tokens, and this is its document at an indentation: what `is_shown` says of its type
+abbrev pub IsShownAs : Label → Span → Erased → ℤ → List Shown → Doc → Type 0
+IsShownAs Label.policy s parts = IsPartWith kind.policy s parts
+IsShownAs Label.annotation s parts = IsPartWith kind.annotation s parts
+IsShownAs Label.variable s parts = IsPartWith kind.variable s parts
+IsShownAs Label.condition s parts = IsPartWith kind.cond s parts
+IsShownAs Label.expr s parts = IsNodeWith kind.expr s parts
+IsShownAs Label.or s parts = IsNodeWith kind.ors s parts
+IsShownAs Label.and s parts = IsNodeWith kind.ands s parts
+IsShownAs Label.relation s parts = IsNodeWith kind.relation s parts
+IsShownAs Label.add s parts = IsNodeWith kind.add s parts
+IsShownAs Label.mult s parts = IsNodeWith kind.mult s parts
+IsShownAs Label.unary s parts = IsNodeWith kind.unary s parts
+IsShownAs Label.member s parts = IsRowWith kind.member parts
+IsShownAs Label.access s parts = IsRowWith kind.accesses (branch (Label.access, Some s) parts none)
+IsShownAs Label.primary s parts = IsNodeWith kind.primary s parts
+IsShownAs Label.rec_init s parts = IsNodeWith kind.init s parts
+IsShownAs Label.name s parts = IsNodeWith kind.name s parts
+IsShownAs Label.ref s parts = IsNodeWith kind.ref s parts
+IsShownAs Label.ident s parts = λ i. IsTokenWith s parts
+IsShownAs Label.str s parts = λ i. IsTokenWith s parts
+IsShownAs Label.boolean s parts = λ i. IsTokenWith s parts
+IsShownAs Label.number s parts = λ i. IsTokenWith s parts
+IsShownAs Label.string s parts = λ i. IsTokenWith s parts
+IsShownAs Label.slot s parts = λ i. IsTokenWith s parts
+-- the other labels are of no node that has a span
+IsShownAs l s parts = λ i ts doc. ⊥
+
+-- these stand among the tokens, one right behind the other
+abbrev pub StandTogether : List WrappedToken → List Shown → Type 0
+StandTogether tokens ts = (before : List Shown) × (after : List Shown) × (map shown tokens ≡ before ++ (ts ++ after))
+
+-- at every indentation the node is made of some of these tokens, which stand side by side
+abbrev pub MeetsItsTokens : List WrappedToken → Label → Span → Erased → Type 0
+MeetsItsTokens tokens l s parts = (i : ℤ) → (ts : List Shown) × (doc : Doc) × IsShownAs l s parts i ts doc × StandTogether tokens ts
+
+-- the tokens of the text's stream without trailing commas, whatever comments they have left
+pub record AreTokensOf (text : List ℕ) (tokens : List WrappedToken) : Type 0 where
+  pub stream : List WrappedToken
+  pub closing : List (List ℕ)
+  pub listing : IsListing text (record { tokens = map decorated stream; closing = closing })
+  pub spans : AreTokenSpans text (map (λ w. w.span) stream)
+  pub kept : KeepsTokens (kept_tokens stream) tokens
+
+-- each policy of an accepted text meets its tokens
+abbrev pub PoliciesMeetTheirTokens : Type 0
+PoliciesMeetTheirTokens = (text : List ℕ) (p : Policies) (tokens : List WrappedToken) → IsTreeOf text p → AreTokensOf text tokens → (n : Node Policy) → Contains p.policies.items n → MeetsItsTokens tokens Label.policy n.span (policy_parts n.inner)
+
+-- and so does every node of every type, however deep inside one
+abbrev pub NodesMeetTheirTokens : Type 0
+NodesMeetTheirTokens = (text : List ℕ) (p : Policies) (tokens : List WrappedToken) → IsTreeOf text p → AreTokensOf text tokens → (l : Label) (s : Span) (parts : Erased) → Holds (policy_trees p.policies.items) l s parts → MeetsItsTokens tokens l s parts
