@@ -11,14 +11,14 @@ use Rattle.cedar_grammar.specs.Reader.Reading.{Answer, done, stuck}
 use Rattle.cedar_grammar.specs.Reader.Lines.{set_to}
 use Rattle.cedar_grammar.proofs.DepthLaws.{Beyond}
 use Rattle.cedar_grammar.proofs.WholeLaws.{set_sound, set_local, set_deeper}
-use Rattle.cedar_cst.specs.declared.cst.lexeme.Lexeme.{Lexeme}
-use Rattle.cedar_cst.specs.declared.cst.reading.Refusal.TheVariants.{Grammar, TooDeep}
+use Rattle.cedar_reading.specs.declared.lexeme.Lexeme.{Lexeme}
+use Rattle.cedar_reading.specs.declared.reading.Refusal.TheVariants.{Grammar, TooDeep}
 use Rattle.cedar_tree.specs.declared.tree.Policies.{Policies}
 use Rattle.cedar_tree.specs.NodeTrees.{IsTreeOf}
-use Rattle.cedar_cst.specs.Lexemes.{AreLexemes}
-use Rattle.cedar_cst.specs.Reading.{kind, IsRight, AreRight, start_or, place_of}
+use Rattle.cedar_reading.specs.Lexemes.{AreLexemes}
+use Rattle.cedar_reading.specs.Reading.{kind, IsRight, AreRight, start_or, place_of}
 use Rattle.cedar_cst.specs.ReadingSet.{GivesSet}
-use Rattle.cedar_cst.proofs.Parsing.{parsed}
+use Rattle.cedar_reading.proofs.Parsing.{parsed}
 
 -- Lexemes of a text are right.
 all_tokens : (us : List (List ℕ)) (xs : List Lexeme) → map (λ (l : Lexeme). l.text.now) xs ≡ filter is_token us → AllByRecursion (λ (l : Lexeme). is_token l.text.now ≡ true) xs

@@ -2,14 +2,14 @@
 use Rattle.std.specs.Prelude.{◌≡◌, true, false, List, [], ◌∷◌, ◌⊎◌, length, Result, Ok, Err, codes}
 use Rattle.cedar_grammar.specs.Trees.{Label, Forest, none, leaf}
 use Rattle.cedar_grammar.specs.Reader.Reading.{Answer, done, stuck}
-use Rattle.cedar_cst.specs.declared.cst.lexeme.Lexeme.{Lexeme}
-use Rattle.cedar_cst.specs.declared.cst.reading.Refusal.{Refusal}
-use Rattle.cedar_cst.specs.declared.cst.reading.Refusal.TheVariants.{Grammar, TooDeep, OutOfMemory}
+use Rattle.cedar_reading.specs.declared.lexeme.Lexeme.{Lexeme}
+use Rattle.cedar_reading.specs.declared.reading.Refusal.{Refusal}
+use Rattle.cedar_reading.specs.declared.reading.Refusal.TheVariants.{Grammar, TooDeep, OutOfMemory}
 use Rattle.cedar_tree.specs.declared.tree.Cond.{Cond}
 use Rattle.cedar_tree.specs.declared.tree.Policies.{Policies}
 use Rattle.cedar_tree.specs.Erased.{Erased, node, ident_tree, expr_parts, erase}
-use Rattle.cedar_cst.specs.Lexemes.{nodes_of}
-use Rattle.cedar_cst.specs.Reading.{AreRight}
+use Rattle.cedar_reading.specs.Lexemes.{nodes_of}
+use Rattle.cedar_reading.specs.Reading.{AreRight}
 
 -- `when` or `unless`, and an expression in braces
 abbrev pub cond_parts : Cond → Erased

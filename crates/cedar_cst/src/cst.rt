@@ -2,19 +2,14 @@
 ghost use Rattle.std.specs.Prelude.{◌≡◌, IfOk, IfErr};
 ghost use Rattle.cedar_tree.specs.NodeTrees.{IsTreeOf};
 ghost use Rattle.cedar_tree.specs.Refusals.{Refuses};
-ghost use Rattle.cedar_cst.specs.Reading.{place_of};
+ghost use Rattle.cedar_reading.specs.Reading.{place_of};
 
-mod expressions;
-mod lexeme;
-mod nodes;
-mod reading;
-mod scopes;
-mod words;
+mod policies;
 
-use crate::cst::lexeme::{Lexeme, read_lexemes};
-use crate::cst::reading::Refusal;
-use crate::cst::scopes::parse_set;
-pub use cedar_tree::compare::same_tree;
+use crate::cst::policies::parse_set;
+use cedar_reading::lexeme::{Lexeme, read_lexemes};
+use cedar_reading::reading::Refusal;
+pub use cedar_same_tree::compare::same_tree;
 pub use cedar_tree::error::FormatError;
 pub use cedar_tree::laws;
 pub use cedar_tree::tree::{

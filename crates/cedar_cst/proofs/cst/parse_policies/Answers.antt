@@ -2,7 +2,7 @@ use Rattle.std.specs.Prelude.{true, false, Ok, Err}
 use Rattle.std.proofs.Common.{sym, ap, ◌∙◌, subst}
 use Rattle.cedar_grammar.specs.Texts.{greatest_depth, IsRefused}
 use Rattle.cedar_grammar.specs.Reader.Lines.{set_to}
-use Rattle.cedar_cst.specs.Reading.{kind, place_of}
+use Rattle.cedar_reading.specs.Reading.{kind, place_of}
 use Rattle.cedar_cst.specs.ReadingSet.{GivesSet}
 use Rattle.cedar_cst.proofs.Whole.{whole_tree, whole_grammar, whole_deep}
 use Rattle.cedar_cst.proofs.cst.parse_policies.Goals as goal

@@ -1,0 +1,417 @@
+//! Expressions. Recursion goes down the nesting alone; `depth` says how many brackets and `if`s may still be nested.
+ghost use Rattle.std.specs.Prelude.{suc, ◌<◌, ◌≤◌, length, IfOk};
+ghost use Rattle.cedar_grammar.specs.Kinds.{is_comparison};
+ghost use Rattle.cedar_grammar.specs.Trees.{Label};
+ghost use Rattle.cedar_grammar.specs.declared.kind.Kind.TheVariants as K;
+ghost use Rattle.cedar_grammar.specs.Reader.Rules.{inner, leaf_of, items, reference};
+ghost use Rattle.cedar_grammar.specs.Reader.Lines.{◌▸◌, one_of, maybe, path, call_parts, call, init, item, member_rule, unary_rule, mult_rule, add_rule, relation_rule, and_rule, or_rule, expr_rule};
+ghost use Rattle.cedar_tree.specs.Erased.{expr_parts, or_parts, relation_parts, add_parts, mult_parts, unary_parts, access_parts, primary_parts};
+ghost use Rattle.cedar_reading.specs.Reading.{GivesNode, GivesBehind, relop_kind};
+ghost use Rattle.cedar_nodes.specs.ReadingItems.{GivesItems};
+ghost use Rattle.cedar_nodes.specs.ReadingExprs.{at_depth, if_rule, bracket_rule, GivesSigned, GivesTypeTest, GivesItem};
+ghost use Rattle.cedar_tree.specs.NodeLists.{and_parts, init_parts, member_parts};
+
+use cedar_grammar::kind::Kind;
+use cedar_nodes::nodes::{
+    add_node, and_node, call_node, called_primary, compared_node, has_node, if_node, init_node,
+    is_node, like_node, list_node, lone_primary, lone_relation, member_node, mult_node, or_expr,
+    or_node, parens_node, record_node, unary_node, with_sign, with_type,
+};
+use cedar_reading::lexeme::Lexeme;
+use cedar_reading::reading::{
+    Parsed, begins, closed_by, expect, keep, past, refuse, skip, start_of, too_deep,
+};
+use cedar_reading::words::{
+    begins_access, begins_bracket, begins_call, begins_comparison, begins_expression,
+    begins_identifier, begins_key, entity_node, is_lone_variable, name_primary, parse_access,
+    parse_comparison_sign, parse_has_field, parse_key, parse_literal, parse_path, parse_pattern,
+    parse_words, past_sum_sign, read_signs, signed_start,
+};
+use cedar_tree::tree::{
+    Add, And, Expr, MemAccess, Member, Mult, MultOp, Name, Node, Or, Primary, RecInit, RelOp,
+    Relation, Unary,
+};
+use std::alloc::Global;
+
+/// An expression.
+#[cycle(parser)]
+pub fn parse_expr<'t, 'src>(
+    alloc: Global,
+    tokens: &'t [Lexeme<'src>],
+    depth: usize,
+) -> Parsed<'t, 'src, Node<Expr<'src>>>
+    ensures shorter { IfOk result (λ x. length x.1.now < length tokens.now) }
+    ensures reads { GivesNode Label.expr expr_parts result (at_depth depth expr_rule tokens.now) }
+{
+    if begins(tokens, Kind::If) {
+        if depth == 0 {
+            return Err(too_deep(tokens));
+        }
+        return parse_if(alloc, tokens, depth - 1);
+    }
+    or_expr(alloc, parse_or(alloc, tokens, depth))
+}
+
+// `if`, `then` and `else`.
+#[cycle(parser)]
+fn parse_if<'t, 'src>(
+    alloc: Global,
+    tokens: &'t [Lexeme<'src>],
+    depth: usize,
+) -> Parsed<'t, 'src, Node<Expr<'src>>>
+    ensures shorter { IfOk result (λ x. length x.1.now < length tokens.now) }
+    ensures reads { GivesNode Label.expr expr_parts result (at_depth (suc depth) if_rule tokens.now) }
+{
+    let (test, rest) = parse_branch(alloc, tokens, Kind::If, depth)?;
+    let (yes, rest) = parse_branch(alloc, rest, Kind::Then, depth)?;
+    let (no, rest) = parse_branch(alloc, rest, Kind::Else, depth)?;
+    Ok((if_node(alloc, start_of(tokens), test, yes, no)?, rest))
+}
+
+// A keyword, and the expression after it.
+#[cycle(parser)]
+fn parse_branch<'t, 'src>(
+    alloc: Global,
+    tokens: &'t [Lexeme<'src>],
+    keyword: Kind,
+    depth: usize,
+) -> Parsed<'t, 'src, Node<Expr<'src>>>
+    ensures shorter { IfOk result (λ x. length x.1.now < length tokens.now) }
+    ensures reads { GivesBehind keyword Label.expr expr_parts result (at_depth (suc depth) (one_of keyword ▸ inner) tokens.now) }
+{
+    match past(tokens, keyword) {
+        Some(after) => parse_expr(alloc, after, depth),
+        None => Err(refuse(tokens)),
+    }
+}
+
+// Operands of `||`.
+#[cycle(parser)]
+fn parse_or<'t, 'src>(
+    alloc: Global,
+    tokens: &'t [Lexeme<'src>],
+    depth: usize,
+) -> Parsed<'t, 'src, Node<Or<'src>>>
+    ensures shorter { IfOk result (λ x. length x.1.now < length tokens.now) }
+    ensures reads { GivesNode Label.or or_parts result (at_depth depth or_rule tokens.now) }
+{
+    let (first, mut rest) = parse_and(alloc, tokens, depth)?;
+    let mut extended = Vec::new(alloc);
+    'operands: while let Some(after) = past(rest, Kind::Or) {
+        match keep(parse_and(alloc, after, depth), &mut extended, &mut rest) {
+            Ok(()) => {}
+            Err(refusal) => {
+                drop(first);
+                return Err(refusal);
+            }
+        }
+    }
+    Ok((or_node(first, extended), rest))
+}
+
+// Operands of `&&`.
+#[cycle(parser)]
+fn parse_and<'t, 'src>(
+    alloc: Global,
+    tokens: &'t [Lexeme<'src>],
+    depth: usize,
+) -> Parsed<'t, 'src, Node<And<'src>>>
+    ensures shorter { IfOk result (λ x. length x.1.now < length tokens.now) }
+    ensures reads { GivesNode Label.and and_parts result (at_depth depth and_rule tokens.now) }
+{
+    let (first, mut rest) = parse_relation(alloc, tokens, depth)?;
+    let mut extended = Vec::new(alloc);
+    'operands: while let Some(after) = past(rest, Kind::And) {
+        match keep(
+            parse_relation(alloc, after, depth),
+            &mut extended,
+            &mut rest,
+        ) {
+            Ok(()) => {}
+            Err(refusal) => {
+                drop(first);
+                return Err(refusal);
+            }
+        }
+    }
+    Ok((and_node(first, extended), rest))
+}
+
+// One operand; or two with a comparison, `has`, `like` or `is` between them.
+#[cycle(parser)]
+fn parse_relation<'t, 'src>(
+    alloc: Global,
+    tokens: &'t [Lexeme<'src>],
+    depth: usize,
+) -> Parsed<'t, 'src, Node<Relation<'src>>>
+    ensures shorter { IfOk result (λ x. length x.1.now < length tokens.now) }
+    ensures reads { GivesNode Label.relation relation_parts result (at_depth depth relation_rule tokens.now) }
+{
+    let (target, rest) = parse_add(alloc, tokens, depth)?;
+    if begins_comparison(rest) {
+        return compared_node(target, parse_compared(alloc, rest, depth));
+    }
+    if begins(rest, Kind::Has) {
+        return has_node(target, parse_has_field(alloc, rest));
+    }
+    if begins(rest, Kind::Like) {
+        return like_node(target, parse_pattern(alloc, rest));
+    }
+    if begins(rest, Kind::Is) {
+        return is_node(target, parse_type_test(alloc, rest, depth));
+    }
+    Ok((lone_relation(target), rest))
+}
+
+// A comparison's sign, and its second operand.
+#[cycle(parser)]
+fn parse_compared<'t, 'src>(
+    alloc: Global,
+    tokens: &'t [Lexeme<'src>],
+    depth: usize,
+) -> Parsed<'t, 'src, (RelOp, Node<Add<'src>>)>
+    ensures shorter { IfOk result (λ x. length x.1.now < length tokens.now) }
+    ensures reads { GivesSigned relop_kind Label.add add_parts result (at_depth depth (leaf_of is_comparison ▸ add_rule) tokens.now) }
+{
+    let (op, rest) = parse_comparison_sign(tokens)?;
+    with_sign(op, parse_add(alloc, rest, depth))
+}
+
+// `is`, a type, and perhaps `in` and an operand.
+#[cycle(parser)]
+fn parse_type_test<'t, 'src>(
+    alloc: Global,
+    tokens: &'t [Lexeme<'src>],
+    depth: usize,
+) -> Parsed<'t, 'src, (Node<Name<'src>>, Option<Node<Add<'src>>>)>
+    ensures shorter { IfOk result (λ x. length x.1.now < length tokens.now) }
+    ensures reads { GivesTypeTest result (at_depth depth (one_of K.Is ▸ path ▸ maybe (one_of K.In ▸ add_rule)) tokens.now) }
+{
+    let (_, rest) = expect(tokens, Kind::Is)?;
+    let (entity_type, rest) = parse_path(alloc, rest)?;
+    match past(rest, Kind::In) {
+        Some(after) => with_type(entity_type, parse_add(alloc, after, depth)),
+        None => Ok(((entity_type, None), rest)),
+    }
+}
+
+// Operands of `+` and `-`.
+#[cycle(parser)]
+fn parse_add<'t, 'src>(
+    alloc: Global,
+    tokens: &'t [Lexeme<'src>],
+    depth: usize,
+) -> Parsed<'t, 'src, Node<Add<'src>>>
+    ensures shorter { IfOk result (λ x. length x.1.now < length tokens.now) }
+    ensures reads { GivesNode Label.add add_parts result (at_depth depth add_rule tokens.now) }
+{
+    let (first, mut rest) = parse_mult(alloc, tokens, depth)?;
+    let mut extended = Vec::new(alloc);
+    'operands: while let Some((op, after)) = past_sum_sign(rest) {
+        keep(
+            with_sign(op, parse_mult(alloc, after, depth)),
+            &mut extended,
+            &mut rest,
+        )?;
+    }
+    Ok((add_node(first, extended), rest))
+}
+
+// Operands of `*`.
+#[cycle(parser)]
+fn parse_mult<'t, 'src>(
+    alloc: Global,
+    tokens: &'t [Lexeme<'src>],
+    depth: usize,
+) -> Parsed<'t, 'src, Node<Mult<'src>>>
+    ensures shorter { IfOk result (λ x. length x.1.now < length tokens.now) }
+    ensures reads { GivesNode Label.mult mult_parts result (at_depth depth mult_rule tokens.now) }
+{
+    let (first, mut rest) = parse_unary(alloc, tokens, depth)?;
+    let mut extended = Vec::new(alloc);
+    'operands: while let Some(after) = past(rest, Kind::Mul) {
+        let read = with_sign(MultOp::Times, parse_unary(alloc, after, depth));
+        keep(read, &mut extended, &mut rest)?;
+    }
+    Ok((mult_node(first, extended), rest))
+}
+
+// A member behind at most four `!` or at most four `-`.
+#[cycle(parser)]
+fn parse_unary<'t, 'src>(
+    alloc: Global,
+    tokens: &'t [Lexeme<'src>],
+    depth: usize,
+) -> Parsed<'t, 'src, Node<Unary<'src>>>
+    ensures shorter { IfOk result (λ x. length x.1.now < length tokens.now) }
+    ensures reads { GivesNode Label.unary unary_parts result (at_depth depth unary_rule tokens.now) }
+{
+    let (op, rest) = read_signs(tokens);
+    let read = parse_member(alloc, rest, depth);
+    unary_node(signed_start(tokens, op, &read), op, read)
+}
+
+// A primary and what is accessed in it.
+#[cycle(parser)]
+fn parse_member<'t, 'src>(
+    alloc: Global,
+    tokens: &'t [Lexeme<'src>],
+    depth: usize,
+) -> Parsed<'t, 'src, Node<Member<'src>>>
+    ensures shorter { IfOk result (λ x. length x.1.now < length tokens.now) }
+    ensures reads { GivesNode Label.member member_parts result (at_depth depth member_rule tokens.now) }
+{
+    let ((item, mut access), mut rest) = parse_item(alloc, tokens, depth)?;
+    'accesses: while begins_access(rest) {
+        let callable = begins(rest, Kind::Dot);
+        keep(parse_access(rest), &mut access, &mut rest)?;
+        if begins_call(rest, callable) {
+            keep(parse_call(alloc, rest, depth), &mut access, &mut rest)?;
+        }
+    }
+    Ok((member_node(item, access), rest))
+}
+
+// A primary; and where it is a path that is called, the call.
+#[cycle(parser)]
+fn parse_item<'t, 'src>(
+    alloc: Global,
+    tokens: &'t [Lexeme<'src>],
+    depth: usize,
+) -> Parsed<'t, 'src, (Node<Primary<'src>>, Vec<Node<MemAccess<'src>>>)>
+    ensures shorter { IfOk result (λ x. length x.1.now < length tokens.now) }
+    ensures reads { GivesItem result (at_depth depth item tokens.now) }
+{
+    if begins_identifier(tokens) {
+        return parse_reference(alloc, tokens, depth);
+    }
+    if !begins_bracket(tokens) {
+        return lone_primary(alloc, parse_literal(tokens));
+    }
+    if depth == 0 {
+        return Err(too_deep(tokens));
+    }
+    lone_primary(alloc, parse_bracket(alloc, tokens, depth - 1))
+}
+
+// A variable, an entity, or a path and its call. A path alone that is no variable is refused at the token after it.
+#[cycle(parser)]
+fn parse_reference<'t, 'src>(
+    alloc: Global,
+    tokens: &'t [Lexeme<'src>],
+    depth: usize,
+) -> Parsed<'t, 'src, (Node<Primary<'src>>, Vec<Node<MemAccess<'src>>>)>
+    ensures shorter { IfOk result (λ x. length x.1.now < length tokens.now) }
+    ensures reads { GivesItem result (at_depth depth (reference call_parts) tokens.now) }
+{
+    let ((name, eid), rest) = parse_words(alloc, tokens)?;
+    if let Some(eid) = eid {
+        return Ok(((entity_node(name, eid), Vec::new(alloc)), rest));
+    }
+    if begins(rest, Kind::LParen) {
+        let primary = name_primary(name);
+        return called_primary(alloc, primary, parse_call(alloc, rest, depth));
+    }
+    if is_lone_variable(tokens, &name) {
+        return Ok(((name_primary(name), Vec::new(alloc)), rest));
+    }
+    Err(refuse(rest))
+}
+
+// The arguments of a call, in brackets.
+#[cycle(parser)]
+fn parse_call<'t, 'src>(
+    alloc: Global,
+    tokens: &'t [Lexeme<'src>],
+    depth: usize,
+) -> Parsed<'t, 'src, Node<MemAccess<'src>>>
+    ensures shorter { IfOk result (λ x. length x.1.now < length tokens.now) }
+    ensures reads { GivesNode Label.access access_parts result (at_depth depth call tokens.now) }
+{
+    let (open, rest) = expect(tokens, Kind::LParen)?;
+    if depth == 0 {
+        return Err(too_deep(tokens));
+    }
+    let read = parse_exprs(alloc, rest, depth - 1);
+    call_node(open.span.start, closed_by(read, Kind::RParen))
+}
+
+// Expressions with commas between them, and perhaps one behind the last; or none.
+#[cycle(parser)]
+fn parse_exprs<'t, 'src>(
+    alloc: Global,
+    tokens: &'t [Lexeme<'src>],
+    depth: usize,
+) -> Parsed<'t, 'src, Vec<Node<Expr<'src>>>>
+    ensures shorter { IfOk result (λ x. length x.1.now ≤ length tokens.now) }
+    ensures reads { GivesItems Label.expr expr_parts result (at_depth (suc depth) (maybe (items inner)) tokens.now) }
+{
+    let mut items = Vec::new(alloc);
+    let mut rest = tokens;
+    'items: while begins_expression(rest) {
+        keep(parse_expr(alloc, rest, depth), &mut items, &mut rest)?;
+        if !skip(&mut rest, Kind::Comma) {
+            return Ok((items, rest));
+        }
+    }
+    Ok((items, rest))
+}
+
+// A parenthesis, a list or a record.
+#[cycle(parser)]
+fn parse_bracket<'t, 'src>(
+    alloc: Global,
+    tokens: &'t [Lexeme<'src>],
+    depth: usize,
+) -> Parsed<'t, 'src, Node<Primary<'src>>>
+    ensures shorter { IfOk result (λ x. length x.1.now < length tokens.now) }
+    ensures reads { GivesNode Label.primary primary_parts result (at_depth (suc depth) bracket_rule tokens.now) }
+{
+    let start = start_of(tokens);
+    if let Some(after) = past(tokens, Kind::LParen) {
+        let read = parse_expr(alloc, after, depth);
+        return parens_node(alloc, start, closed_by(read, Kind::RParen));
+    }
+    if let Some(after) = past(tokens, Kind::LBracket) {
+        let read = parse_exprs(alloc, after, depth);
+        return list_node(start, closed_by(read, Kind::RBracket));
+    }
+    let (_, rest) = expect(tokens, Kind::LBrace)?;
+    let read = parse_inits(alloc, rest, depth);
+    record_node(start, closed_by(read, Kind::RBrace))
+}
+
+// Entries of a record with commas between them, and perhaps one behind the last; or none.
+#[cycle(parser)]
+fn parse_inits<'t, 'src>(
+    alloc: Global,
+    tokens: &'t [Lexeme<'src>],
+    depth: usize,
+) -> Parsed<'t, 'src, Vec<Node<RecInit<'src>>>>
+    ensures shorter { IfOk result (λ x. length x.1.now ≤ length tokens.now) }
+    ensures reads { GivesItems Label.rec_init init_parts result (at_depth (suc depth) (maybe (items init)) tokens.now) }
+{
+    let mut inits = Vec::new(alloc);
+    let mut rest = tokens;
+    'inits: while begins_key(rest) {
+        keep(parse_init(alloc, rest, depth), &mut inits, &mut rest)?;
+        if !skip(&mut rest, Kind::Comma) {
+            return Ok((inits, rest));
+        }
+    }
+    Ok((inits, rest))
+}
+
+// A key, `:`, and its value.
+#[cycle(parser)]
+fn parse_init<'t, 'src>(
+    alloc: Global,
+    tokens: &'t [Lexeme<'src>],
+    depth: usize,
+) -> Parsed<'t, 'src, Node<RecInit<'src>>>
+    ensures shorter { IfOk result (λ x. length x.1.now < length tokens.now) }
+    ensures reads { GivesNode Label.rec_init init_parts result (at_depth (suc depth) init tokens.now) }
+{
+    let ((key, _), rest) = closed_by(parse_key(alloc, tokens), Kind::Colon)?;
+    init_node(key, parse_expr(alloc, rest, depth))
+}

@@ -1,0 +1,12 @@
+use Rattle.std.proofs.Common.{ap, ◌∙◌}
+use Rattle.cedar_nodes.specs.ReadingExprs.{end_of_last}
+use Rattle.cedar_tree.specs.declared.tree.Node.{Node}
+use Rattle.cedar_tree.specs.declared.tree.AddOp.{AddOp}
+use Rattle.cedar_tree.specs.declared.tree.Mult as Mult
+use Rattle.cedar_tree.proofs.Views.{view_add}
+use Rattle.cedar_nodes.proofs.nodes.add_node.Goals as goal
+
+pub returns : goal.returns
+returns c =
+    let first = c.args.initial in
+    (view_add first c.args.extended, ap (λ z. record { start = first.span.start; end = z }) (c.signed_end-end.ensures ∙ ap (end_of_last (λ (x : AddOp × Node Mult.Mult). x.1) first.span.end) c.deref.ensures.value))

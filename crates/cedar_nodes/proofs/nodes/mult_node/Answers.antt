@@ -1,0 +1,12 @@
+use Rattle.std.proofs.Common.{ap, ◌∙◌}
+use Rattle.cedar_nodes.specs.ReadingExprs.{end_of_last}
+use Rattle.cedar_tree.specs.declared.tree.Node.{Node}
+use Rattle.cedar_tree.specs.declared.tree.MultOp.{MultOp}
+use Rattle.cedar_tree.specs.declared.tree.Unary as Unary
+use Rattle.cedar_tree.proofs.Views.{view_mult}
+use Rattle.cedar_nodes.proofs.nodes.mult_node.Goals as goal
+
+pub returns : goal.returns
+returns c =
+    let first = c.args.initial in
+    (view_mult first c.args.extended, ap (λ z. record { start = first.span.start; end = z }) (c.signed_end-end.ensures ∙ ap (end_of_last (λ (x : MultOp × Node Unary.Unary). x.1) first.span.end) c.deref.ensures.value))

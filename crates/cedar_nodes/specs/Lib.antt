@@ -1,0 +1,2 @@
+pub mod ReadingItems
+pub mod ReadingExprs

@@ -1,0 +1,4 @@
+// Nodes of expressions, made of parts that were read.
+#![tactic(auto)]
+
+pub mod nodes;

@@ -1,0 +1,4 @@
+pub mod Lexemes
+pub mod Reading
+pub mod ReadingParts
+pub mod ReadingSigns

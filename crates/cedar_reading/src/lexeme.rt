@@ -1,0 +1,100 @@
+//! The tokens as the parser reads them: slices of the text, with their kinds and places.
+ghost use Rattle.std.specs.Prelude.{◌≡◌, MatchResult, if◌then◌else◌, is_some};
+ghost use Rattle.std.specs.List.{list_all};
+ghost use Rattle.std.specs.Char.{is_ascii_digit};
+ghost use Rattle.cedar_tokens.specs.Units.{is_number};
+ghost use Rattle.cedar_tokens.specs.Split.{IsFirstFault};
+ghost use Rattle.cedar_grammar.specs.Numbers.{is_too_large};
+ghost use Rattle.cedar_tree.specs.Refusals.{RefusesTokens};
+ghost use Rattle.cedar_reading.specs.Lexemes.{AreLexemes};
+
+use cedar_grammar::kind::{Kind, kind_of};
+use cedar_tokens::lexer::{UnitKind, first_unit};
+use cedar_tokens::token::Span;
+use cedar_tree::error::FormatError;
+use std::alloc::Global;
+
+/// A token as the parser reads it.
+#[derive(Clone, Copy, Debug)]
+pub struct Lexeme<'src> {
+    pub kind: Kind,
+    pub text: &'src str,
+    pub span: Span,
+}
+
+// Whether each byte is a digit.
+fn all_digits(bytes: &[u8]) -> bool
+    ensures { result ≡ list_all is_ascii_digit bytes.now }
+{
+    bytes.iter().all(|byte| byte.is_ascii_digit())
+}
+
+// Whether the text is a number.
+fn is_number(text: &str) -> bool
+    ensures { result ≡ is_number text.now }
+{
+    match text.as_bytes().split_first() {
+        Some((first, rest)) => { first.is_ascii_digit() && all_digits(rest) }
+        None => false,
+    }
+}
+
+// Whether the text is a number above 18446744073709551615.
+fn is_too_large(text: &str) -> bool
+    ensures { result ≡ is_too_large text.now }
+{
+    is_number(text) && text.parse::<u64>().is_err()
+}
+
+// The place of the first number above the limit, where `unit` stands at `at` behind the units that were looked at.
+fn first_too_large(found: Option<usize>, unit: &str, at: usize) -> Option<usize>
+    ensures { result ≡ (if is_some found then found else (if is_too_large unit.now then Some at else None)) }
+{
+    if found.is_none() && is_too_large(unit) {
+        Some(at)
+    } else {
+        found
+    }
+}
+
+// Why no unit begins at the place `at`.
+fn fault_at(text: &str, at: usize) -> FormatError
+    requires { IsFirstFault text.now at }
+    ensures { RefusesTokens text.now result }
+{
+    if text.as_bytes()[at] == b'"' {
+        FormatError::UnfinishedString { at }
+    } else {
+        FormatError::UnknownCharacter { at }
+    }
+}
+
+/// The tokens of `text`. Refuses the first place where no unit begins; and where there is none, the first number above
+/// 18446744073709551615.
+pub fn read_lexemes<'src>(alloc: Global, text: &'src str) -> Result<Vec<Lexeme<'src>>, FormatError>
+    ensures { MatchResult result (λ lexemes. AreLexemes text.now lexemes.items) (RefusesTokens text.now) }
+{
+    let mut lexemes = Vec::new(alloc);
+    let mut too_large = None;
+    let mut at = 0;
+    'units: while at < text.len() {
+        let Some((kind, len)) = first_unit(&text[at..]) else {
+            return Err(fault_at(text, at));
+        };
+        let end = at + len;
+        let unit = &text[at..end];
+        too_large = first_too_large(too_large, unit, at);
+        if kind == UnitKind::Token {
+            lexemes.push(Lexeme {
+                kind: kind_of(unit),
+                text: unit,
+                span: Span { start: at, end },
+            })?;
+        }
+        at = end;
+    }
+    match too_large {
+        Some(at) => Err(FormatError::NumberTooLarge { at }),
+        None => Ok(lexemes),
+    }
+}

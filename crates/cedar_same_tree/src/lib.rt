@@ -1,0 +1,4 @@
+// Whether two trees of policies are equal without places.
+#![tactic(auto)]
+
+pub mod compare;
