@@ -1,14 +1,10 @@
 -- What the check of a result tells, and what texts of the same policies have in common.
-use Rattle.std.specs.Prelude.{◌≡◌, ◌≢◌, ℕ, List, ◌∷◌, ◌++◌}
+use Rattle.std.specs.Prelude.{◌≡◌, ◌∷◌, ◌++◌}
 use Rattle.std.proofs.Common.{refl, sym, ap, ◌∙◌}
 use Rattle.cedar_grammar.specs.Trees.{none, leaf, branch, yield}
 use Rattle.cedar_tree.specs.Erased.{Erased, erase, without_spans}
-use Rattle.cedar_tree.specs.Laws.{AcceptedIsNotRefused, TreeIsOfAccepted, NodesHaveThePlainTexts}
-use Rattle.cedar_tree.specs.Refusals.{Refuses}
-use Rattle.cedar_tree.specs.declared.error.FormatError.{FormatError}
-use Rattle.cedar_tree.specs.declared.error.FormatError.TheVariants.{OutOfMemory}
-use Rattle.cedar_tree.specs.declared.tree.Policies.{Policies}
-use Rattle.cedar_policy_formatter.specs.Texts.{IsTextOf, KeptPoliciesHaveTheSameTokens}
+use Rattle.cedar_tree.specs.Laws.{NodesHaveThePlainTexts}
+use Rattle.cedar_policy_formatter.specs.Texts.{KeptPoliciesHaveTheSameTokens}
 
 -- spans are no leaves
 pub leaves_without_spans : (f : Erased) → yield (without_spans f) ≡ yield f

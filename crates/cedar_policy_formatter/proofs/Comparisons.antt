@@ -1,8 +1,8 @@
 -- What comparing outputs tells of their texts.
-use Rattle.std.proofs.Common.{◌≡◌, ℕ, ℤ, List, Bool, refl, sym, ap, ◌∙◌, subst}
+use Rattle.std.proofs.Common.{◌≡◌, ℕ, ℤ, List, Bool, ap, ◌∙◌, subst}
 use Rattle.std.specs.Prelude.{IsTrue, ◌↔◌}
 use Rattle.std.specs.Str.{IsUtf8}
-use Rattle.cedar_tokens.specs.Listing.{Listing, IsListing, ListingIsUnique, EqualByValue, by_value}
+use Rattle.cedar_tokens.specs.Listing.{ListingIsUnique, by_value}
 use Rattle.cedar_canonical.specs.Canonical.{IsOutputOf, OutputsTellLists, plain_listing}
 use Rattle.cedar_policy_formatter.specs.Compared.{HaveEqualLists}
 

@@ -1,8 +1,8 @@
 -- A text's output has the text's policies, so the check of a result never fails.
-use Rattle.std.proofs.Common.{◌≡◌, ℕ, ℤ, List, [], ◌∷◌, map, refl, sym, ap, ◌∙◌, subst}
+use Rattle.std.proofs.Common.{◌≡◌, ℕ, ℤ, List, map, refl, sym, ap, ◌∙◌, subst}
 use Rattle.std.proofs.Common.{inl, inr}
 use Rattle.std.specs.Str.{IsUtf8}
-use Rattle.cedar_tokens.specs.Listing.{Decorated, Listing, IsListing, EqualByValue, listing, token_value}
+use Rattle.cedar_tokens.specs.Listing.{Decorated, Listing, IsListing, listing, token_value}
 use Rattle.cedar_tokens.specs.PlainList.{plain_list}
 use Rattle.cedar_grammar.specs.Trees.{Label, Forest, none, leaf, branch}
 use Rattle.cedar_grammar.specs.Grammar.{G, PolicySet}
@@ -21,7 +21,7 @@ use Rattle.cedar_tree.specs.Refusals.{Refuses}
 use Rattle.cedar_tree.specs.declared.error.FormatError.{FormatError}
 use Rattle.cedar_tree.specs.declared.error.FormatError.TheVariants.{UnknownCharacter, UnfinishedString, NumberTooLarge, Grammar, TooDeep, NoDocument, Unsound, OutOfMemory}
 use Rattle.cedar_tree.specs.declared.tree.Policies.{Policies}
-use Rattle.cedar_canonical.specs.Canonical.{IsOutputOf, OutputHasTheList, OutputIsAccepted, plain_listing}
+use Rattle.cedar_canonical.specs.Canonical.{IsOutputOf, OutputHasTheList, OutputIsAccepted}
 use Rattle.cedar_canonical.proofs.Grammatical.{value_kind}
 use Rattle.cedar_policy_formatter.specs.Texts.{FailsCheck, plain_values}
 use Rattle.cedar_policy_formatter.proofs.Checked.{leaves_without_spans}

@@ -1,14 +1,13 @@
 -- What is written of a text's policies, step by step.
 use Rattle.std.specs.Prelude.{◌≡◌, ℕ, ℤ, Bool, true, false, List, [], ◌∷◌, ◌++◌, map}
-use Rattle.std.specs.List.{flat_map}
-use Rattle.cedar_tokens.specs.Listing.{Decorated, Listing, IsListing}
+use Rattle.cedar_tokens.specs.Listing.{Listing, IsListing}
 use Rattle.cedar_tokens.specs.Places.{AreTokenSpans}
 use Rattle.cedar_tokens.specs.PlainList.{plain_list, kept_tokens}
 use Rattle.cedar_tokens.specs.Tokens.{bare, decorated}
 use Rattle.cedar_tokens.specs.declared.token.WrappedToken.{WrappedToken}
 use Rattle.cedar_grammar.specs.TypedTrees.{Clause, policy}
 use Rattle.cedar_layout.specs.Cleaning.{IsCleaned}
-use Rattle.cedar_layout.specs.Layout.{Doc, IsTheLayoutAt}
+use Rattle.cedar_layout.specs.Layout.{IsTheLayoutAt}
 use Rattle.cedar_layout.specs.Lookups.{Shown}
 use Rattle.cedar_canonical.specs.Leaves.{part_map}
 use Rattle.cedar_documents.specs.NodeDocuments.{as_leaf, part_document}
