@@ -52,155 +52,174 @@ impl Write for Sink<'_> {
     }
 }
 
-static TEXT: &str = "permit(principal,action,resource);";
-
-static LAYOUT: &str = "permit (principal, action, resource);\n";
-
-// What a run answers, whether the reader and the writer failed, and what was written.
-fn expect_run(
-    rt: &impl Abort,
-    alloc: Global,
-    text: &[u8],
+// A run: its text, how the reader and the writer go (`most` and `fails_at`), what it answers, whether the reader and the
+// writer failed, and what was written.
+#[derive(Drop)]
+struct Run<'a> {
+    name: &'static str,
+    text: &'a [u8],
     reading: (usize, usize),
     writing: (usize, usize),
-    want: (Result<(), RunFault>, bool, bool, &str),
-) {
-    let mut taken = Vec::new(alloc);
+    answer: Result<(), RunFault>,
+    failed: (bool, bool),
+    written: &'a str,
+}
+
+static RUNS: [Run<'static>; 11] = [
+    Run {
+        name: "at once",
+        text: b"permit(principal,action,resource);",
+        reading: (usize::MAX, 0),
+        writing: (usize::MAX, 0),
+        answer: Ok(()),
+        failed: (false, false),
+        written: "permit (principal, action, resource);\n",
+    },
+    Run {
+        name: "byte by byte",
+        text: b"permit(principal,action,resource);",
+        reading: (1, 0),
+        writing: (3, 0),
+        answer: Ok(()),
+        failed: (false, false),
+        written: "permit (principal, action, resource);\n",
+    },
+    Run {
+        name: "nothing",
+        text: b"",
+        reading: (usize::MAX, 0),
+        writing: (usize::MAX, 0),
+        answer: Ok(()),
+        failed: (false, false),
+        written: "\n",
+    },
+    Run {
+        name: "no first read",
+        text: b"permit(principal,action,resource);",
+        reading: (usize::MAX, 1),
+        writing: (usize::MAX, 0),
+        answer: Err(RunFault::Read),
+        failed: (true, false),
+        written: "",
+    },
+    Run {
+        name: "no second read",
+        text: b"permit(principal,action,resource);",
+        reading: (usize::MAX, 2),
+        writing: (usize::MAX, 0),
+        answer: Err(RunFault::Read),
+        failed: (true, false),
+        written: "",
+    },
+    Run {
+        name: "no read in mid-stream",
+        text: b"permit(principal,action,resource);",
+        reading: (5, 2),
+        writing: (usize::MAX, 0),
+        answer: Err(RunFault::Read),
+        failed: (true, false),
+        written: "",
+    },
+    Run {
+        name: "no first write",
+        text: b"permit(principal,action,resource);",
+        reading: (usize::MAX, 0),
+        writing: (usize::MAX, 1),
+        answer: Err(RunFault::Write),
+        failed: (false, true),
+        written: "",
+    },
+    Run {
+        name: "no write in mid-stream",
+        text: b"permit(principal,action,resource);",
+        reading: (usize::MAX, 0),
+        writing: (5, 2),
+        answer: Err(RunFault::Write),
+        failed: (false, true),
+        written: "permi",
+    },
+    Run {
+        name: "a write of nothing",
+        text: b"permit(principal,action,resource);",
+        reading: (usize::MAX, 0),
+        writing: (0, 0),
+        answer: Err(RunFault::Write),
+        failed: (false, true),
+        written: "",
+    },
+    Run {
+        name: "no UTF-8",
+        text: &[255],
+        reading: (usize::MAX, 0),
+        writing: (usize::MAX, 0),
+        answer: Err(RunFault::NotUtf8),
+        failed: (false, false),
+        written: "",
+    },
+    Run {
+        name: "no policy",
+        text: b"permit(principal,action,resource)",
+        reading: (usize::MAX, 0),
+        writing: (usize::MAX, 0),
+        answer: Err(RunFault::Format(FormatError::Grammar { at: 33 })),
+        failed: (false, false),
+        written: "",
+    },
+];
+
+// What the run answers, and whether the reader and the writer failed.
+fn outcome(
+    rt: &impl Abort,
+    alloc: Global,
+    run: &Run<'_>,
+    taken: &mut Vec<u8>,
+) -> (Result<(), RunFault>, (bool, bool)) {
     let mut input = Watched::new(Source {
-        rest: text,
-        most: reading.0,
+        rest: run.text,
+        most: run.reading.0,
         calls: 0,
-        fails_at: reading.1,
+        fails_at: run.reading.1,
     });
     let mut output = Watched::new(Sink {
-        taken: &mut taken,
-        most: writing.0,
+        taken,
+        most: run.writing.0,
         calls: 0,
-        fails_at: writing.1,
+        fails_at: run.writing.1,
     });
     assert!(rt; !input.failed() && !output.failed());
     let got = format_stream(alloc, &mut input, &mut output, &Config::default());
-    assert_eq!(rt; got, want.0);
-    assert_eq!(rt; input.failed(), want.1, "reading");
-    assert_eq!(rt; output.failed(), want.2, "writing");
-    drop(output);
-    assert_eq!(rt; taken.as_slice(), want.3.as_bytes());
+    (got, (input.failed(), output.failed()))
+}
+
+fn expect_run(rt: &impl Abort, alloc: Global, run: &Run<'_>) {
+    let mut taken = Vec::new(alloc);
+    let got = outcome(rt, alloc, run, &mut taken);
+    assert_eq!(rt; got, (run.answer, run.failed), "{}", run.name);
+    let is_written = taken.as_slice() == run.written.as_bytes();
+    assert!(rt; is_written, "{}", run.name);
 }
 
 #[test]
 fn runs(rt: HostRuntime) {
-    let alloc = rt.alloc();
-    let text = TEXT.as_bytes();
-    let whole = usize::MAX;
-    let grammar = Err(RunFault::Format(FormatError::Grammar { at: 33 }));
-    expect_run(
-        &rt,
-        alloc,
-        text,
-        (whole, 0),
-        (whole, 0),
-        (Ok(()), false, false, LAYOUT),
-    );
-    expect_run(
-        &rt,
-        alloc,
-        text,
-        (1, 0),
-        (3, 0),
-        (Ok(()), false, false, LAYOUT),
-    );
-    expect_run(
-        &rt,
-        alloc,
-        b"",
-        (whole, 0),
-        (whole, 0),
-        (Ok(()), false, false, "\n"),
-    );
-    let read = Err(RunFault::Read);
-    expect_run(
-        &rt,
-        alloc,
-        text,
-        (whole, 1),
-        (whole, 0),
-        (read, true, false, ""),
-    );
-    expect_run(
-        &rt,
-        alloc,
-        text,
-        (whole, 2),
-        (whole, 0),
-        (read, true, false, ""),
-    );
-    expect_run(
-        &rt,
-        alloc,
-        text,
-        (5, 2),
-        (whole, 0),
-        (read, true, false, ""),
-    );
-    let write = Err(RunFault::Write);
-    expect_run(
-        &rt,
-        alloc,
-        text,
-        (whole, 0),
-        (whole, 1),
-        (write, false, true, ""),
-    );
-    expect_run(
-        &rt,
-        alloc,
-        text,
-        (whole, 0),
-        (5, 2),
-        (write, false, true, "permi"),
-    );
-    expect_run(
-        &rt,
-        alloc,
-        text,
-        (whole, 0),
-        (0, 0),
-        (write, false, true, ""),
-    );
-    let not_utf8 = Err(RunFault::NotUtf8);
-    expect_run(
-        &rt,
-        alloc,
-        &[255],
-        (whole, 0),
-        (whole, 0),
-        (not_utf8, false, false, ""),
-    );
-    expect_run(
-        &rt,
-        alloc,
-        &text[..33],
-        (whole, 0),
-        (whole, 0),
-        (grammar, false, false, ""),
-    );
+    for run in &RUNS {
+        expect_run(&rt, rt.alloc(), run);
+    }
 }
 
 #[test]
-fn large_runs(rt: HostRuntime) -> Result<(), AllocError> {
-    let alloc = rt.alloc();
-    let mut text = Vec::new(alloc);
-    let mut want = String::new(alloc);
-    for i in 0..5000 {
-        if i > 0 {
-            want.push('\n')?;
-        }
-        text.extend_from_slice(TEXT.as_bytes())?;
-        want.push_str(LAYOUT)?;
-    }
+fn large_runs(rt: HostRuntime) {
+    let text = joined(&rt, rt.alloc(), &[("§;", 5000)]);
+    let want = joined(&rt, rt.alloc(), &[("¶;\n", 1), ("\n¶;\n", 4999)]);
     for most in [1000, 65536, 1000000] {
-        let answer = (Ok(()), false, false, want.as_str());
-        expect_run(&rt, alloc, &text, (most, 0), (most, 0), answer);
+        let run = Run {
+            name: "large",
+            text: text.as_str().as_bytes(),
+            reading: (most, 0),
+            writing: (most, 0),
+            answer: Ok(()),
+            failed: (false, false),
+            written: want.as_str(),
+        };
+        expect_run(&rt, rt.alloc(), &run);
     }
-    Ok(())
 }

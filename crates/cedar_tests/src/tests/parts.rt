@@ -1,180 +1,175 @@
 //! The documents of parts, each rendered by itself.
 use super::*;
 use cedar_policy_formatter::Context;
-use cedar_policy_formatter::cst::{Expr, Ident, Node, Policies, parse_policies};
+use cedar_policy_formatter::cst::{Ident, Node, Policy};
 use cedar_policy_formatter::doc::Doc;
 use cedar_policy_formatter::layout::{Document, render};
 use cedar_policy_formatter::lexer::{drop_trailing_commas, get_token_stream};
 use cedar_policy_formatter::token::{Span, WrappedToken};
 use cedar_policy_formatter::utils::in_order;
 
-fn tokens_of(alloc: Global, text: &str) -> Result<Vec<WrappedToken<'_>>, AllocError> {
-    match get_token_stream(alloc, text)? {
-        Some((mut tokens, _)) => {
-            drop_trailing_commas(alloc, &mut tokens)?;
-            Ok(tokens)
-        }
-        None => Ok(Vec::new(alloc)),
-    }
+// The text's tokens without trailing commas.
+fn tokens_of<'a>(rt: &impl Abort, alloc: Global, text: &'a str) -> Vec<WrappedToken<'a>> {
+    let stream = get_token_stream(alloc, text).expect(rt, "memory");
+    let (mut tokens, _) = stream.expect(rt, text);
+    drop_trailing_commas(alloc, &mut tokens).expect(rt, "memory");
+    tokens
 }
 
-fn tree_of<'a>(rt: &impl Abort, alloc: Global, text: &'a str) -> Policies<'a> {
-    match parse_policies(alloc, text) {
-        Ok(tree) => tree,
-        Err(error) => panic!(rt; "{text:?}: {error}"),
-    }
+fn only<'a, T>(rt: &impl Abort, items: &'a [T]) -> &'a T {
+    assert_eq!(rt; items.len(), 1);
+    items.first().expect(rt, "an item")
 }
 
-fn expect_text(
+fn expect_document(
     rt: &impl Abort,
     alloc: Global,
     doc: Option<Document<'_>>,
     width: usize,
     want: &str,
-) -> Result<(), AllocError> {
-    match doc {
-        Some(doc) => {
-            let mut out = String::new(alloc);
-            render(alloc, &doc, width, &mut out)?;
-            assert_eq!(rt; out.as_str(), want, "at {width}");
-        }
-        None => panic!(rt; "no document for {want:?}"),
-    }
-    Ok(())
-}
-
-#[test]
-fn bodies(rt: HostRuntime) -> Result<(), AllocError> {
-    let alloc = rt.alloc();
-    for (body, line_width, want) in [
-        ("1+2*3", 80, "1 + 2 * 3"),
-        ("1+2*3", 5, "1 +\n2 * 3"),
-        ("1+2*3", 4, "1 +\n2 *\n3"),
-        ("[1,2]", 5, "[1,\n 2]"),
-        ("!!context.b(1).c", 16, "!!context.b(1).c"),
-        ("!!context.b(1).c", 15, "!!context.b(\n    1\n  )\n  .c"),
-        ("{}", 80, "{}"),
-        ("{a:1}", 8, "{ a: 1 }"),
-        ("{a:1}", 7, "{\n  a: 1\n  }"),
-        ("if true then 1 else 2", 21, "if true then 1 else 2"),
-        ("(true // c\n)", 80, "(true // c\n )"),
-        ("007", 80, "7"),
-        ("000", 80, "0"),
-        ("[]", 80, "[]"),
-        ("f()", 80, "f()"),
-        ("! // a\n// b\n!true", 80, "! // a\n\n// b\n!true"),
-        ("1<=2||1>=2||1!=2", 80, "1 <= 2 ||\n1 >= 2 ||\n1 != 2"),
-        ("1-2", 80, "1 - 2"),
-        ("context[\"a\"][\"b\"].c", 80, "context[\"a\"][\"b\"].c"),
-        ("context like \"a*\"", 80, "context like \"a*\""),
-        ("context has \"a\"", 80, "context has \"a\""),
-    ] {
-        let text = format!(in alloc; "permit(principal,action,resource)when{{{body}}};")?;
-        let tree = tree_of(&rt, alloc, text.as_str());
-        let config = config(line_width, 2);
-        let mut context = Context {
-            config: &config,
-            tokens: tokens_of(alloc, text.as_str())?,
-        };
-        assert_eq!(rt; tree.policies.len(), 1);
-        let conds = &tree.policies[0].inner.conds;
-        assert_eq!(rt; conds.len(), 1);
-        assert!(rt; in_order(&context.tokens));
-        let doc = conds[0].inner.expr.to_doc(alloc, &mut context)?;
-        expect_text(&rt, alloc, doc, line_width, want)?;
-    }
-    Ok(())
-}
-
-#[test]
-fn raw_policies(rt: HostRuntime) -> Result<(), AllocError> {
-    let alloc = rt.alloc();
-    let text = expand(alloc, "§when{f(1 // x\n// y\n)};")?;
-    let want = "¶\nwhen\n{\n  f(\n      1 // x\n      \n    \n    // y\n    )\n};";
-    expect_policies(&rt, alloc, text.as_str(), &[want])?;
-    let text = expand(alloc, "§; // t\n// l\n§;\n// e")?;
-    expect_policies(&rt, alloc, text.as_str(), &["¶; // t\n", "\n// l\n¶;"])
-}
-
-// The document's text at 80 columns.
-fn rendered(
-    rt: &impl Abort,
-    alloc: Global,
-    doc: Option<Document<'_>>,
-) -> Result<String, AllocError> {
+) {
     let mut out = String::new(alloc);
-    match doc {
-        Some(doc) => render(alloc, &doc, 80, &mut out)?,
-        None => panic!(rt; "no document"),
-    }
-    Ok(out)
+    let doc = doc.expect(rt, want);
+    render(alloc, &doc, width, &mut out).expect(rt, want);
+    expect_text(rt, out.as_str(), want, want);
 }
 
-fn expect_outputs(
-    rt: &impl Abort,
-    alloc: Global,
-    outputs: &[String],
-    wants: &[&str],
-) -> Result<(), AllocError> {
-    assert_eq!(rt; outputs.len(), wants.len());
-    for (output, want) in outputs.iter().zip(wants) {
-        let want = expand(alloc, want)?;
-        assert_eq!(rt; output.as_str(), want.as_str());
-    }
-    Ok(())
+// The body of a condition, the width, and the body's layout.
+static BODIES: [(&str, usize, &str); 21] = [
+    ("§when{1+2*3};", 80, "1 + 2 * 3"),
+    ("§when{1+2*3};", 5, "1 +\n2 * 3"),
+    ("§when{1+2*3};", 4, "1 +\n2 *\n3"),
+    ("§when{[1,2]};", 5, "[1,\n 2]"),
+    ("§when{!!context.b(1).c};", 16, "!!context.b(1).c"),
+    (
+        "§when{!!context.b(1).c};",
+        15,
+        "!!context.b(\n    1\n  )\n  .c",
+    ),
+    ("§when{{}};", 80, "{}"),
+    ("§when{{a:1}};", 8, "{ a: 1 }"),
+    ("§when{{a:1}};", 7, "{\n  a: 1\n  }"),
+    ("§when{if true then 1 else 2};", 21, "if true then 1 else 2"),
+    ("§when{(true // c\n)};", 80, "(true // c\n )"),
+    ("§when{007};", 80, "7"),
+    ("§when{000};", 80, "0"),
+    ("§when{[]};", 80, "[]"),
+    ("§when{f()};", 80, "f()"),
+    ("§when{! // a\n// b\n!true};", 80, "! // a\n\n// b\n!true"),
+    (
+        "§when{1<=2||1>=2||1!=2};",
+        80,
+        "1 <= 2 ||\n1 >= 2 ||\n1 != 2",
+    ),
+    ("§when{1-2};", 80, "1 - 2"),
+    (
+        "§when{context[\"a\"][\"b\"].c};",
+        80,
+        "context[\"a\"][\"b\"].c",
+    ),
+    ("§when{context like \"a*\"};", 80, "context like \"a*\""),
+    ("§when{context has \"a\"};", 80, "context has \"a\""),
+];
+
+fn expect_body(rt: &impl Abort, alloc: Global, text: &str, line_width: usize, want: &str) {
+    let tree = parse_policies(alloc, text).expect(rt, text);
+    let config = config(line_width, 2);
+    let mut context = Context {
+        config: &config,
+        tokens: tokens_of(rt, alloc, text),
+    };
+    assert!(rt; in_order(&context.tokens));
+    let policy = only(rt, &tree.policies);
+    let cond = only(rt, &policy.inner.conds);
+    let doc = cond.inner.expr.to_doc(alloc, &mut context);
+    expect_document(rt, alloc, doc.expect(rt, text), line_width, want);
 }
 
-// The policies of the text, taken in order, are rendered like this, and no comment is left.
-fn expect_policies(
-    rt: &impl Abort,
-    alloc: Global,
-    text: &str,
-    wants: &[&str],
-) -> Result<(), AllocError> {
-    let tree = tree_of(rt, alloc, text);
+#[test]
+fn bodies(rt: HostRuntime) {
+    for (text, line_width, want) in &BODIES {
+        let text = expand(&rt, rt.alloc(), text);
+        expect_body(&rt, rt.alloc(), text.as_str(), *line_width, want);
+    }
+}
+
+// A text, and what its policies, taken in order, are rendered to. No comment is left.
+static POLICIES: [(&str, &[&str]); 2] = [
+    (
+        "§when{f(1 // x\n// y\n)};",
+        &["¶\nwhen\n{\n  f(\n      1 // x\n      \n    \n    // y\n    )\n};"],
+    ),
+    ("§; // t\n// l\n§;\n// e", &["¶; // t\n", "\n// l\n¶;"]),
+];
+
+fn expect_policies(rt: &impl Abort, alloc: Global, text: &str, wants: &[&str]) {
+    let tree = parse_policies(alloc, text).expect(rt, text);
     let config = Config::default();
     let mut context = Context {
         config: &config,
-        tokens: tokens_of(alloc, text)?,
+        tokens: tokens_of(rt, alloc, text),
     };
-    let mut outputs = Vec::new(alloc);
+    assert_eq!(rt; tree.policies.len(), wants.len());
+    let mut rest = wants.iter();
     for policy in &tree.policies {
-        assert!(rt; in_order(&context.tokens));
-        let doc = policy.to_doc(alloc, &mut context)?;
-        outputs.push(rendered(rt, alloc, doc)?)?;
+        let want = rest.next().expect(rt, text);
+        expect_policy(rt, alloc, policy, &mut context, want);
     }
-    expect_outputs(rt, alloc, &outputs, wants)?;
-    for token in &context.tokens {
-        assert!(rt; token.comment.leading_comment().is_empty(), "{token}");
-        assert_eq!(rt; token.comment.trailing_comment(), "", "{token}");
+    expect_no_comments(rt, &context.tokens);
+}
+
+fn expect_policy<'a>(
+    rt: &impl Abort,
+    alloc: Global,
+    policy: &Node<Policy<'a>>,
+    context: &mut Context<'_, 'a>,
+    want: &str,
+) {
+    assert!(rt; in_order(&context.tokens));
+    let doc = policy.to_doc(alloc, context).expect(rt, want);
+    let want = expand(rt, alloc, want);
+    expect_document(rt, alloc, doc, 80, want.as_str());
+}
+
+fn expect_no_comments(rt: &impl Abort, tokens: &[WrappedToken<'_>]) {
+    for token in tokens {
+        let comment = &token.comment;
+        let is_bare = comment.leading_comment().is_empty() && comment.trailing_comment().is_empty();
+        assert!(rt; is_bare, "{token}");
     }
-    Ok(())
 }
 
 #[test]
-fn a_type_with_a_comment(rt: HostRuntime) -> Result<(), AllocError> {
-    let alloc = rt.alloc();
-    let text = "permit(principal is A // x\n::B,action,resource);";
-    let tree = tree_of(&rt, alloc, text);
+fn policies(rt: HostRuntime) {
+    for (text, wants) in &POLICIES {
+        let text = expand(&rt, rt.alloc(), text);
+        expect_policies(&rt, rt.alloc(), text.as_str(), wants);
+    }
+}
+
+// The type of the first policy's principal.
+fn expect_type(rt: &impl Abort, alloc: Global, text: &str, want: &str) {
+    let tree = parse_policies(alloc, text).expect(rt, text);
     let config = Config::default();
     let mut context = Context {
         config: &config,
-        tokens: tokens_of(alloc, text)?,
+        tokens: tokens_of(rt, alloc, text),
     };
-    assert_eq!(rt; tree.policies.len(), 1);
-    match &tree.policies[0].inner.variables.0.inner.entity_type {
-        Some(name) => {
-            assert!(rt; in_order(&context.tokens));
-            let doc = name.to_doc(alloc, &mut context)?;
-            expect_text(&rt, alloc, doc, 80, "A // x\n::B")
-        }
-        None => panic!(rt; "no type"),
-    }
+    assert!(rt; in_order(&context.tokens));
+    let variable = &only(rt, &tree.policies).inner.variables.0;
+    let name = variable.inner.entity_type.as_ref().expect(rt, text);
+    let doc = name.to_doc(alloc, &mut context).expect(rt, text);
+    expect_document(rt, alloc, doc, 80, want);
 }
 
 #[test]
-fn no_tokens(rt: HostRuntime) -> Result<(), AllocError> {
-    let alloc = rt.alloc();
+fn a_type_with_a_comment(rt: HostRuntime) {
+    let text = "permit(principal is A // x\n::B,action,resource);";
+    expect_type(&rt, rt.alloc(), text, "A // x\n::B");
+}
+
+#[test]
+fn no_tokens(rt: HostRuntime) {
     let leaf = Node {
         inner: Ident("a"),
         span: Span { start: 0, end: 1 },
@@ -182,9 +177,12 @@ fn no_tokens(rt: HostRuntime) -> Result<(), AllocError> {
     let config = Config::default();
     let mut context = Context {
         config: &config,
-        tokens: Vec::new(alloc),
+        tokens: Vec::new(rt.alloc()),
     };
-    assert!(rt; leaf.to_doc(alloc, &mut context)?.is_none());
-    assert!(rt; Ident("a").to_doc(alloc, &mut context)?.is_some());
-    Ok(())
+    let doc = leaf.to_doc(rt.alloc(), &mut context).expect(&rt, "memory");
+    assert!(rt; doc.is_none());
+    let doc = Ident("a")
+        .to_doc(rt.alloc(), &mut context)
+        .expect(&rt, "memory");
+    assert!(rt; doc.is_some());
 }

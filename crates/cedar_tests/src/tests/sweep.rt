@@ -1,5 +1,5 @@
-//! Every row at every width up to 90 and indentation from -1 to 4: the layout is of the same list, and is laid out as it is.
-use super::rows::{ROWS, ROWS_AT};
+//! Layouts are laid out as they are, at many widths and indentations.
+use super::rows::rows;
 use super::*;
 use cedar_policy_formatter::lexer::{drop_trailing_commas, get_token_stream};
 use cedar_policy_formatter::token::{Token, WrappedToken};
@@ -20,75 +20,99 @@ fn same_tokens(a: &[WrappedToken<'_>], b: &[WrappedToken<'_>]) -> bool {
 }
 
 // Whether the tokens of `a` without trailing commas are those of `b`, with their comments, and the closing comments too.
-fn same_list(alloc: Global, a: &str, b: &str) -> Result<bool, AllocError> {
-    match (get_token_stream(alloc, a)?, get_token_stream(alloc, b)?) {
-        (Some((mut tokens, closing)), Some((others, ending))) => {
-            drop_trailing_commas(alloc, &mut tokens)?;
-            let lines: Vec<&str> = closing.collect(alloc)?;
-            let ends: Vec<&str> = ending.collect(alloc)?;
-            Ok(same_tokens(&tokens, &others) && lines == ends)
-        }
-        _ => Ok(false),
-    }
+fn same_list(rt: &impl Abort, alloc: Global, a: &str, b: &str) -> bool {
+    let stream = get_token_stream(alloc, a).expect(rt, "memory");
+    let (mut tokens, closing) = stream.expect(rt, a);
+    let stream = get_token_stream(alloc, b).expect(rt, "memory");
+    let (others, ending) = stream.expect(rt, b);
+    drop_trailing_commas(alloc, &mut tokens).expect(rt, "memory");
+    let lines: Vec<&str> = closing.collect(alloc).expect(rt, "memory");
+    let ends: Vec<&str> = ending.collect(alloc).expect(rt, "memory");
+    same_tokens(&tokens, &others) && lines == ends
 }
 
-fn sweep(rt: &impl Abort, alloc: Global, text: &str) -> Result<(), AllocError> {
-    let text = expand(alloc, text)?;
-    for indent in [-1, 0, 1, 2, 3, 4] {
+fn expect_kept(rt: &impl Abort, is_kept: bool, text: &str, first: &str, config: &Config) {
+    assert!(rt; is_kept, "{text:?} at {config:?} gives {first:?}");
+}
+
+// The text's layout is of the same list, and is laid out as it is.
+fn expect_stable(rt: &impl Abort, alloc: Global, text: &str, config: &Config) {
+    let layout = policies_str_to_pretty(alloc, text, config).expect(rt, text);
+    let first = layout.as_str();
+    expect_kept(rt, same_list(rt, alloc, text, first), text, first, config);
+    let again = policies_str_to_pretty(alloc, first, config).expect(rt, text);
+    expect_kept(rt, again.as_str() == first, text, first, config);
+}
+
+// Every width up to 90 and every indentation from -1 to 4.
+fn sweep(rt: &impl Abort, alloc: Global, text: &str) {
+    let text = expand(rt, alloc, text);
+    for indent in -1..5 {
         for width in 0..91 {
-            let config = config(width, indent);
-            match policies_str_to_pretty(alloc, text.as_str(), &config) {
-                Ok(first) => {
-                    let kept = same_list(alloc, text.as_str(), first.as_str())?;
-                    assert!(rt; kept, "{text:?} at {config:?} gives {first:?}");
-                    let again = policies_str_to_pretty(alloc, first.as_str(), &config);
-                    match again {
-                        Ok(again) => assert_eq!(rt;
-                            again.as_str(),
-                            first.as_str(),
-                            "{text:?} at {config:?}"
-                        ),
-                        Err(error) => assert_eq!(rt; Some(error), None, "{first:?} at {config:?}"),
-                    }
-                }
-                Err(error) => assert_eq!(rt; Some(error), None, "{text:?} at {config:?}"),
-            }
+            expect_stable(rt, alloc, text.as_str(), &config(width, indent));
         }
     }
-    Ok(())
 }
 
 #[test]
-fn rows_at_every_width(rt: HostRuntime) -> Result<(), AllocError> {
-    let alloc = rt.alloc();
-    for (text, _) in &ROWS {
-        sweep(&rt, alloc, text)?;
+fn rows_at_every_width(rt: HostRuntime) {
+    for row in rows() {
+        sweep(&rt, rt.alloc(), row.2);
     }
-    for (_, _, text, _) in &ROWS_AT {
-        sweep(&rt, alloc, text)?;
-    }
-    Ok(())
 }
 
-// Each beginning of these texts is refused, or its layout is laid out as it is.
+// As deep as a text may be.
+static DEEPEST: [&[(&str, usize)]; 2] = [
+    &[
+        ("§when{", 1),
+        ("(", 128),
+        ("true", 1),
+        (")", 128),
+        ("};", 1),
+    ],
+    &[
+        ("§when{", 1),
+        ("(", 128),
+        ("principal[\"x\"]", 1),
+        (")", 128),
+        ("};", 1),
+    ],
+];
+
 #[test]
-fn beginnings(rt: HostRuntime) -> Result<(), AllocError> {
-    let alloc = rt.alloc();
-    for text in [
-        "@id(\"x\")§;",
-        "§when{\"a\"\n// c\n== \"b\"};",
-        "§when{{a:1,\"b\":[2,-3]}==context&&principal is A::B in A::\"c\"};",
-        "§when{f(1 // x\n// y\n)};",
-        "§; // t\n// l\n§;\n// e",
-        "permit(principal,action,resource // a\n// b\n, // c\n// d\n);",
-    ] {
-        let text = expand(alloc, text)?;
-        let config = Config::default();
-        for (end, _) in text.as_str().char_indices() {
-            if let Ok(first) = policies_str_to_pretty(alloc, &text.as_str()[..end], &config) {
-                expect_layout(&rt, alloc, first.as_str(), &config, first.as_str());
-            }
+fn deepest_texts(rt: HostRuntime) {
+    for parts in &DEEPEST {
+        let text = joined(&rt, rt.alloc(), parts);
+        for width in [0, 80, 1000] {
+            expect_stable(&rt, rt.alloc(), text.as_str(), &config(width, 2));
         }
     }
-    Ok(())
+}
+
+// Each beginning of these is refused, or its layout is laid out as it is.
+static BEGUN: [&str; 6] = [
+    "@id(\"x\")§;",
+    "§when{\"a\"\n// c\n== \"b\"};",
+    "§when{{a:1,\"b\":[2,-3]}==context&&principal is A::B in A::\"c\"};",
+    "§when{f(1 // x\n// y\n)};",
+    "§; // t\n// l\n§;\n// e",
+    "permit(principal,action,resource // a\n// b\n, // c\n// d\n);",
+];
+
+fn expect_beginnings(rt: &impl Abort, alloc: Global, text: &str) {
+    let config = Config::default();
+    for (end, _) in text.char_indices() {
+        let begun = &text[..end];
+        if parse_policies(alloc, begun).is_ok() {
+            expect_stable(rt, alloc, begun, &config);
+        }
+    }
+}
+
+#[test]
+fn beginnings(rt: HostRuntime) {
+    for text in &BEGUN {
+        let text = expand(&rt, rt.alloc(), text);
+        expect_beginnings(&rt, rt.alloc(), text.as_str());
+    }
 }
