@@ -1,4 +1,6 @@
 //! How policies are laid out, and what their documents are made from.
+ghost use Rattle.std.specs.Prelude.{◌≡◌, pos};
+
 use cedar_tokens::token::WrappedToken;
 
 /// The width of a line and the indentation of a level, in columns. Every value of the types is taken: a negative
@@ -10,6 +12,8 @@ pub struct Config {
 }
 
 impl Default for Config {
+    ghost is_default = { λ c. (c.line_width ≡ 80) × (c.indent_width ≡ pos 2) };
+
     /// 80 columns a line, and 2 a level.
     fn default() -> Config {
         Config {
