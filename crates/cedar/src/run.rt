@@ -1,6 +1,6 @@
 //! A run of the program.
 use crate::command::{Options, read_options};
-use cedar_policy_formatter::{FormatError, RunFault, Watched, format_stream, is_formatted};
+use cedar_policy_formatter::{FormatError, RunFault, Watched, check_stream, format_stream};
 use clap::Error;
 use clap::error::ErrorKind;
 use std::alloc::Global;
@@ -92,33 +92,16 @@ fn run_on<I: Read + Drop, O: Write>(
     }
 }
 
-// The text that a reader gives up to its end. An interrupted read is a failed one, although `read_to_end` tries it again.
-fn read_text<I: Read>(alloc: Global, input: &mut Watched<I>) -> Result<String, RunFault> {
-    let mut bytes = Vec::new(alloc);
-    let is_whole = input.read_to_end(&mut bytes).is_ok();
-    if input.failed() {
-        return Err(RunFault::Read);
-    }
-    if !is_whole {
-        return Err(RunFault::Format(FormatError::OutOfMemory));
-    }
-    match String::from_utf8(bytes) {
-        Ok(text) => Ok(text),
-        Err(_) => Err(RunFault::NotUtf8),
-    }
-}
-
 // The status that says whether the text of a reader is formatted.
 fn check<I: Read>(
     alloc: Global,
     options: &Options<'_>,
     input: &mut Watched<I>,
 ) -> Result<u8, RunFault> {
-    let text = read_text(alloc, input)?;
-    match is_formatted(alloc, text.as_str(), &options.config) {
-        Ok(true) => Ok(DONE),
-        Ok(false) => Ok(UNFORMATTED),
-        Err(error) => Err(RunFault::Format(error)),
+    if check_stream(alloc, input, &options.config)? {
+        Ok(DONE)
+    } else {
+        Ok(UNFORMATTED)
     }
 }
 

@@ -1,7 +1,6 @@
 -- What a reader's and a writer's failures have to do with the answer of a run.
-use Rattle.std.specs.Prelude.{ℕ, List, Bool, Option, IsTrue, ◌≡◌, ◌<◌, length, Result, MatchResult, ⊤}
-use Rattle.std.specs.Io.KnownBytes.{Keeps}
-use Rattle.cedar_policy_formatter.specs.declared.fmt.stream.Watched.{Watched}
+use Rattle.std.specs.Prelude.{ℕ, List, Bool, IsTrue, ◌≡◌, ◌<◌, length, Result, Err, MatchResult, ⊤}
+use Rattle.cedar_policy_formatter.specs.declared.fmt.watched.Watched.{Watched}
 use Rattle.cedar_policy_formatter.specs.declared.fmt.stream.RunFault.{RunFault}
 use Rattle.cedar_policy_formatter.specs.declared.fmt.stream.RunFault.TheVariants.{Read, Write}
 
@@ -16,17 +15,12 @@ has_failed w = w.has_failed
 abbrev pub IsFailedWrite : {E : Type 0} → Result ℕ E → List ℕ → Type 0
 IsFailedWrite r buf = MatchResult r (λ n. (n ≡ 0) × (0 < length buf)) (λ _. ⊤)
 
--- with `Read` the reader has failed, else it has failed if it had before
-abbrev pub TellsRead : Bool → Bool → RunFault → Type 0
-TellsRead old new Read = IsTrue new
-TellsRead old new e = new ≡ old
+-- with `Read` the reader has failed; with success and every other fault it has failed if it had before
+abbrev pub TellsRead : {T : Type 0} → Bool → Bool → Result T RunFault → Type 0
+TellsRead old new (Err Read) = IsTrue new
+TellsRead old new r = new ≡ old
 
--- with `Write` the writer has failed, else it has failed if it had before
-abbrev pub TellsWrite : Bool → Bool → RunFault → Type 0
-TellsWrite old new Write = IsTrue new
-TellsWrite old new e = new ≡ old
-
--- nothing is written, but with `Write`
-abbrev pub LeavesOutput : Option (List ℕ) → Option (List ℕ) → RunFault → Type 0
-LeavesOutput old new Write = ⊤
-LeavesOutput old new e = Keeps old new
+-- with `Write` the writer has failed; with success and every other fault it has failed if it had before
+abbrev pub TellsWrite : {T : Type 0} → Bool → Bool → Result T RunFault → Type 0
+TellsWrite old new (Err Write) = IsTrue new
+TellsWrite old new r = new ≡ old

@@ -38,8 +38,10 @@ use cedar_tokens::token::{Comments, WrappedToken};
 use std::alloc::{AllocError, Global};
 
 mod stream;
+mod watched;
 
-pub use stream::{RunFault, Watched, format_stream};
+pub use stream::{RunFault, check_stream, format_stream};
+pub use watched::Watched;
 
 /// The policies `ps`, laid out.
 ///

@@ -1,6 +1,6 @@
 //! Readers and writers that fail at a chosen call.
 use super::*;
-use cedar_policy_formatter::{RunFault, Watched, format_stream};
+use cedar_policy_formatter::{RunFault, Watched, check_stream, format_stream};
 use std::io;
 use std::io::{ErrorKind, Read, Write};
 
@@ -203,6 +203,87 @@ fn expect_run(rt: &impl Abort, alloc: Global, run: &Run<'_>) {
 fn runs(rt: HostRuntime) {
     for run in &RUNS {
         expect_run(&rt, rt.alloc(), run);
+    }
+}
+
+// A check: its text, how the reader goes (`most` and `fails_at`), what it answers, and whether the reader failed.
+#[derive(Drop)]
+struct Check<'a> {
+    name: &'static str,
+    text: &'a [u8],
+    reading: (usize, usize),
+    answer: Result<bool, RunFault>,
+    failed: bool,
+}
+
+static CHECKS: [Check<'static>; 7] = [
+    Check {
+        name: "packed",
+        text: b"permit(principal,action,resource);",
+        reading: (usize::MAX, 0),
+        answer: Ok(false),
+        failed: false,
+    },
+    Check {
+        name: "laid out",
+        text: b"permit (principal, action, resource);\n",
+        reading: (usize::MAX, 0),
+        answer: Ok(true),
+        failed: false,
+    },
+    Check {
+        name: "laid out, byte by byte",
+        text: b"permit (principal, action, resource);\n",
+        reading: (1, 0),
+        answer: Ok(true),
+        failed: false,
+    },
+    Check {
+        name: "no policy",
+        text: b"permit(principal,action,resource)",
+        reading: (5, 0),
+        answer: Err(RunFault::Format(FormatError::Grammar { at: 33 })),
+        failed: false,
+    },
+    Check {
+        name: "no UTF-8",
+        text: &[255],
+        reading: (usize::MAX, 0),
+        answer: Err(RunFault::NotUtf8),
+        failed: false,
+    },
+    Check {
+        name: "no first read",
+        text: b"permit (principal, action, resource);\n",
+        reading: (usize::MAX, 1),
+        answer: Err(RunFault::Read),
+        failed: true,
+    },
+    Check {
+        name: "no read in mid-stream",
+        text: b"permit (principal, action, resource);\n",
+        reading: (5, 3),
+        answer: Err(RunFault::Read),
+        failed: true,
+    },
+];
+
+fn expect_check(rt: &impl Abort, alloc: Global, check: &Check<'_>) {
+    let mut input = Watched::new(Source {
+        rest: check.text,
+        most: check.reading.0,
+        calls: 0,
+        fails_at: check.reading.1,
+    });
+    let got = check_stream(alloc, &mut input, &Config::default());
+    assert_eq!(rt; got, check.answer, "{}", check.name);
+    assert_eq!(rt; input.failed(), check.failed, "{}", check.name);
+}
+
+#[test]
+fn checks(rt: HostRuntime) {
+    for check in &CHECKS {
+        expect_check(&rt, rt.alloc(), check);
     }
 }
 

@@ -1,8 +1,10 @@
-use Rattle.std.proofs.Common.{◌≡◌, ◌-◌, ◌^◌, vec_len}
+use Rattle.std.proofs.Common.{◌≡◌, ◌-◌, ◌^◌, ◌≤◌, take, vec_len, vec_items}
+use Rattle.std.specs.Io.KnownBytes.{Consumes}
 use Rattle.cedar_policy_formatter.proofs.fmt.stream.read_all.Given as goal
 
-abbrev pub invariant-loop-count : goal.invariant-loop-count
-invariant-loop-count g l = l.input.has_failed ≡ l.fn.input.has_failed
+abbrev pub invariant-loop-bytes : goal.invariant-loop-bytes
+invariant-loop-bytes g l = (l.input.has_failed ≡ l.fn.input.has_failed) × (l.filled ≤ vec_len l.bytes)
+    × Consumes (g.R.Read.remaining l.fn.input.device) (g.R.Read.remaining l.input.device) (take l.filled (vec_items l.bytes))
 
-abbrev pub decreases-loop-count : goal.decreases-loop-count
-decreases-loop-count g l = 2 ^ 64 - vec_len l.bytes
+abbrev pub decreases-loop-bytes : goal.decreases-loop-bytes
+decreases-loop-bytes g l = 2 ^ 64 - l.filled

@@ -1,8 +1,10 @@
-use Rattle.std.proofs.Common.{◌≡◌, length}
+use Rattle.std.proofs.Common.{◌≡◌, List, ℕ, ◌++◌, length}
+use Rattle.std.specs.Io.KnownBytes.{Appends}
 use Rattle.cedar_policy_formatter.proofs.fmt.stream.write_all.Given as goal
 
 abbrev pub invariant-loop-rest : goal.invariant-loop-rest
-invariant-loop-rest g l = l.output.has_failed ≡ l.fn.output.has_failed
+invariant-loop-rest g l = (l.output.has_failed ≡ l.fn.output.has_failed)
+    × ((done : List ℕ) × (l.fn.bytes ≡ done ++ l.rest) × Appends (g.W.Write.contents l.fn.output.device) (g.W.Write.contents l.output.device) done)
 
 abbrev pub decreases-loop-rest : goal.decreases-loop-rest
 decreases-loop-rest g l = length l.rest

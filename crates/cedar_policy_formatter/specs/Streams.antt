@@ -1,0 +1,44 @@
+-- What a run reads, writes and answers.
+use Rattle.std.specs.Prelude.{◌≡◌, ◌<◌, ◌↔◌, ◌++◌, ◌⊎◌, ℕ, ℤ, List, length, Bool, IsTrue, Option, Result, Ok, Err, ⊤}
+use Rattle.std.specs.Str.{IsUtf8}
+use Rattle.std.specs.Io.KnownBytes.{Appends, Consumes, IsAtEnd, Keeps}
+use Rattle.cedar_grammar.specs.Texts.{Accepted}
+use Rattle.cedar_tree.specs.Refusals.{Refuses}
+use Rattle.cedar_canonical.specs.Canonical.{IsOutputOf}
+use Rattle.cedar_policy_formatter.specs.Refused.{IsMemory}
+use Rattle.cedar_policy_formatter.specs.declared.fmt.stream.RunFault.{RunFault}
+use Rattle.cedar_policy_formatter.specs.declared.fmt.stream.RunFault.TheVariants.{Read, NotUtf8, Format, Write}
+
+-- x is all that was left to read, and nothing is left
+abbrev pub GivesAll : Option (List ℕ) → Option (List ℕ) → List ℕ → Type 0
+GivesAll old new x = Consumes old new x × IsAtEnd new
+
+-- and it is UTF-8
+abbrev pub GivesText : Option (List ℕ) → Option (List ℕ) → List ℕ → Type 0
+GivesText old new x = GivesAll old new x × IsUtf8 x
+
+-- why there is nothing to write: a read failed; all was read, and isn't UTF-8; a text is refused, or memory is wanting
+abbrev pub FailsToRead : Option (List ℕ) → Option (List ℕ) → RunFault → Type 0
+FailsToRead old new Read = ⊤
+FailsToRead old new NotUtf8 = (x : List ℕ) × GivesAll old new x × ¬ (IsUtf8 x)
+FailsToRead old new (Format e) = IsMemory e ⊎ ((x : List ℕ) × GivesText old new x × Refuses x e)
+FailsToRead old new Write = ⊥
+
+-- a beginning of y was appended, and not all of y
+abbrev pub AppendsPart : Option (List ℕ) → Option (List ℕ) → List ℕ → Type 0
+AppendsPart held holds y = (front rest : List ℕ) × (y ≡ front ++ rest) × (0 < length rest) × Appends held holds front
+
+-- y is the output of an accepted text, which was read to its end
+abbrev pub IsOutputOfAll : ℕ → ℤ → Option (List ℕ) → Option (List ℕ) → List ℕ → Type 0
+IsOutputOfAll width indent old new y = (x : List ℕ) × GivesText old new x × Accepted x × IsOutputOf width indent x y
+
+-- what a run read and wrote: with success all of the output, with `Write` a beginning, with any other fault nothing
+abbrev pub TellsRun : ℕ → ℤ → Option (List ℕ) → Option (List ℕ) → Option (List ℕ) → Option (List ℕ) → Result Unit RunFault → Type 0
+TellsRun width indent old new held holds (Ok _) = (y : List ℕ) × IsOutputOfAll width indent old new y × Appends held holds y
+TellsRun width indent old new held holds (Err Write) = (y : List ℕ) × IsOutputOfAll width indent old new y × AppendsPart held holds y
+TellsRun width indent old new held holds (Err e) = FailsToRead old new e × Keeps held holds
+
+-- what a check read and says: whether the text is its own output
+abbrev pub TellsCheck : ℕ → ℤ → Option (List ℕ) → Option (List ℕ) → Result Bool RunFault → Type 0
+TellsCheck width indent old new (Ok b) = (x : List ℕ) × GivesText old new x × Accepted x × (IsTrue b ↔ IsOutputOf width indent x x)
+TellsCheck width indent old new (Err e) = FailsToRead old new e
