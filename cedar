@@ -40,7 +40,7 @@ tell() {
     told=$line
 }
 
-echo "cedar: the first use proves $total crates and builds the program, $jobs at a time; this takes about half an hour on 4 cores" >&2
+echo "cedar: the first use proves $total crates and builds the program, $jobs at a time; this should take about half an hour on 4 cores" >&2
 for step in "rt all check --jobs $jobs" "rt run -- format"; do
     (cd "$root/crates/cedar" && exec $step < /dev/null) >> "$log" 2>&1 &
     work=$!
