@@ -1,6 +1,9 @@
 -- The tokens that a lookup names, and what it hands out. The tokens' places are in order.
-use Rattle.std.specs.Prelude.{◌≡◌, ◌≤◌, ◌<◌, ◌+◌, ◌^◌, ℕ, List, [], ◌∷◌, ◌++◌, map, Bool, ◌==◌, ◌&&◌, nat_le, IsTrue, IsFalse, if◌then◌else◌}
+use Rattle.std.specs.Prelude.{◌≡◌, ◌≤◌, ◌<◌, ◌+◌, ◌^◌, ℕ, List, [], ◌∷◌, ◌++◌, map, Bool, ◌==◌, ◌&&◌, nat_le, IsTrue, IsFalse, if◌then◌else◌, Option, MatchOption}
 use Rattle.std.specs.List.{All, filter}
+use Rattle.std.specs.Borrow.{Bor}
+use Rattle.std.specs.declared.alloc.Global.{Global}
+use Rattle.std.specs.declared.vec.Vec.{Vec}
 pub use Rattle.cedar_tokens.specs.Places.{AreInOrder}
 use Rattle.cedar_tokens.specs.Tokens.{leading_lines, trailing_text}
 use Rattle.cedar_tokens.specs.declared.token.Comment.{Comment}
@@ -78,6 +81,14 @@ pub record LeadingHandedOut (named : Shown → Bool) (old new : List Shown) (ans
   pub is_first : All (λ t. IsFalse (named t)) before
   pub now : new ≡ before ++ unled token ∷ after
   pub answered : answer ≡ token.comment.leading
+
+-- the answer is the first named token's comment, and none where no token is named
+abbrev pub HandsOutNamed : (Shown → Bool) → List WrappedToken → List WrappedToken → Option Comment → Type 0
+HandsOutNamed named old new answer = MatchOption answer (Unmatched named (map shown old) (map shown new)) (λ c. HandedOut named (map shown old) (map shown new) (comment_parts c))
+
+-- the same of its leading lines
+abbrev pub HandsOutLines : (Shown → Bool) → List WrappedToken → List WrappedToken → Option (Vec (Bor (List ℕ)) Global) → Type 0
+HandsOutLines named old new answer = MatchOption answer (Unmatched named (map shown old) (map shown new)) (λ lines. LeadingHandedOut named (map shown old) (map shown new) (map (λ l. l.now) lines.items))
 
 -- the comments of the tokens in the span, in order
 abbrev pub comments_in : Span → List Shown → List Parts

@@ -254,6 +254,3 @@ pub fn wide_lines_are_broken()
 pub fn one_layout_at_a_width()
     ensures { (w : ℕ) (d : Doc) → (c : Choice d) × IsChoiceAt w d c × ((b : Choice d) → IsChoiceAt w d b → b ≡ c) }
 {}
-
-#[cfg(test)]
-mod tests;

@@ -14,6 +14,3 @@ pub use lookups::{
     get_comment_in_range, get_comment_in_range_counted, get_leading_comment_at_start,
     get_leading_comment_at_start_counted, in_order,
 };
-
-#[cfg(test)]
-mod tests;

@@ -6,14 +6,18 @@ use std::alloc::Global;
 use std::process::Abort;
 
 mod answers;
+mod cleaning;
 mod devices;
 mod large;
+mod layouts;
+mod lookups;
 mod memory;
 mod parts;
 mod places;
 mod rows;
 mod shapes;
 mod sweep;
+mod tokens;
 mod trees;
 
 // Appends the text with `permit(principal,action,resource)` in place of each `§`, and

@@ -1,8 +1,8 @@
 //! Which token stands where, and its comment moved out. Tokens are found by halving.
-ghost use Rattle.std.specs.Prelude.{◌≡◌, ◌+◌, ◌<◌, ◌≤◌, ◌^◌, ◌==◌, ◌↔◌, nat_le, ℕ, map, length, IsTrue, MatchOption, IfOk, OnErr, IfSome};
+ghost use Rattle.std.specs.Prelude.{◌≡◌, ◌+◌, ◌<◌, ◌≤◌, ◌^◌, ◌==◌, ◌↔◌, nat_le, ℕ, map, length, IsTrue, IfOk, OnErr};
 ghost use Rattle.std.specs.List.{position, position_or_len, prefix_len};
 ghost use Rattle.cedar_tokens.specs.Places.{InOrderFrom};
-ghost use Rattle.cedar_layout.specs.Lookups.{AreInOrder, CountsSteps, HandedOut, LeadingHandedOut, Unmatched, comment_parts, comments_in, emptied, emptied_in, ends_at, shown, starts_at, starts_from};
+ghost use Rattle.cedar_layout.specs.Lookups.{AreInOrder, CountsSteps, HandsOutLines, HandsOutNamed, comment_parts, comments_in, emptied, emptied_in, ends_at, shown, starts_at, starts_from};
 ghost use Rattle.cedar_layout.specs.Halving.{edge_of, is_sought};
 
 use crate::layout::Steps;
@@ -33,12 +33,10 @@ pub fn get_comment_at_start<'src>(
     tokens: &mut [WrappedToken<'src>],
 ) -> Option<Comment<'src>>
     requires { AreInOrder tokens.old }
-    ensures answer { MatchOption result
-        (Unmatched (starts_at span.start) (map shown tokens.old) (map shown tokens.new))
-        (λ c. HandedOut (starts_at span.start) (map shown tokens.old) (map shown tokens.new) (comment_parts c)) }
+    ensures answer { HandsOutNamed (starts_at span.start) tokens.old tokens.new result }
     ensures order { AreInOrder tokens.new }
 {
-    take_comment(Sought::StartsAt(span.start), tokens)
+    comment_at_start_afresh::<Brand>(span, tokens, Blank::new(1))
 }
 
 /// Like `get_comment_at_start`, and counts the steps.
@@ -48,13 +46,11 @@ pub fn get_comment_at_start_counted<'src, L: Ledger>(
     steps: &mut Steps<L>,
 ) -> Option<Comment<'src>>
     requires { AreInOrder tokens.old }
-    ensures answer { MatchOption result
-        (Unmatched (starts_at span.start) (map shown tokens.old) (map shown tokens.new))
-        (λ c. HandedOut (starts_at span.start) (map shown tokens.old) (map shown tokens.new) (comment_parts c)) }
+    ensures answer { HandsOutNamed (starts_at span.start) tokens.old tokens.new result }
     ensures steps { CountsSteps (length tokens.old) steps.old steps.new }
     ensures order { AreInOrder tokens.new }
 {
-    take_comment_counted(Sought::StartsAt(span.start), tokens, steps)
+    take_comment(Sought::StartsAt(span.start), tokens, steps)
 }
 
 /// The leading lines of the token that starts at `span.start`; `None` where none does. The token has no leading lines
@@ -64,13 +60,10 @@ pub fn get_leading_comment_at_start<'src>(
     tokens: &mut [WrappedToken<'src>],
 ) -> Option<Vec<&'src str>>
     requires { AreInOrder tokens.old }
-    ensures answer { MatchOption result
-        (Unmatched (starts_at span.start) (map shown tokens.old) (map shown tokens.new))
-        (λ lines. LeadingHandedOut (starts_at span.start) (map shown tokens.old) (map shown tokens.new) (map (λ l. l.now) lines.items)) }
+    ensures answer { HandsOutLines (starts_at span.start) tokens.old tokens.new result }
     ensures order { AreInOrder tokens.new }
 {
-    let place = find(Sought::StartsAt(span.start), tokens)?;
-    Some(tokens[place].consume_leading_comment())
+    leading_comment_at_start_afresh::<Brand>(span, tokens, Blank::new(1))
 }
 
 /// Like `get_leading_comment_at_start`, and counts the steps.
@@ -80,13 +73,11 @@ pub fn get_leading_comment_at_start_counted<'src, L: Ledger>(
     steps: &mut Steps<L>,
 ) -> Option<Vec<&'src str>>
     requires { AreInOrder tokens.old }
-    ensures answer { MatchOption result
-        (Unmatched (starts_at span.start) (map shown tokens.old) (map shown tokens.new))
-        (λ lines. LeadingHandedOut (starts_at span.start) (map shown tokens.old) (map shown tokens.new) (map (λ l. l.now) lines.items)) }
+    ensures answer { HandsOutLines (starts_at span.start) tokens.old tokens.new result }
     ensures steps { CountsSteps (length tokens.old) steps.old steps.new }
     ensures order { AreInOrder tokens.new }
 {
-    let place = find_counted(Sought::StartsAt(span.start), tokens, steps)?;
+    let place = find(Sought::StartsAt(span.start), tokens, steps)?;
     Some(tokens[place].consume_leading_comment())
 }
 
@@ -97,12 +88,10 @@ pub fn get_comment_at_end<'src>(
     tokens: &mut [WrappedToken<'src>],
 ) -> Option<Comment<'src>>
     requires { AreInOrder tokens.old }
-    ensures answer { MatchOption result
-        (Unmatched (ends_at span.end) (map shown tokens.old) (map shown tokens.new))
-        (λ c. HandedOut (ends_at span.end) (map shown tokens.old) (map shown tokens.new) (comment_parts c)) }
+    ensures answer { HandsOutNamed (ends_at span.end) tokens.old tokens.new result }
     ensures order { AreInOrder tokens.new }
 {
-    take_comment(Sought::EndsAt(span.end), tokens)
+    comment_at_end_afresh::<Brand>(span, tokens, Blank::new(1))
 }
 
 /// Like `get_comment_at_end`, and counts the steps.
@@ -112,13 +101,11 @@ pub fn get_comment_at_end_counted<'src, L: Ledger>(
     steps: &mut Steps<L>,
 ) -> Option<Comment<'src>>
     requires { AreInOrder tokens.old }
-    ensures answer { MatchOption result
-        (Unmatched (ends_at span.end) (map shown tokens.old) (map shown tokens.new))
-        (λ c. HandedOut (ends_at span.end) (map shown tokens.old) (map shown tokens.new) (comment_parts c)) }
+    ensures answer { HandsOutNamed (ends_at span.end) tokens.old tokens.new result }
     ensures steps { CountsSteps (length tokens.old) steps.old steps.new }
     ensures order { AreInOrder tokens.new }
 {
-    take_comment_counted(Sought::EndsAt(span.end), tokens, steps)
+    take_comment(Sought::EndsAt(span.end), tokens, steps)
 }
 
 /// The comment of the first token that starts at or after `span.end`; `None` where none does. The token's comment is empty
@@ -128,12 +115,10 @@ pub fn get_comment_after_end<'src>(
     tokens: &mut [WrappedToken<'src>],
 ) -> Option<Comment<'src>>
     requires { AreInOrder tokens.old }
-    ensures answer { MatchOption result
-        (Unmatched (starts_from span.end) (map shown tokens.old) (map shown tokens.new))
-        (λ c. HandedOut (starts_from span.end) (map shown tokens.old) (map shown tokens.new) (comment_parts c)) }
+    ensures answer { HandsOutNamed (starts_from span.end) tokens.old tokens.new result }
     ensures order { AreInOrder tokens.new }
 {
-    take_comment(Sought::StartsFrom(span.end), tokens)
+    comment_after_end_afresh::<Brand>(span, tokens, Blank::new(1))
 }
 
 /// Like `get_comment_after_end`, and counts the steps.
@@ -143,13 +128,11 @@ pub fn get_comment_after_end_counted<'src, L: Ledger>(
     steps: &mut Steps<L>,
 ) -> Option<Comment<'src>>
     requires { AreInOrder tokens.old }
-    ensures answer { MatchOption result
-        (Unmatched (starts_from span.end) (map shown tokens.old) (map shown tokens.new))
-        (λ c. HandedOut (starts_from span.end) (map shown tokens.old) (map shown tokens.new) (comment_parts c)) }
+    ensures answer { HandsOutNamed (starts_from span.end) tokens.old tokens.new result }
     ensures steps { CountsSteps (length tokens.old) steps.old steps.new }
     ensures order { AreInOrder tokens.new }
 {
-    take_comment_counted(Sought::StartsFrom(span.end), tokens, steps)
+    take_comment(Sought::StartsFrom(span.end), tokens, steps)
 }
 
 /// The comments of the tokens that start at or after `span.start` and end at or before `span.end`, in order. Their
@@ -165,8 +148,7 @@ pub fn get_comment_in_range<'src>(
     ensures refused { OnErr result (map shown tokens.new ≡ map shown tokens.old) }
     ensures order { AreInOrder tokens.new }
 {
-    let first = find(Sought::StartsFrom(span.start), tokens);
-    take_from(alloc, first, span, tokens)
+    comment_in_range_afresh::<Brand>(alloc, span, tokens, Blank::new(1))
 }
 
 /// Like `get_comment_in_range`, and counts the steps of the search for the first token.
@@ -183,7 +165,7 @@ pub fn get_comment_in_range_counted<'src, L: Ledger>(
     ensures steps { CountsSteps (length tokens.old) steps.old steps.new }
     ensures order { AreInOrder tokens.new }
 {
-    let first = find_counted(Sought::StartsFrom(span.start), tokens, steps);
+    let first = find(Sought::StartsFrom(span.start), tokens, steps);
     take_from(alloc, first, span, tokens)
 }
 
@@ -283,7 +265,7 @@ fn find_at<L: Ledger>(
 }
 
 /// The place of the sought token.
-fn find_counted<L: Ledger>(
+fn find<L: Ledger>(
     sought: Sought,
     tokens: &[WrappedToken<'_>],
     steps: &mut Steps<L>,
@@ -299,53 +281,17 @@ fn find_counted<L: Ledger>(
     }
 }
 
-/// The same, with steps that nobody reads.
-fn find_uncounted<L: Ledger>(
-    sought: Sought,
-    tokens: &[WrappedToken<'_>],
-    blank: Blank,
-) -> Option<usize>
-    requires order { AreInOrder tokens.now }
-    requires name { blank.name ≡ L.name }
-    requires parts { blank.parts ≡ L.parts }
-    requires some { 0 < L.parts }
-    ensures { result ≡ position (λ t. is_sought sought (shown t)) tokens.now }
-{
-    let mut steps: Steps<L> = Steps::new(blank);
-    find_counted(sought, tokens, &mut steps)
-}
-
-fn find(sought: Sought, tokens: &[WrappedToken<'_>]) -> Option<usize>
-    requires { AreInOrder tokens.now }
-    ensures { result ≡ position (λ t. is_sought sought (shown t)) tokens.now }
-{
-    find_uncounted::<Brand>(sought, tokens, Blank::new(1))
-}
-
-fn take_comment<'src>(sought: Sought, tokens: &mut [WrappedToken<'src>]) -> Option<Comment<'src>>
-    requires { AreInOrder tokens.old }
-    ensures answer { MatchOption result
-        (Unmatched (is_sought sought) (map shown tokens.old) (map shown tokens.new))
-        (λ c. HandedOut (is_sought sought) (map shown tokens.old) (map shown tokens.new) (comment_parts c)) }
-    ensures order { AreInOrder tokens.new }
-{
-    let place = find(sought, tokens)?;
-    Some(tokens[place].consume_comment())
-}
-
-fn take_comment_counted<'src, L: Ledger>(
+fn take_comment<'src, L: Ledger>(
     sought: Sought,
     tokens: &mut [WrappedToken<'src>],
     steps: &mut Steps<L>,
 ) -> Option<Comment<'src>>
     requires { AreInOrder tokens.old }
-    ensures answer { MatchOption result
-        (Unmatched (is_sought sought) (map shown tokens.old) (map shown tokens.new))
-        (λ c. HandedOut (is_sought sought) (map shown tokens.old) (map shown tokens.new) (comment_parts c)) }
+    ensures answer { HandsOutNamed (is_sought sought) tokens.old tokens.new result }
     ensures steps { CountsSteps (length tokens.old) steps.old steps.new }
     ensures order { AreInOrder tokens.new }
 {
-    let place = find_counted(sought, tokens, steps)?;
+    let place = find(sought, tokens, steps)?;
     Some(tokens[place].consume_comment())
 }
 
@@ -409,4 +355,92 @@ fn take_all<'src>(
         comments.push_reserved(token.consume_comment());
     }
     Ok(comments)
+}
+
+// The same as `get_comment_at_start`, with steps that nobody reads.
+fn comment_at_start_afresh<'src, L: Ledger>(
+    span: Span,
+    tokens: &mut [WrappedToken<'src>],
+    blank: Blank,
+) -> Option<Comment<'src>>
+    requires order { AreInOrder tokens.old }
+    requires name { blank.name ≡ L.name }
+    requires parts { blank.parts ≡ L.parts }
+    requires some { 0 < L.parts }
+    ensures answer { HandsOutNamed (starts_at span.start) tokens.old tokens.new result }
+    ensures order { AreInOrder tokens.new }
+{
+    let mut steps: Steps<L> = Steps::new(blank);
+    get_comment_at_start_counted(span, tokens, &mut steps)
+}
+
+// The same as `get_leading_comment_at_start`, with steps that nobody reads.
+fn leading_comment_at_start_afresh<'src, L: Ledger>(
+    span: Span,
+    tokens: &mut [WrappedToken<'src>],
+    blank: Blank,
+) -> Option<Vec<&'src str>>
+    requires order { AreInOrder tokens.old }
+    requires name { blank.name ≡ L.name }
+    requires parts { blank.parts ≡ L.parts }
+    requires some { 0 < L.parts }
+    ensures answer { HandsOutLines (starts_at span.start) tokens.old tokens.new result }
+    ensures order { AreInOrder tokens.new }
+{
+    let mut steps: Steps<L> = Steps::new(blank);
+    get_leading_comment_at_start_counted(span, tokens, &mut steps)
+}
+
+// The same as `get_comment_at_end`, with steps that nobody reads.
+fn comment_at_end_afresh<'src, L: Ledger>(
+    span: Span,
+    tokens: &mut [WrappedToken<'src>],
+    blank: Blank,
+) -> Option<Comment<'src>>
+    requires order { AreInOrder tokens.old }
+    requires name { blank.name ≡ L.name }
+    requires parts { blank.parts ≡ L.parts }
+    requires some { 0 < L.parts }
+    ensures answer { HandsOutNamed (ends_at span.end) tokens.old tokens.new result }
+    ensures order { AreInOrder tokens.new }
+{
+    let mut steps: Steps<L> = Steps::new(blank);
+    get_comment_at_end_counted(span, tokens, &mut steps)
+}
+
+// The same as `get_comment_after_end`, with steps that nobody reads.
+fn comment_after_end_afresh<'src, L: Ledger>(
+    span: Span,
+    tokens: &mut [WrappedToken<'src>],
+    blank: Blank,
+) -> Option<Comment<'src>>
+    requires order { AreInOrder tokens.old }
+    requires name { blank.name ≡ L.name }
+    requires parts { blank.parts ≡ L.parts }
+    requires some { 0 < L.parts }
+    ensures answer { HandsOutNamed (starts_from span.end) tokens.old tokens.new result }
+    ensures order { AreInOrder tokens.new }
+{
+    let mut steps: Steps<L> = Steps::new(blank);
+    get_comment_after_end_counted(span, tokens, &mut steps)
+}
+
+// The same as `get_comment_in_range`, with steps that nobody reads.
+fn comment_in_range_afresh<'src, L: Ledger>(
+    alloc: Global,
+    span: Span,
+    tokens: &mut [WrappedToken<'src>],
+    blank: Blank,
+) -> Result<Vec<Comment<'src>>, AllocError>
+    requires order { AreInOrder tokens.old }
+    requires name { blank.name ≡ L.name }
+    requires parts { blank.parts ≡ L.parts }
+    requires some { 0 < L.parts }
+    ensures answer { IfOk result (λ v. map comment_parts v.items ≡ comments_in span (map shown tokens.old)) }
+    ensures left { IfOk result (λ _. map shown tokens.new ≡ emptied_in span (map shown tokens.old)) }
+    ensures refused { OnErr result (map shown tokens.new ≡ map shown tokens.old) }
+    ensures order { AreInOrder tokens.new }
+{
+    let mut steps: Steps<L> = Steps::new(blank);
+    get_comment_in_range_counted(alloc, span, tokens, &mut steps)
 }

@@ -4,7 +4,7 @@ use Rattle.cedar_layout.proofs.Handing.{order_of_set, place_inside, led_at, none
 use Rattle.cedar_layout.proofs.utils.lookups.get_leading_comment_at_start_counted.Goals as goal
 
 pub returns-in_err-place-clause-answer : goal.returns-in_err-place-clause-answer
-returns-in_err-place-clause-answer g c = rw c.from_residual.ensures (none_named (starts_at c.args.span.start) c.args.tokens.now (sym c.find_counted.ensures.place ∙ c.in_err-place.was))
+returns-in_err-place-clause-answer g c = rw c.from_residual.ensures (none_named (starts_at c.args.span.start) c.args.tokens.now (sym c.find.ensures.place ∙ c.in_err-place.was))
 
 pub returns-clause-answer : goal.returns-clause-answer
 returns-clause-answer g c =

@@ -1,0 +1,4 @@
+use Rattle.cedar_layout.proofs.utils.lookups.get_comment_at_end.Given as goal
+
+abbrev pub ghosts-comment_at_end_afresh : goal.ghosts-comment_at_end_afresh
+ghosts-comment_at_end_afresh a = record { name = a.blank.name; parts = a.blank.parts }

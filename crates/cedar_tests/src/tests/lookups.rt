@@ -1,0 +1,238 @@
+//! Lookups over the tokens of a text.
+use super::*;
+use cedar_policy_formatter::lexer::get_token_stream;
+use cedar_policy_formatter::token::{Comment, Span, WrappedToken};
+use cedar_policy_formatter::utils::{
+    get_comment_after_end, get_comment_at_end, get_comment_at_start, get_comment_in_range,
+    get_leading_comment_at_start, in_order,
+};
+
+enum Lookup {
+    AtStart,
+    LinesAtStart,
+    AtEnd,
+    AfterEnd,
+    InRange,
+}
+
+static LOOKUPS: [Lookup; 5] = [
+    Lookup::AtStart,
+    Lookup::LinesAtStart,
+    Lookup::AtEnd,
+    Lookup::AfterEnd,
+    Lookup::InRange,
+];
+
+fn tokens<'a>(rt: &impl Abort, alloc: Global, text: &'a str) -> Vec<WrappedToken<'a>> {
+    let stream = get_token_stream(alloc, text).expect(rt, text);
+    let (tokens, _) = stream.expect(rt, text);
+    tokens
+}
+
+fn append_text(rt: &impl Abort, out: &mut String, text: &str) {
+    out.push_str(text).expect(rt, "memory");
+}
+
+// Appends lines, each with a `;`.
+fn append_lines(rt: &impl Abort, out: &mut String, lines: &[&str]) {
+    for line in lines {
+        append_text(rt, out, line);
+        append_text(rt, out, ";");
+    }
+}
+
+// Appends a comment as `LINE;..|TRAILING `.
+fn append_comment(rt: &impl Abort, out: &mut String, comment: &Comment<'_>) {
+    append_lines(rt, out, comment.leading_comment());
+    append_text(rt, out, "|");
+    append_text(rt, out, comment.trailing_comment());
+    append_text(rt, out, " ");
+}
+
+fn append_found(rt: &impl Abort, out: &mut String, comment: Option<Comment<'_>>) {
+    if let Some(comment) = comment {
+        append_comment(rt, out, &comment);
+    }
+}
+
+// What a lookup answers; nothing where it names no token.
+fn answer(
+    rt: &impl Abort,
+    alloc: Global,
+    lookup: &Lookup,
+    span: Span,
+    tokens: &mut [WrappedToken<'_>],
+) -> String {
+    assert!(rt; in_order(tokens));
+    let mut out = String::new(alloc);
+    match lookup {
+        Lookup::AtStart => append_found(rt, &mut out, get_comment_at_start(span, tokens)),
+        Lookup::AtEnd => append_found(rt, &mut out, get_comment_at_end(span, tokens)),
+        Lookup::AfterEnd => append_found(rt, &mut out, get_comment_after_end(span, tokens)),
+        Lookup::LinesAtStart => {
+            if let Some(lines) = get_leading_comment_at_start(span, tokens) {
+                append_lines(rt, &mut out, &lines);
+            }
+        }
+        Lookup::InRange => {
+            for comment in &get_comment_in_range(alloc, span, tokens).expect(rt, "memory") {
+                append_comment(rt, &mut out, comment);
+            }
+        }
+    }
+    out
+}
+
+// Lookups in turn over the tokens of `a // t`, `// l`, `b`, and what each answers.
+static NAMED: [&[(Lookup, usize, usize, &str)]; 3] = [
+    &[
+        (Lookup::AfterEnd, 0, 1, "// l;| "),
+        (Lookup::AfterEnd, 0, 1, "| "),
+        (Lookup::AtEnd, 0, 1, "|// t "),
+    ],
+    &[
+        (Lookup::AtStart, 1, 2, ""),
+        (Lookup::AfterEnd, 12, 13, ""),
+        (Lookup::AtStart, 0, 9, "|// t "),
+        (Lookup::LinesAtStart, 1, 2, ""),
+        (Lookup::LinesAtStart, 12, 13, "// l;"),
+        (Lookup::AtEnd, 0, 13, "| "),
+    ],
+    &[
+        (Lookup::InRange, 1, 12, ""),
+        (Lookup::InRange, 0, 0, ""),
+        (Lookup::InRange, 13, 20, ""),
+        (Lookup::InRange, 0, 13, "|// t // l;| "),
+        (Lookup::AtStart, 12, 13, "| "),
+    ],
+];
+
+#[test]
+fn named_tokens(rt: HostRuntime) {
+    for lookups in &NAMED {
+        let mut tokens = tokens(&rt, rt.alloc(), "a // t\n// l\nb");
+        for (lookup, start, end, want) in *lookups {
+            let span = Span {
+                start: *start,
+                end: *end,
+            };
+            let got = answer(&rt, rt.alloc(), lookup, span, &mut tokens);
+            expect_text(&rt, got.as_str(), want, want);
+        }
+    }
+}
+
+// Whether a token's place is the one that a lookup names.
+fn is_named(lookup: &Lookup, span: Span, own: Span) -> bool {
+    match lookup {
+        Lookup::AtStart | Lookup::LinesAtStart => own.start == span.start,
+        Lookup::AtEnd => own.end == span.end,
+        Lookup::AfterEnd => own.start >= span.end,
+        Lookup::InRange => span.start <= own.start && own.end <= span.end,
+    }
+}
+
+// What a lookup has to answer, by a scan that takes the comments out of the tokens.
+fn scanned(
+    rt: &impl Abort,
+    alloc: Global,
+    lookup: &Lookup,
+    span: Span,
+    tokens: &mut [WrappedToken<'_>],
+) -> String {
+    let mut out = String::new(alloc);
+    for token in tokens.iter_mut() {
+        if !is_named(lookup, span, token.span) {
+            continue;
+        }
+        if matches!(lookup, Lookup::LinesAtStart) {
+            append_lines(rt, &mut out, &token.consume_leading_comment());
+            return out;
+        }
+        append_comment(rt, &mut out, &token.consume_comment());
+        if !matches!(lookup, Lookup::InRange) {
+            return out;
+        }
+    }
+    out
+}
+
+// A lookup and a scan answer alike and leave the same tokens.
+fn expect_scanned(rt: &impl Abort, alloc: Global, lookup: &Lookup, span: Span, text: &str) {
+    let mut left = tokens(rt, alloc, text);
+    let got = answer(rt, alloc, lookup, span, &mut left);
+    let mut wanted = tokens(rt, alloc, text);
+    let want = scanned(rt, alloc, lookup, span, &mut wanted);
+    expect_text(rt, got.as_str(), want.as_str(), text);
+    assert!(rt; left == wanted, "{text:?}");
+}
+
+// Texts of 0, 1, 7 and 8 tokens.
+static SCANNED: [&str; 4] = [
+    "",
+    " a ",
+    "// l\nab // t\n// m\n,;(== // t\n)\n// n\nb",
+    "a // 1\n.b // 2\n.c // 3\n.d // 4\n;",
+];
+
+// Each lookup with each span that lies in the text, and of ends one past it.
+#[test]
+fn against_scans(rt: HostRuntime) {
+    for text in &SCANNED {
+        for start in 0..text.len() + 2 {
+            for end in start..text.len() + 2 {
+                for lookup in &LOOKUPS {
+                    expect_scanned(&rt, rt.alloc(), lookup, Span { start, end }, text);
+                }
+            }
+        }
+    }
+}
+
+#[test]
+fn order(rt: HostRuntime) {
+    let mut tokens = tokens(&rt, rt.alloc(), "a b");
+    assert!(rt; in_order(&tokens));
+    tokens.reverse();
+    assert!(rt; !in_order(&tokens));
+    for token in tokens.iter_mut() {
+        token.span = Span { start: 3, end: 3 };
+    }
+    assert!(rt; !in_order(&tokens));
+    assert!(rt; in_order(&[]));
+}
+
+fn is_empty(comment: Comment<'_>) -> bool {
+    comment.leading_comment().is_empty() && comment.trailing_comment().is_empty()
+}
+
+// Each lookup with each token's own span: it finds the token, or the next one, and no comment.
+fn expect_empty(rt: &impl Abort, alloc: Global, tokens: &mut [WrappedToken<'_>]) {
+    assert!(rt; in_order(tokens));
+    let count = tokens.len();
+    for at in 0..count {
+        let own = Span {
+            start: at,
+            end: at + 1,
+        };
+        let at_start = get_comment_at_start(own, tokens).map(is_empty);
+        expect_same(rt, at_start, Some(true), "at start");
+        let lines = get_leading_comment_at_start(own, tokens).map(|lines| lines.is_empty());
+        expect_same(rt, lines, Some(true), "lines at start");
+        let at_end = get_comment_at_end(own, tokens).map(is_empty);
+        expect_same(rt, at_end, Some(true), "at end");
+        let after = get_comment_after_end(own, tokens).map(is_empty);
+        expect_same(rt, after, (at + 1 < count).then_some(true), "after end");
+        let mut range = get_comment_in_range(alloc, own, tokens).expect(rt, "memory");
+        let only = range.pop().map(is_empty);
+        expect_same(rt, only, Some(range.is_empty()), "in range");
+    }
+}
+
+// A scan behind the stated steps needs hours here.
+#[test]
+fn many_tokens(rt: HostRuntime) {
+    let text = joined(&rt, rt.alloc(), &[(";", 500_000)]);
+    let mut tokens = tokens(&rt, rt.alloc(), text.as_str());
+    expect_empty(&rt, rt.alloc(), &mut tokens);
+}
