@@ -4,5 +4,5 @@ pub mod Primaries
 pub mod Chains
 pub mod Operands
 pub mod Relations
-pub mod Signs
-pub mod Accesses
+pub mod SignTokens
+pub mod AccessTrees

@@ -4,4 +4,4 @@ pub mod Flat
 pub mod Focus
 pub mod Marks
 pub mod Opened
-pub mod Names
+pub mod PathWords

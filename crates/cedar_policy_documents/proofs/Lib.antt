@@ -1,4 +1,4 @@
-pub mod Scopes
+pub mod ScopeTrees
 pub mod PolicyParts
 pub mod PolicyRows
 pub mod FirstToken

@@ -1,6 +1,6 @@
 use Rattle.std.proofs.Common.{true, false}
 use Rattle.cedar_leaf_documents.specs.Found.{starts}
-use Rattle.cedar_expression_documents.proofs.Accesses.{field_shown}
+use Rattle.cedar_expression_documents.proofs.AccessTrees.{field_shown}
 use Rattle.cedar_leaf_documents.proofs.Flat.{flat}
 use Rattle.cedar_leaf_documents.proofs.Found.{as_before, missed}
 use Rattle.cedar_expression_documents.proofs.accesses.field_doc.Goals as goal

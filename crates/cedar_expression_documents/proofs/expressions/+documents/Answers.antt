@@ -23,8 +23,8 @@ use Rattle.cedar_layout.specs.Value.{doc_of, docs_of}
 use Rattle.std.proofs.Math.Facts.{to_z-of_z}
 use Rattle.std.specs.Cmp.Derive.{both_true}
 use Rattle.cedar_expression_documents.specs.Signs.{member_in}
-use Rattle.cedar_expression_documents.proofs.Accesses.{at_indent, member_shown, access_at, walk_turn, walk_over, field_needs, index_needs, call_needs, call_shown}
-use Rattle.cedar_expression_documents.proofs.Signs.{opened_unary, unary_needs, unary_shown, view_of_unary}
+use Rattle.cedar_expression_documents.proofs.AccessTrees.{at_indent, member_shown, access_at, walk_turn, walk_over, field_needs, index_needs, call_needs, call_shown}
+use Rattle.cedar_expression_documents.proofs.SignTokens.{opened_unary, unary_needs, unary_shown, view_of_unary}
 use Rattle.cedar_expression_documents.specs.Breaks.{form_before}
 use Rattle.std.specs.Prelude.{pos, ◌&&◌}
 use Rattle.cedar_layout.specs.declared.layout.Document.TheVariants.{LineOrNil as LineOrNil'}

@@ -12,7 +12,7 @@ use Rattle.cedar_tree.specs.NodeLists.{and_parts, access_items, item_trees, init
 use Rattle.cedar_grammar.specs.TypedTrees.{Tree, accesses, yield}
 use Rattle.cedar_layout.specs.Value.{docs_of}
 use Rattle.cedar_expression_documents.specs.Breaks.{form_before}
-use Rattle.cedar_expression_documents.proofs.Accesses.{Walked}
+use Rattle.cedar_expression_documents.proofs.AccessTrees.{Walked}
 use Rattle.cedar_expression_documents.proofs.Commas.{Progress}
 use Rattle.cedar_grammar.specs.TypedTrees as kind
 use Rattle.cedar_tree.specs.declared.tree.Expr as Expr

@@ -6,7 +6,7 @@ use Rattle.cedar_layout.specs.declared.layout.Document.TheVariants.{Nil as Nil'}
 use Rattle.cedar_tree.specs.Erased.{node, signs}
 use Rattle.cedar_leaf_documents.specs.Found.{Finds, has_own, places}
 use Rattle.cedar_leaf_documents.specs.NodeDocuments.{IsNodeOf}
-use Rattle.cedar_expression_documents.proofs.Signs.{no_signs, some_signs, signs_need}
+use Rattle.cedar_expression_documents.proofs.SignTokens.{no_signs, some_signs, signs_need}
 use Rattle.cedar_expression_documents.proofs.signs.signs_doc.Goals as goal
 
 pub returns-in-Some-clause-found : goal.returns-in-Some-clause-found

@@ -6,7 +6,7 @@ use Rattle.cedar_layout.specs.Lookups.{shown}
 use Rattle.cedar_layout.specs.Value.{doc_of, docs_of}
 use Rattle.cedar_tree.specs.declared.tree.Ident.{Ident}
 use Rattle.cedar_tree.specs.declared.tree.Node.{Node}
-use Rattle.cedar_leaf_documents.proofs.Names.{NameSoFar, name_goes_on, name_ends}
+use Rattle.cedar_leaf_documents.proofs.PathWords.{NameSoFar, name_goes_on, name_ends}
 use Rattle.cedar_tree.specs.Erased.{path_parts}
 use Rattle.cedar_leaf_documents.specs.Found.{has_its_tokens, places, starts}
 use Rattle.cedar_leaf_documents.proofs.Found.{and_false, and_true, as_before, missed}

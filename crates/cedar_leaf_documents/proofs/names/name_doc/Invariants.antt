@@ -7,7 +7,7 @@ use Rattle.cedar_tree.specs.Erased.{path_parts}
 use Rattle.cedar_leaf_documents.specs.Found.{has_its_tokens, places}
 use Rattle.cedar_leaf_documents.specs.Kept.{KeepsTokens}
 use Rattle.cedar_leaf_documents.specs.NodeDocuments.{IsNodeOf}
-use Rattle.cedar_leaf_documents.proofs.Names.{NameSoFar}
+use Rattle.cedar_leaf_documents.proofs.PathWords.{NameSoFar}
 use Rattle.cedar_leaf_documents.proofs.names.name_doc.Given as goal
 
 abbrev pub invariant-loop-word : goal.invariant-loop-word

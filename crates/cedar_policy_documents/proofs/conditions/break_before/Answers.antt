@@ -2,7 +2,7 @@ use Rattle.std.proofs.Common.{ap, sym, ◌∙◌}
 use Rattle.std.specs.Prelude.{if◌then◌else◌}
 use Rattle.cedar_layout.specs.Layout.{hard, nil}
 use Rattle.cedar_layout.proofs.Values.{doc_of_nil, doc_of_hard}
-use Rattle.cedar_policy_documents.proofs.Scopes.{break_before}
+use Rattle.cedar_policy_documents.proofs.ScopeTrees.{break_before}
 use Rattle.cedar_policy_documents.proofs.conditions.break_before.Goals as goal
 
 pub returns-then-is_empty : goal.returns-then-is_empty

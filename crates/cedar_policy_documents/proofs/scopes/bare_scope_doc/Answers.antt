@@ -11,7 +11,7 @@ use Rattle.cedar_canonical.specs.Table.{C, space}
 use Rattle.cedar_leaf_documents.proofs.Flat.{flat}
 use Rattle.cedar_leaf_documents.proofs.Found.{as_before, missed}
 use Rattle.cedar_leaf_documents.proofs.Opened.{freely, rewritten}
-use Rattle.cedar_policy_documents.proofs.Scopes.{scope_in_turn}
+use Rattle.cedar_policy_documents.proofs.ScopeTrees.{scope_in_turn}
 use Rattle.cedar_policy_documents.proofs.scopes.bare_scope_doc.Goals as goal
 
 pub returns-clause-shows : goal.returns-clause-shows

@@ -1,6 +1,6 @@
 use Rattle.std.proofs.Common.{ap, sym, ◌∙◌}
 use Rattle.std.specs.Prelude.{not, is_some, ◌||◌}
-use Rattle.cedar_policy_documents.proofs.Scopes.{is_bound}
+use Rattle.cedar_policy_documents.proofs.ScopeTrees.{is_bound}
 use Rattle.cedar_policy_documents.proofs.scopes.is_bound.Goals as goal
 
 pub returns-then-is_some : goal.returns-then-is_some

@@ -17,7 +17,7 @@ use Rattle.cedar_policy_documents.specs.PartDocuments.{compared_document, span_b
 use Rattle.cedar_canonical.specs.Table.{lead, tok, trail, type_part}
 use Rattle.cedar_leaf_documents.proofs.Flat.{flat}
 use Rattle.cedar_leaf_documents.proofs.Found.{as_before, missed}
-use Rattle.cedar_policy_documents.proofs.Scopes.{unbound, typed, typed_found, compared, untyped, no_operator, nothing_more, ends_later, pair, assembled, document_bare, document_is, document_compared}
+use Rattle.cedar_policy_documents.proofs.ScopeTrees.{unbound, typed, typed_found, compared, untyped, no_operator, nothing_more, ends_later, pair, assembled, document_bare, document_is, document_compared}
 use Rattle.cedar_leaf_documents.proofs.Opened.{opened_leaf, ends_here, in_turn, freely, rewritten, Always, Behind}
 use Rattle.cedar_policy_documents.proofs.scopes.variable_doc.Goals as goal
 
