@@ -36,7 +36,7 @@ use Rattle.cedar_tree.specs.NodeTrees.{IsTreeOf}
 use Rattle.cedar_tree.specs.declared.tree.Policies.{Policies}
 use Rattle.cedar_canonical.specs.GrammarTrees.{IsTree}
 use Rattle.cedar_canonical.specs.Leaves.{part_map}
-use Rattle.cedar_documents.specs.NodeDocuments.{kind_of_shown, as_leaf, nodes_of}
+use Rattle.cedar_leaf_documents.specs.NodeDocuments.{kind_of_shown, as_leaf, nodes_of}
 use Rattle.cedar_canonical.specs.Output.{tokens_of}
 use Rattle.cedar_canonical.proofs.ByValue.{part_yield_map}
 use Rattle.cedar_canonical.proofs.FittingTrees.{AllTokens}

@@ -1,6 +1,2 @@
-pub mod Kept
-pub mod Found
-pub mod NodeDocuments
+pub mod ShownNodes
 pub mod OwnTokens
-pub mod Signs
-pub mod Breaks

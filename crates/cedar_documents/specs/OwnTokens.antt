@@ -16,8 +16,8 @@ use Rattle.cedar_tree.specs.NodeTrees.{IsTreeOf}
 use Rattle.cedar_tree.specs.declared.tree.Node.{Node}
 use Rattle.cedar_tree.specs.declared.tree.Policies.{Policies}
 use Rattle.cedar_tree.specs.declared.tree.Policy.{Policy}
-use Rattle.cedar_documents.specs.Kept.{KeepsTokens}
-use Rattle.cedar_documents.specs.NodeDocuments.{IsLeafWith, IsNodeWith, IsPartWith, IsRowWith}
+use Rattle.cedar_leaf_documents.specs.Kept.{KeepsTokens}
+use Rattle.cedar_documents.specs.ShownNodes.{IsLeafWith, IsNodeWith, IsPartWith, IsRowWith}
 
 -- these trees hold a node with this label, span and parts: as one of them, or inside one
 abbrev pub Holds : Erased → Label → Span → Erased → Type 0

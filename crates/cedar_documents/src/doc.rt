@@ -7,30 +7,30 @@ ghost use Rattle.cedar_layout.specs.Value.{doc_of};
 ghost use Rattle.cedar_tree.specs.Erased as erased;
 ghost use Rattle.cedar_tree.specs.NodeLists as lists;
 ghost use Rattle.cedar_layout.specs.Lookups.{AreInOrder, Shown};
-ghost use Rattle.cedar_documents.specs.Found.{answer_of, has_its_tokens, places};
-ghost use Rattle.cedar_documents.specs.Kept.{KeepsTokens};
-ghost use Rattle.cedar_documents.specs.declared.doc.NoDocument.TheVariants.{OutOfMemory};
-ghost use Rattle.cedar_documents.specs.NodeDocuments.{IsLeafWith, IsNodeWith, IsPartWith, IsRowWith, ShowsPart, annotation_parts, cond_parts, variable_parts};
+ghost use Rattle.cedar_leaf_documents.specs.Found.{has_its_tokens, places};
+ghost use Rattle.cedar_leaf_documents.specs.Kept.{KeepsTokens};
+ghost use Rattle.cedar_documents.specs.ShownNodes.{IsLeafWith, IsNodeWith, IsPartWith, IsRowWith, ShowsPart, answer_of};
+ghost use Rattle.cedar_policy_documents.specs.PartDocuments.{annotation_parts, cond_parts, variable_parts};
 
 use crate::config::Context;
-use crate::doc::expressions::{
+pub use crate::laws::{every_gap_holds, raw_layouts_read_back};
+use cedar_expression_documents::expressions::{
     access_doc, add_doc, and_doc, expr_doc, init_doc, member_doc, mult_doc, or_doc, primary_doc,
     relation_doc, unary_doc,
 };
-use crate::doc::names::{add_op_text, leaf_doc, literal_text, name_doc, ref_doc, slot_text};
-use crate::doc::policies::{annotation_doc, cond_doc, policy_doc, variable_doc};
-pub use crate::laws::{every_gap_holds, raw_layouts_read_back};
 use cedar_layout::layout::Document;
+use cedar_leaf_documents::made::{Made, NoDocument};
+use cedar_leaf_documents::names::{
+    add_op_text, leaf_doc, literal_text, name_doc, ref_doc, slot_text,
+};
+use cedar_policy_documents::conditions::cond_doc;
+use cedar_policy_documents::policies::{annotation_doc, policy_doc};
+use cedar_policy_documents::scopes::variable_doc;
 use cedar_tree::tree::{
     Add, AddOp, And, Annotation, Cond, Expr, Ident, Literal, MemAccess, Member, Mult, MultOp, Name,
     Node, Or, Policy, Primary, RecInit, Ref, Relation, Slot, Str, Unary, VariableDef,
 };
-use std::alloc::{AllocError, AllocFailed, Global};
-
-mod expressions;
-mod names;
-mod policies;
-mod tokens;
+use std::alloc::{AllocError, Global};
 
 /// A part of a policy that has a document.
 ///
@@ -63,34 +63,6 @@ pub trait Doc<'src> {
         ensures none { IfOk result (λ doc. is_some doc ≡ has_its_tokens (places context.old.tokens.items) (nodes self.now)) }
         ensures shows { (ts : List Shown) (doc : layout.Doc) → is_shown self.now context.old.config.now.indent_width ts doc → ShowsPart result context.old.tokens.items context.new.tokens.items ts doc };
 }
-
-/// Why a part has no document.
-#[derive(Clone, Copy, Debug)]
-pub(crate) enum NoDocument {
-    /// A token that has to be there isn't.
-    NoToken,
-    /// A growth was refused.
-    OutOfMemory,
-}
-
-impl From<AllocError> for NoDocument {
-    ghost from_gives = { λ _ e. e ≡ OutOfMemory };
-
-    fn from(_error: AllocError) -> NoDocument {
-        NoDocument::OutOfMemory
-    }
-}
-
-impl<T: Drop> From<AllocFailed<T>> for NoDocument {
-    ghost from_gives = { λ _ e. e ≡ OutOfMemory };
-
-    fn from(_failed: AllocFailed<T>) -> NoDocument {
-        NoDocument::OutOfMemory
-    }
-}
-
-/// A part's document, or why it has none.
-pub(crate) type Made<'src> = Result<Document<'src>, NoDocument>;
 
 // The same as `to_doc` answers it.
 fn answer<'src>(made: Made<'src>) -> Result<Option<Document<'src>>, AllocError>

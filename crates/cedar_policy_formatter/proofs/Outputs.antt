@@ -14,9 +14,10 @@ use Rattle.cedar_tree.specs.Erased as erased
 use Rattle.cedar_tree.specs.declared.tree.Node.{Node}
 use Rattle.cedar_tree.specs.declared.tree.Policy.{Policy}
 use Rattle.cedar_canonical.specs.Leaves.{part_map}
-use Rattle.cedar_documents.specs.NodeDocuments.{IsAt, IsPartOf, as_leaf, kind_of_shown, nodes_of, part_document}
+use Rattle.cedar_leaf_documents.specs.NodeDocuments.{IsAt, as_leaf, kind_of_shown, nodes_of}
+use Rattle.cedar_policy_documents.specs.PartDocuments.{IsPartOf, part_document}
 use Rattle.cedar_canonical.specs.Output.{PolicyTexts, join}
-use Rattle.cedar_documents.proofs.Opened.{opened, part_at}
+use Rattle.cedar_leaf_documents.proofs.Opened.{opened, part_at}
 use Rattle.cedar_canonical.specs.Output.{closing_text}
 use Rattle.cedar_canonical.specs.Canonical.{IsOutputOf}
 use Rattle.cedar_documents.proofs.StreamTrees.{policies_over}

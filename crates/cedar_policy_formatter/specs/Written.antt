@@ -10,7 +10,8 @@ use Rattle.cedar_layout.specs.Cleaning.{IsCleaned}
 use Rattle.cedar_layout.specs.Layout.{IsTheLayoutAt}
 use Rattle.cedar_layout.specs.Lookups.{Shown}
 use Rattle.cedar_canonical.specs.Leaves.{part_map}
-use Rattle.cedar_documents.specs.NodeDocuments.{as_leaf, part_document}
+use Rattle.cedar_leaf_documents.specs.NodeDocuments.{as_leaf}
+use Rattle.cedar_policy_documents.specs.PartDocuments.{part_document}
 use Rattle.cedar_canonical.specs.Output.{PolicyTexts, join}
 
 -- the text of one policy: its document's layout at the width, cleaned

@@ -10,11 +10,12 @@ ghost use Rattle.cedar_grammar.specs.TypedTrees.{Clause, part_yield, policy_tree
 ghost use Rattle.cedar_grammar.specs.TypedTrees as kind;
 ghost use Rattle.cedar_layout.specs.Lookups.{AreInOrder, Shown, emptied, shown};
 ghost use Rattle.cedar_canonical.specs.Canonical.{IsOutputOf};
-ghost use Rattle.cedar_documents.specs.NodeDocuments.{IsAt, IsPartOf, kind_of_shown, nodes_of};
+ghost use Rattle.cedar_leaf_documents.specs.NodeDocuments.{IsAt, kind_of_shown, nodes_of};
+ghost use Rattle.cedar_policy_documents.specs.PartDocuments.{IsPartOf};
 ghost use Rattle.cedar_canonical.specs.Output.{closing_text};
 ghost use Rattle.cedar_policy_formatter.specs.Compared.{HaveEqualLists};
 ghost use Rattle.cedar_policy_formatter.specs.Written.{IsPolicyText, AreJoined, IsParted, IsPlainStream};
-ghost use Rattle.cedar_documents.specs.Kept.{KeepsTokens};
+ghost use Rattle.cedar_leaf_documents.specs.Kept.{KeepsTokens};
 ghost use Rattle.cedar_policy_formatter.specs.OutputPolicies.{OutputsKeepThePolicies};
 ghost use Rattle.cedar_policy_formatter.specs.Refused.{IsMemory, RefusesOne};
 ghost use Rattle.cedar_tree.specs.Refusals.{Refuses};

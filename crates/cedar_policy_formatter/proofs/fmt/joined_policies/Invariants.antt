@@ -4,8 +4,8 @@ use Rattle.std.specs.List.{flat_map}
 use Rattle.cedar_grammar.specs.TypedTrees.{Clause, policy, part_yield, policy_trees}
 use Rattle.cedar_layout.specs.Lookups.{AreInOrder, Shown, shown}
 use Rattle.cedar_tree.specs.Erased as erased
-use Rattle.cedar_documents.specs.Kept.{KeepsTokens}
-use Rattle.cedar_documents.specs.NodeDocuments.{kind_of_shown, nodes_of}
+use Rattle.cedar_leaf_documents.specs.Kept.{KeepsTokens}
+use Rattle.cedar_leaf_documents.specs.NodeDocuments.{kind_of_shown, nodes_of}
 use Rattle.cedar_policy_formatter.proofs.Outputs.{JoinedSoFar}
 use Rattle.cedar_policy_formatter.proofs.fmt.joined_policies.Given as goal
 

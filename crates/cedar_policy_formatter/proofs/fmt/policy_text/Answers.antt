@@ -1,6 +1,6 @@
 use Rattle.std.proofs.Common.{refl}
 use Rattle.cedar_grammar.specs.TypedTrees.{part_yield}
-use Rattle.cedar_documents.specs.NodeDocuments.{part_document}
+use Rattle.cedar_policy_documents.specs.PartDocuments.{part_document}
 use Rattle.cedar_policy_formatter.proofs.Outputs.{some_is, none_is, cleaned_layout}
 use Rattle.cedar_policy_formatter.proofs.fmt.policy_text.Goals as goal
 

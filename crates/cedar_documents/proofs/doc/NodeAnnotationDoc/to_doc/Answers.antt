@@ -1,8 +1,8 @@
 use Rattle.std.proofs.Common.{rules, refl}
 use Rattle.cedar_tree.specs.Erased.{node}
-use Rattle.cedar_documents.specs.NodeDocuments.{annotation_parts}
+use Rattle.cedar_policy_documents.specs.PartDocuments.{annotation_parts}
 use Rattle.cedar_grammar.specs.Trees.{Label, none}
-use Rattle.cedar_documents.specs.Found.{has_its_tokens}
+use Rattle.cedar_leaf_documents.specs.Found.{has_its_tokens}
 use Rattle.cedar_documents.proofs.Answered.{Called, and_one, kept_after, none_after, order_after, shown_part}
 use Rattle.cedar_documents.proofs.OwnTokens.{signed_part}
 use Rattle.cedar_documents.proofs.doc.NodeAnnotationDoc.to_doc.Goals as goal

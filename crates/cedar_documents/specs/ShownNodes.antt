@@ -1,0 +1,44 @@
+-- That a node is made of tokens and has a document, and what `to_doc` answers.
+use Rattle.std.specs.Prelude.{◌≡◌, ℕ, ℤ, List, [], ◌∷◌, ◌++◌, map, Option, Some, Result, Ok, Err, IfOk, IsSomeAnd, None, alloc_error}
+use Rattle.cedar_tokens.specs.Listing.{token_value}
+use Rattle.cedar_tokens.specs.declared.token.Span.{Span}
+use Rattle.cedar_tokens.specs.declared.token.WrappedToken.{WrappedToken}
+use Rattle.cedar_grammar.specs.TypedTrees.{NodeKind, Tree, PartKind, Clause, yield, part_yield}
+use Rattle.cedar_layout.specs.Layout.{Doc}
+use Rattle.cedar_layout.specs.Lookups.{Shown, shown, emptied}
+use Rattle.cedar_layout.specs.Value.{doc_of}
+use Rattle.cedar_layout.specs.declared.layout.Document.{Document}
+use Rattle.cedar_tree.specs.Erased.{Erased}
+use Rattle.cedar_canonical.specs.Table.{leaf as leaf_of}
+use Rattle.std.specs.declared.alloc.AllocError.{AllocError}
+use Rattle.cedar_leaf_documents.specs.declared.made.NoDocument.{NoDocument}
+use Rattle.cedar_leaf_documents.specs.declared.made.NoDocument.TheVariants.{NoToken, OutOfMemory}
+use Rattle.cedar_leaf_documents.specs.NodeDocuments.{text_of, as_leaf, IsNodeOf, document, IsAt}
+use Rattle.cedar_policy_documents.specs.PartDocuments.{IsPartOf, part_document}
+
+-- a node with this span and these parts is the tree of the tokens ts, and the table's document of that tree is doc
+abbrev pub IsNodeWith : (k : NodeKind) → Span → Erased → ℤ → List Shown → Doc → Type 0
+IsNodeWith k span inner i ts doc = (t : Tree Shown k) × IsAt span (yield t) × IsNodeOf inner t × (ts ≡ yield t) × (doc ≡ document i t)
+
+-- the same of trees in a row, which have no span as a whole
+abbrev pub IsRowWith : (k : NodeKind) → Erased → ℤ → List Shown → Doc → Type 0
+IsRowWith k inner i ts doc = (t : Tree Shown k) × IsNodeOf inner t × (ts ≡ yield t) × (doc ≡ document i t)
+
+-- the same of a part of a policy outside expressions
+abbrev pub IsPartWith : (k : PartKind) → Span → Erased → ℤ → List Shown → Doc → Type 0
+IsPartWith k span inner i ts doc = (t : Clause Shown k) × IsAt span (part_yield t) × IsPartOf inner t × (ts ≡ part_yield t) × (doc ≡ part_document i t)
+
+-- a node of one token
+abbrev pub IsLeafWith : Span → List ℕ → List Shown → Doc → Type 0
+IsLeafWith span text ts doc = (t : Shown) × (t.span ≡ span) × (text ≡ token_value (text_of t)) × (ts ≡ t ∷ []) × (doc ≡ leaf_of (as_leaf t))
+
+-- the tokens ts stand among the others and are shown in the document that `to_doc` answers, if memory suffices; then they have no comments, and nothing else has changed
+abbrev pub ShowsPart : Result (Option Document) AllocError → List WrappedToken → List WrappedToken → List Shown → Doc → Type 0
+ShowsPart result old new ts doc = (before after : List Shown) → map shown old ≡ before ++ (ts ++ after)
+    → IfOk result (λ r. IsSomeAnd r (λ d. (doc_of d ≡ doc) × (map shown new ≡ (before ++ map emptied ts) ++ after)))
+
+-- the answer of a part whose document is made, or for this reason not
+abbrev pub answer_of : {D : Type 0} → Result D NoDocument → Result (Option D) AllocError
+answer_of (Ok d) = Ok (Some d)
+answer_of (Err NoToken) = Ok None
+answer_of (Err OutOfMemory) = Err alloc_error

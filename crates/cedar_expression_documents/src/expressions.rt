@@ -1,0 +1,638 @@
+//! The documents of expressions, in the order of the table. Above each function stands its row: a dot puts documents one
+//! after the other, `i` is the indentation of a level, `C(t)` a token between its comments.
+#![tactic(auto, using(cedar_tokens::proofs::KeptOrder::order_kept))]
+
+ghost use Rattle.std.specs.Prelude.{◌≡◌, ◌<◌, ◌∷◌, ◌++◌, ◌&&◌, ◌||◌, [], Some, codes, IfOk};
+ghost use Rattle.cedar_tokens.specs.Listing.{token_value};
+ghost use Rattle.cedar_grammar.specs.Trees.{Label, branch, join, leaf, none};
+ghost use Rattle.cedar_grammar.specs.TypedTrees.{Tree, parens, yield};
+ghost use Rattle.cedar_grammar.specs.TypedTrees as kind;
+ghost use Rattle.cedar_tree.specs.Erased.{access_parts, add_parts, expr_parts, mult_parts, or_parts, path_parts, primary_parts, relation_parts, relop_text, signs, unary_parts, variant};
+ghost use Rattle.cedar_tree.specs.NodeLists.{access_items, and_parts, init_parts, item_trees, member_parts};
+ghost use Rattle.cedar_layout.specs.Layout.{◌·◌, group, line, nest, nil};
+ghost use Rattle.cedar_layout.specs.Value.{doc_of};
+ghost use Rattle.cedar_layout.specs.Lookups.{AreInOrder, Shown};
+ghost use Rattle.cedar_leaf_documents.specs.Found.{Finds, has_its_tokens, has_own, places};
+ghost use Rattle.cedar_leaf_documents.specs.Kept.{KeepsTokens};
+ghost use Rattle.cedar_canonical.specs.Table.{space};
+ghost use Rattle.cedar_canonical.specs.Table.{leaf as leaf_of};
+ghost use Rattle.cedar_leaf_documents.specs.NodeDocuments.{IsAt, IsNodeOf, Shows, ShowsBehind, as_leaf, document, text_of};
+
+use crate::accesses::{field_doc, index_doc, push_break};
+use crate::signs::signs_doc;
+use cedar_layout::layout::Document;
+use cedar_layout::utils::add_brackets;
+use cedar_leaf_documents::made::Made;
+use cedar_leaf_documents::names::{
+    add_op_text, leaf_doc, literal_text, name_doc, ref_doc, rel_op_text, slot_text,
+};
+use cedar_leaf_documents::tokens::{comma_before, mark_after, mark_at_end, mark_at_start};
+use cedar_tokens::token::{Span, WrappedToken};
+use cedar_tree::tree::{
+    Add, And, Expr, MemAccess, Member, Mult, Name, Node, Or, Primary, RecInit, RelOp, Relation,
+    Unary,
+};
+use std::alloc::{AllocError, Global};
+
+/// The document of an `if`, or of operands of `||`.
+#[cycle(documents)]
+pub fn expr_doc<'src>(
+    alloc: Global,
+    expr: &Expr<'src>,
+    span: Span,
+    indent: isize,
+    tokens: &mut [WrappedToken<'src>],
+) -> Made<'src>
+    requires { AreInOrder tokens.old }
+    ensures kept { KeepsTokens tokens.old tokens.new }
+    ensures found { Finds result (has_its_tokens (places tokens.old) (expr_parts expr.now)) }
+    ensures shows { (t : Tree Shown kind.expr) → IsAt span (yield t) → IsNodeOf (expr_parts expr.now) t → Shows result tokens.old tokens.new (yield t) (document indent t) }
+{
+    match expr {
+        // group(C("if") . nest(i, line . c) . line . C("then") . nest(i, line . t) . line . C("else") . nest(i, line . e))
+        Expr::If(test, yes, no) => {
+            let if_word = mark_at_start(alloc, "if", span, Document::Nil, tokens)?;
+            let condition = expr_doc(alloc, &test.inner, test.span, indent, tokens)?;
+            let then_word = mark_after(alloc, "then", test.span, Document::Nil, tokens)?;
+            let first = expr_doc(alloc, &yes.inner, yes.span, indent, tokens)?;
+            let else_word = mark_after(alloc, "else", yes.span, Document::Nil, tokens)?;
+            let second = expr_doc(alloc, &no.inner, no.span, indent, tokens)?;
+            let row = vec![in alloc;
+                if_word,
+                below(alloc, condition, indent)?,
+                Document::Line,
+                then_word,
+                below(alloc, first, indent)?,
+                Document::Line,
+                else_word,
+                below(alloc, second, indent)?,
+            ]?;
+            Ok(Document::Seq(row).group(alloc)?)
+        }
+        Expr::Or(or) => or_doc(alloc, &or.inner, indent, tokens),
+    }
+}
+
+// nest(i, line . doc)
+fn below<'src>(
+    alloc: Global,
+    doc: Document<'src>,
+    indent: isize,
+) -> Result<Document<'src>, AllocError>
+    ensures { IfOk result (λ d. doc_of d ≡ nest indent (line · doc_of doc.entry)) }
+{
+    Document::Seq(vec![in alloc; Document::Line, doc]?).nest(alloc, indent)
+}
+
+/// `e1 . space . C("||", line) . e2 . space . C("||", line) . e3 ..`
+#[cycle(documents)]
+pub fn or_doc<'src>(
+    alloc: Global,
+    or: &Or<'src>,
+    indent: isize,
+    tokens: &mut [WrappedToken<'src>],
+) -> Made<'src>
+    requires { AreInOrder tokens.old }
+    ensures kept { KeepsTokens tokens.old tokens.new }
+    ensures found { Finds result (has_its_tokens (places tokens.old) (or_parts or.now)) }
+    ensures shows { (t : Tree Shown kind.ors) → IsNodeOf (or_parts or.now) t → Shows result tokens.old tokens.new (yield t) (document indent t) }
+{
+    let first = and_doc(alloc, &or.initial.inner, indent, tokens)?;
+    if or.extended.is_empty() {
+        return Ok(first);
+    }
+    let mut docs = vec![in alloc; first]?;
+    let mut last = or.initial.span;
+    for operand in &or.extended {
+        docs.push(Document::Text(" "))?;
+        docs.push(mark_after(alloc, "||", last, Document::Line, tokens)?)?;
+        docs.push(and_doc(alloc, &operand.inner, indent, tokens)?)?;
+        last = operand.span;
+    }
+    Ok(Document::Seq(docs))
+}
+
+/// `e1 . space . C("&&", line) . e2 . space . C("&&", line) . e3 ..`
+#[cycle(documents)]
+pub fn and_doc<'src>(
+    alloc: Global,
+    and: &And<'src>,
+    indent: isize,
+    tokens: &mut [WrappedToken<'src>],
+) -> Made<'src>
+    requires { AreInOrder tokens.old }
+    ensures kept { KeepsTokens tokens.old tokens.new }
+    ensures found { Finds result (has_its_tokens (places tokens.old) (and_parts and.now)) }
+    ensures shows { (t : Tree Shown kind.ands) → IsNodeOf (and_parts and.now) t → Shows result tokens.old tokens.new (yield t) (document indent t) }
+{
+    let first = relation_doc(alloc, &and.initial.inner, indent, tokens)?;
+    if and.extended.is_empty() {
+        return Ok(first);
+    }
+    let mut docs = vec![in alloc; first]?;
+    let mut last = and.initial.span;
+    for operand in &and.extended {
+        docs.push(Document::Text(" "))?;
+        docs.push(mark_after(alloc, "&&", last, Document::Line, tokens)?)?;
+        docs.push(relation_doc(alloc, &operand.inner, indent, tokens)?)?;
+        last = operand.span;
+    }
+    Ok(Document::Seq(docs))
+}
+
+/// One operand, or two with a comparison, `has`, `like` or `is` between them.
+#[cycle(documents)]
+pub fn relation_doc<'src>(
+    alloc: Global,
+    relation: &Relation<'src>,
+    indent: isize,
+    tokens: &mut [WrappedToken<'src>],
+) -> Made<'src>
+    requires { AreInOrder tokens.old }
+    ensures kept { KeepsTokens tokens.old tokens.new }
+    ensures found { Finds result (has_its_tokens (places tokens.old) (relation_parts relation.now)) }
+    ensures shows { (t : Tree Shown kind.relation) → IsNodeOf (relation_parts relation.now) t → Shows result tokens.old tokens.new (yield t) (document indent t) }
+{
+    match relation {
+        Relation::Common { initial, extended } => {
+            let first = add_doc(alloc, &initial.inner, indent, tokens)?;
+            match extended {
+                Some((op, other)) => {
+                    comparison_doc(alloc, other, *op, initial.span, first, indent, tokens)
+                }
+                None => Ok(first),
+            }
+        }
+        Relation::Has { target, field } => {
+            let first = add_doc(alloc, &target.inner, indent, tokens)?;
+            keyword_doc(alloc, field, "has", target.span, first, indent, tokens)
+        }
+        Relation::Like { target, pattern } => {
+            let first = add_doc(alloc, &target.inner, indent, tokens)?;
+            keyword_doc(alloc, pattern, "like", target.span, first, indent, tokens)
+        }
+        Relation::IsIn {
+            target,
+            entity_type,
+            in_entity,
+        } => {
+            let first = add_doc(alloc, &target.inner, indent, tokens)?;
+            match in_entity {
+                Some(entity) => is_in_doc(
+                    alloc,
+                    entity,
+                    entity_type,
+                    target.span,
+                    first,
+                    indent,
+                    tokens,
+                ),
+                None => is_doc(alloc, entity_type, target.span, first, indent, tokens),
+            }
+        }
+    }
+}
+
+// left . space . C(op) . space . b, where `left` is the document of the operand at `before`
+#[cycle(documents)]
+fn comparison_doc<'src>(
+    alloc: Global,
+    right: &Node<Add<'src>>,
+    op: RelOp,
+    before: Span,
+    left: Document<'src>,
+    indent: isize,
+    tokens: &mut [WrappedToken<'src>],
+) -> Made<'src>
+    requires { AreInOrder tokens.old }
+    ensures kept { KeepsTokens tokens.old tokens.new }
+    ensures found { Finds result (has_its_tokens (places tokens.old) (add_parts right.now.inner)) }
+    ensures shows { (o : Shown) (b : Tree Shown kind.add) → relop_text op ≡ token_value (text_of o) → IsNodeOf (add_parts right.now.inner) b
+        → ShowsBehind before.end result tokens.old tokens.new (o ∷ yield b) (doc_of left.entry · space · leaf_of (as_leaf o) · space · document indent b) }
+{
+    let sign = mark_after(alloc, rel_op_text(op), before, Document::Nil, tokens)?;
+    let second = add_doc(alloc, &right.inner, indent, tokens)?;
+    let row = vec![in alloc;
+        left,
+        Document::Text(" "),
+        sign,
+        Document::Text(" "),
+        second,
+    ]?;
+    Ok(Document::Seq(row))
+}
+
+// group(left . line . C(op) . line . nest(i, b)), where the operator is `has` or `like`
+#[cycle(documents)]
+fn keyword_doc<'src>(
+    alloc: Global,
+    right: &Node<Add<'src>>,
+    keyword: &'src str,
+    before: Span,
+    left: Document<'src>,
+    indent: isize,
+    tokens: &mut [WrappedToken<'src>],
+) -> Made<'src>
+    requires { AreInOrder tokens.old }
+    ensures kept { KeepsTokens tokens.old tokens.new }
+    ensures found { Finds result (has_its_tokens (places tokens.old) (add_parts right.now.inner)) }
+    ensures shows { (o : Shown) (b : Tree Shown kind.add) → keyword.now ≡ token_value (text_of o) → IsNodeOf (add_parts right.now.inner) b
+        → ShowsBehind before.end result tokens.old tokens.new (o ∷ yield b) (group (doc_of left.entry · line · leaf_of (as_leaf o) · line · nest indent (document indent b))) }
+{
+    let word = mark_after(alloc, keyword, before, Document::Nil, tokens)?;
+    let second = add_doc(alloc, &right.inner, indent, tokens)?.nest(alloc, indent)?;
+    let row = vec![in alloc; left, Document::Line, word, Document::Line, second]?;
+    Ok(Document::Seq(row).group(alloc)?)
+}
+
+// group(left . space . C("is") . space . nest(i, type))
+fn is_doc<'src>(
+    alloc: Global,
+    entity_type: &Node<Name<'src>>,
+    before: Span,
+    left: Document<'src>,
+    indent: isize,
+    tokens: &mut [WrappedToken<'src>],
+) -> Made<'src>
+    requires { AreInOrder tokens.old }
+    ensures kept { KeepsTokens tokens.old tokens.new }
+    ensures found { Finds result (has_its_tokens (places tokens.old) (path_parts entity_type.now.inner.path.items entity_type.now.inner.name)) }
+    ensures shows { (o : Shown) (n : Tree Shown kind.name) → codes "is" ≡ token_value (text_of o) → IsNodeOf (path_parts entity_type.now.inner.path.items entity_type.now.inner.name) n
+        → ShowsBehind before.end result tokens.old tokens.new (o ∷ yield n) (group (doc_of left.entry · space · leaf_of (as_leaf o) · space · nest indent (document indent n))) }
+{
+    let is_word = mark_after(alloc, "is", before, Document::Nil, tokens)?;
+    let type_name = name_doc(alloc, &entity_type.inner, tokens)?.nest(alloc, indent)?;
+    let row = vec![in alloc;
+        left,
+        Document::Text(" "),
+        is_word,
+        Document::Text(" "),
+        type_name,
+    ]?;
+    Ok(Document::Seq(row).group(alloc)?)
+}
+
+// group(left . space . C("is") . space . nest(i, type) . line . C("in") . space . nest(i, b))
+#[cycle(documents)]
+fn is_in_doc<'src>(
+    alloc: Global,
+    entity: &Node<Add<'src>>,
+    entity_type: &Node<Name<'src>>,
+    before: Span,
+    left: Document<'src>,
+    indent: isize,
+    tokens: &mut [WrappedToken<'src>],
+) -> Made<'src>
+    requires { AreInOrder tokens.old }
+    ensures kept { KeepsTokens tokens.old tokens.new }
+    ensures found { Finds result (has_its_tokens (places tokens.old) (path_parts entity_type.now.inner.path.items entity_type.now.inner.name) && has_its_tokens (places tokens.old) (add_parts entity.now.inner)) }
+    ensures shows { (o : Shown) (n : Tree Shown kind.name) (p : Shown) (b : Tree Shown kind.add) → codes "is" ≡ token_value (text_of o) → IsAt entity_type.now.span (yield n)
+        → IsNodeOf (path_parts entity_type.now.inner.path.items entity_type.now.inner.name) n → codes "in" ≡ token_value (text_of p) → IsNodeOf (add_parts entity.now.inner) b
+        → ShowsBehind before.end result tokens.old tokens.new (o ∷ yield n ++ p ∷ yield b)
+        (group (doc_of left.entry · space · leaf_of (as_leaf o) · space · nest indent (document indent n) · line · leaf_of (as_leaf p) · space · nest indent (document indent b))) }
+{
+    let is_word = mark_after(alloc, "is", before, Document::Nil, tokens)?;
+    let type_name = name_doc(alloc, &entity_type.inner, tokens)?.nest(alloc, indent)?;
+    let in_word = mark_after(alloc, "in", entity_type.span, Document::Nil, tokens)?;
+    let container = add_doc(alloc, &entity.inner, indent, tokens)?.nest(alloc, indent)?;
+    let row = vec![in alloc;
+        left,
+        Document::Text(" "),
+        is_word,
+        Document::Text(" "),
+        type_name,
+        Document::Line,
+        in_word,
+        Document::Text(" "),
+        container,
+    ]?;
+    Ok(Document::Seq(row).group(alloc)?)
+}
+
+/// `group(e1 . space . C(op) . line . e2 . space . C(op) . line . e3 ..)`
+#[cycle(documents)]
+pub fn add_doc<'src>(
+    alloc: Global,
+    add: &Add<'src>,
+    indent: isize,
+    tokens: &mut [WrappedToken<'src>],
+) -> Made<'src>
+    requires { AreInOrder tokens.old }
+    ensures kept { KeepsTokens tokens.old tokens.new }
+    ensures found { Finds result (has_its_tokens (places tokens.old) (add_parts add.now)) }
+    ensures shows { (t : Tree Shown kind.add) → IsNodeOf (add_parts add.now) t → Shows result tokens.old tokens.new (yield t) (document indent t) }
+{
+    let first = mult_doc(alloc, &add.initial.inner, indent, tokens)?;
+    if add.extended.is_empty() {
+        return Ok(first.group(alloc)?);
+    }
+    let mut docs = vec![in alloc; first]?;
+    let mut last = add.initial.span;
+    for (op, operand) in &add.extended {
+        docs.push(Document::Text(" "))?;
+        docs.push(mark_after(alloc, add_op_text(*op), last, Document::Nil, tokens)?)?;
+        docs.push(Document::Line)?;
+        docs.push(mult_doc(alloc, &operand.inner, indent, tokens)?)?;
+        last = operand.span;
+    }
+    Ok(Document::Seq(docs).group(alloc)?)
+}
+
+/// `group(e1 . space . C("*") . line . e2 . space . C("*") . line . e3 ..)`
+#[cycle(documents)]
+pub fn mult_doc<'src>(
+    alloc: Global,
+    mult: &Mult<'src>,
+    indent: isize,
+    tokens: &mut [WrappedToken<'src>],
+) -> Made<'src>
+    requires { AreInOrder tokens.old }
+    ensures kept { KeepsTokens tokens.old tokens.new }
+    ensures found { Finds result (has_its_tokens (places tokens.old) (mult_parts mult.now)) }
+    ensures shows { (t : Tree Shown kind.mult) → IsNodeOf (mult_parts mult.now) t → Shows result tokens.old tokens.new (yield t) (document indent t) }
+{
+    let first = unary_doc(
+        alloc,
+        &mult.initial.inner,
+        mult.initial.span,
+        indent,
+        tokens,
+    )?;
+    if mult.extended.is_empty() {
+        return Ok(first.group(alloc)?);
+    }
+    let mut docs = vec![in alloc; first]?;
+    let mut last = mult.initial.span;
+    for (_, operand) in &mult.extended {
+        docs.push(Document::Text(" "))?;
+        docs.push(mark_after(alloc, "*", last, Document::Nil, tokens)?)?;
+        docs.push(Document::Line)?;
+        docs.push(unary_doc(alloc, &operand.inner, operand.span, indent, tokens)?)?;
+        last = operand.span;
+    }
+    Ok(Document::Seq(docs).group(alloc)?)
+}
+
+/// `C(sign)` for each sign in order, then the member.
+#[cycle(documents)]
+pub fn unary_doc<'src>(
+    alloc: Global,
+    unary: &Unary<'src>,
+    span: Span,
+    indent: isize,
+    tokens: &mut [WrappedToken<'src>],
+) -> Made<'src>
+    requires { AreInOrder tokens.old }
+    ensures kept { KeepsTokens tokens.old tokens.new }
+    ensures found { Finds result (has_own (places tokens.old) Label.unary (Some span) (unary_parts unary.now) && has_its_tokens (places tokens.old) (unary_parts unary.now)) }
+    ensures shows { (t : Tree Shown kind.unary) → IsAt span (yield t) → IsNodeOf (unary_parts unary.now) t → Shows result tokens.old tokens.new (yield t) (document indent t) }
+{
+    let signs = signs_doc(alloc, unary.op, span, unary.item.span, tokens)?;
+    let member = member_doc(alloc, &unary.item.inner, indent, tokens)?;
+    Ok(signs.append(alloc, member)?)
+}
+
+/// `group(item . nest(i, accesses))`
+#[cycle(documents)]
+pub fn member_doc<'src>(
+    alloc: Global,
+    member: &Member<'src>,
+    indent: isize,
+    tokens: &mut [WrappedToken<'src>],
+) -> Made<'src>
+    requires { AreInOrder tokens.old }
+    ensures kept { KeepsTokens tokens.old tokens.new }
+    ensures found { Finds result (has_its_tokens (places tokens.old) (member_parts member.now)) }
+    ensures shows { (t : Tree Shown kind.member) → IsNodeOf (member_parts member.now) t → Shows result tokens.old tokens.new (yield t) (document indent t) }
+{
+    let item = primary_doc(alloc, &member.item.inner, member.item.span, indent, tokens)?;
+    let accesses = accesses_doc(alloc, &member.access, indent, tokens)?.nest(alloc, indent)?;
+    Ok(Document::Seq(vec![in alloc; item, accesses]?).group(alloc)?)
+}
+
+// The accesses; `line_` stands before each but the first and but a call after a field.
+#[cycle(documents)]
+fn accesses_doc<'src>(
+    alloc: Global,
+    accesses: &[Node<MemAccess<'src>>],
+    indent: isize,
+    tokens: &mut [WrappedToken<'src>],
+) -> Made<'src>
+    requires { AreInOrder tokens.old }
+    ensures kept { KeepsTokens tokens.old tokens.new }
+    ensures found { Finds result (has_its_tokens (places tokens.old) (access_items accesses.now)) }
+    ensures shows { (t : Tree Shown kind.accesses) → IsNodeOf (access_items accesses.now) t → Shows result tokens.old tokens.new (yield t) (document indent t) }
+{
+    let mut docs = Vec::new(alloc);
+    let mut before: Option<&MemAccess<'src>> = None;
+    for access in accesses {
+        push_break(&mut docs, before, &access.inner)?;
+        docs.push(access_doc(alloc, &access.inner, access.span, indent, tokens)?)?;
+        before = Some(&access.inner);
+    }
+    Ok(Document::Seq(docs))
+}
+
+/// A field, a call or an index.
+#[cycle(documents)]
+pub fn access_doc<'src>(
+    alloc: Global,
+    access: &MemAccess<'src>,
+    span: Span,
+    indent: isize,
+    tokens: &mut [WrappedToken<'src>],
+) -> Made<'src>
+    requires { AreInOrder tokens.old }
+    ensures kept { KeepsTokens tokens.old tokens.new }
+    ensures found { Finds result (has_its_tokens (places tokens.old) (access_parts access.now)) }
+    ensures shows { (t : Tree Shown kind.accesses) → IsNodeOf (branch (Label.access, Some span) (access_parts access.now) none) t → Shows result tokens.old tokens.new (yield t) (document indent t) }
+{
+    match access {
+        MemAccess::Field(field) => field_doc(alloc, field, span, tokens),
+        MemAccess::Call(arguments) => call_doc(alloc, arguments, span, indent, tokens),
+        MemAccess::Index(index) => index_doc(alloc, index, span, tokens),
+    }
+}
+
+// C("(") . nest(i, line_ . args) . line_ . C(")"), and without arguments C("(") . C(")")
+#[cycle(documents)]
+fn call_doc<'src>(
+    alloc: Global,
+    arguments: &[Node<Expr<'src>>],
+    span: Span,
+    indent: isize,
+    tokens: &mut [WrappedToken<'src>],
+) -> Made<'src>
+    requires { AreInOrder tokens.old }
+    ensures kept { KeepsTokens tokens.old tokens.new }
+    ensures found { Finds result (has_its_tokens (places tokens.old) (item_trees Label.expr expr_parts arguments.now)) }
+    ensures shows { (t : Tree Shown kind.accesses) → IsNodeOf (branch (Label.access, Some span) (leaf (codes "(") (join (item_trees Label.expr expr_parts arguments.now) (leaf (codes ")") none))) none) t → Shows result tokens.old tokens.new (yield t) (document indent t) }
+{
+    let open = mark_at_start(alloc, "(", span, Document::Nil, tokens)?;
+    let items = items_doc(alloc, arguments, indent, tokens)?;
+    let close = mark_at_end(alloc, ")", span, Document::Nil, tokens)?;
+    if arguments.is_empty() {
+        return Ok(Document::Seq(vec![in alloc; open, close]?));
+    }
+    let inside = Document::Seq(vec![in alloc; Document::LineOrNil, items]?).nest(alloc, indent)?;
+    Ok(Document::Seq(vec![in alloc; open, inside, Document::LineOrNil, close]?))
+}
+
+/// A literal, an entity, a name, a slot, or what stands between brackets.
+#[cycle(documents)]
+pub fn primary_doc<'src>(
+    alloc: Global,
+    primary: &Primary<'src>,
+    span: Span,
+    indent: isize,
+    tokens: &mut [WrappedToken<'src>],
+) -> Made<'src>
+    requires { AreInOrder tokens.old }
+    ensures kept { KeepsTokens tokens.old tokens.new }
+    ensures found { Finds result (has_its_tokens (places tokens.old) (primary_parts primary.now)) }
+    ensures shows { (t : Tree Shown kind.primary) → IsAt span (yield t) → IsNodeOf (primary_parts primary.now) t → Shows result tokens.old tokens.new (yield t) (document indent t) }
+{
+    match primary {
+        Primary::Literal(literal) => {
+            leaf_doc(alloc, literal_text(&literal.inner), literal.span, tokens)
+        }
+        Primary::Ref(entity) => ref_doc(alloc, &entity.inner, tokens),
+        Primary::Name(name) => name_doc(alloc, &name.inner, tokens),
+        Primary::Slot(slot) => leaf_doc(alloc, slot_text(slot.inner), slot.span, tokens),
+        Primary::Expr(inside) => parens_doc(alloc, inside, span, indent, tokens),
+        Primary::EList(items) => list_doc(alloc, items, span, indent, tokens),
+        Primary::RInits(inits) => record_doc(alloc, inits, span, indent, tokens),
+    }
+}
+
+// group(C("(") . nest(1, e) . C(")"))
+#[cycle(documents)]
+fn parens_doc<'src>(
+    alloc: Global,
+    inside: &Node<Expr<'src>>,
+    span: Span,
+    indent: isize,
+    tokens: &mut [WrappedToken<'src>],
+) -> Made<'src>
+    requires { AreInOrder tokens.old }
+    ensures kept { KeepsTokens tokens.old tokens.new }
+    ensures found { Finds result (has_its_tokens (places tokens.old) (expr_parts inside.now.inner)) }
+    ensures shows { (l : Shown) (t : Tree Shown kind.expr) (r : Shown) → IsAt span (yield (parens l t r)) → codes "(" ≡ token_value (text_of l) → IsAt inside.now.span (yield t) → IsNodeOf (expr_parts inside.now.inner) t → codes ")" ≡ token_value (text_of r)
+        → Shows result tokens.old tokens.new (yield (parens l t r)) (document indent (parens l t r)) }
+{
+    let open = mark_at_start(alloc, "(", span, Document::Nil, tokens)?;
+    let doc = expr_doc(alloc, &inside.inner, inside.span, indent, tokens)?;
+    let close = mark_at_end(alloc, ")", span, Document::Nil, tokens)?;
+    Ok(add_brackets(alloc, doc, open, close, 1)?.group(alloc)?)
+}
+
+// C("[") . nest(1, items) . C("]")
+#[cycle(documents)]
+fn list_doc<'src>(
+    alloc: Global,
+    items: &[Node<Expr<'src>>],
+    span: Span,
+    indent: isize,
+    tokens: &mut [WrappedToken<'src>],
+) -> Made<'src>
+    requires { AreInOrder tokens.old }
+    ensures kept { KeepsTokens tokens.old tokens.new }
+    ensures found { Finds result (has_its_tokens (places tokens.old) (item_trees Label.expr expr_parts items.now)) }
+    ensures shows { (t : Tree Shown kind.primary) → IsAt span (yield t) → IsNodeOf (variant Label.list (leaf (codes "[") (join (item_trees Label.expr expr_parts items.now) (leaf (codes "]") none))) none) t → Shows result tokens.old tokens.new (yield t) (document indent t) }
+{
+    let open = mark_at_start(alloc, "[", span, Document::Nil, tokens)?;
+    let doc = items_doc(alloc, items, indent, tokens)?;
+    let close = mark_at_end(alloc, "]", span, Document::Nil, tokens)?;
+    Ok(add_brackets(alloc, doc, open, close, 1)?)
+}
+
+// C("{") . nest(i, group(line . inits . line)) . C("}"), and of no inits C("{") . C("}")
+#[cycle(documents)]
+fn record_doc<'src>(
+    alloc: Global,
+    inits: &[Node<RecInit<'src>>],
+    span: Span,
+    indent: isize,
+    tokens: &mut [WrappedToken<'src>],
+) -> Made<'src>
+    requires { AreInOrder tokens.old }
+    ensures kept { KeepsTokens tokens.old tokens.new }
+    ensures found { Finds result (has_its_tokens (places tokens.old) (item_trees Label.rec_init init_parts inits.now)) }
+    ensures shows { (t : Tree Shown kind.primary) → IsAt span (yield t) → IsNodeOf (variant Label.fields (leaf (codes "{") (join (item_trees Label.rec_init init_parts inits.now) (leaf (codes "}") none))) none) t → Shows result tokens.old tokens.new (yield t) (document indent t) }
+{
+    let open = mark_at_start(alloc, "{", span, Document::Nil, tokens)?;
+    let items = inits_doc(alloc, inits, indent, tokens)?;
+    let close = mark_at_end(alloc, "}", span, Document::Nil, tokens)?;
+    if inits.is_empty() {
+        return Ok(Document::Seq(vec![in alloc; open, close]?));
+    }
+    let inside = Document::Seq(vec![in alloc; Document::Line, items, Document::Line]?);
+    Ok(add_brackets(alloc, inside.group(alloc)?, open, close, indent)?)
+}
+
+// Expressions joined by C(",") . line
+#[cycle(documents)]
+fn items_doc<'src>(
+    alloc: Global,
+    items: &[Node<Expr<'src>>],
+    indent: isize,
+    tokens: &mut [WrappedToken<'src>],
+) -> Made<'src>
+    requires { AreInOrder tokens.old }
+    ensures kept { KeepsTokens tokens.old tokens.new }
+    ensures found { Finds result (has_its_tokens (places tokens.old) (item_trees Label.expr expr_parts items.now)) }
+    ensures none { items.now ≡ [] → Shows result tokens.old tokens.new [] nil }
+    ensures shows { (t : Tree Shown kind.args) → IsNodeOf (item_trees Label.expr expr_parts items.now) t → Shows result tokens.old tokens.new (yield t) (document indent t) }
+{
+    let mut docs = Vec::new(alloc);
+    let mut before: Option<Span> = None;
+    for item in items {
+        docs.push(comma_before(alloc, before, tokens)?)?;
+        docs.push(expr_doc(alloc, &item.inner, item.span, indent, tokens)?)?;
+        before = Some(item.span);
+    }
+    Ok(Document::Seq(docs))
+}
+
+// Keys and values joined by C(",") . line
+#[cycle(documents)]
+fn inits_doc<'src>(
+    alloc: Global,
+    inits: &[Node<RecInit<'src>>],
+    indent: isize,
+    tokens: &mut [WrappedToken<'src>],
+) -> Made<'src>
+    requires { AreInOrder tokens.old }
+    ensures kept { KeepsTokens tokens.old tokens.new }
+    ensures found { Finds result (has_its_tokens (places tokens.old) (item_trees Label.rec_init init_parts inits.now)) }
+    ensures none { inits.now ≡ [] → Shows result tokens.old tokens.new [] nil }
+    ensures shows { (t : Tree Shown kind.inits) → IsNodeOf (item_trees Label.rec_init init_parts inits.now) t → Shows result tokens.old tokens.new (yield t) (document indent t) }
+{
+    let mut docs = Vec::new(alloc);
+    let mut before: Option<Span> = None;
+    for init in inits {
+        docs.push(comma_before(alloc, before, tokens)?)?;
+        docs.push(init_doc(alloc, &init.inner, indent, tokens)?)?;
+        before = Some(init.span);
+    }
+    Ok(Document::Seq(docs))
+}
+
+/// `key . C(":") . space . value`
+#[cycle(documents)]
+pub fn init_doc<'src>(
+    alloc: Global,
+    init: &RecInit<'src>,
+    indent: isize,
+    tokens: &mut [WrappedToken<'src>],
+) -> Made<'src>
+    requires { AreInOrder tokens.old }
+    ensures kept { KeepsTokens tokens.old tokens.new }
+    ensures found { Finds result (has_its_tokens (places tokens.old) (init_parts init.now)) }
+    ensures shows { (t : Tree Shown kind.init) → IsNodeOf (init_parts init.now) t → Shows result tokens.old tokens.new (yield t) (document indent t) }
+{
+    let key = primary_doc(alloc, &init.key.inner, init.key.span, indent, tokens)?;
+    let colon = mark_after(alloc, ":", init.key.span, Document::Nil, tokens)?;
+    let value = expr_doc(alloc, &init.value.inner, init.value.span, indent, tokens)?;
+    Ok(Document::Seq(vec![in alloc; key, colon, Document::Text(" "), value]?))
+}

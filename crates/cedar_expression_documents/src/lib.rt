@@ -1,0 +1,6 @@
+//! The documents of expressions.
+#![tactic(auto)]
+
+mod accesses;
+pub mod expressions;
+mod signs;

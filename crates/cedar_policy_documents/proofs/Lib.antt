@@ -1,0 +1,5 @@
+pub mod ScopeTrees
+pub mod PolicyParts
+pub mod PolicyRows
+pub mod FirstToken
+pub mod WholePolicies

@@ -1,0 +1,73 @@
+-- The documents of policies and their parts among the tokens of a context.
+use Rattle.std.specs.Prelude.{◌≡◌, ℤ, List, ◌∷◌, ◌++◌, Option, Some, Result, codes, None, ◌&&◌}
+use Rattle.cedar_tokens.specs.Listing.{token_value}
+use Rattle.cedar_tokens.specs.declared.token.Span.{Span}
+use Rattle.cedar_tokens.specs.declared.token.WrappedToken.{WrappedToken}
+use Rattle.cedar_grammar.specs.Trees.{Label, leaf, none}
+use Rattle.cedar_grammar.specs.TypedTrees.{Tree, PartKind, Clause, part_parts, tree_map, part_yield, add, variable, expr}
+use Rattle.cedar_layout.specs.Layout.{Doc}
+use Rattle.cedar_layout.specs.Lookups.{Shown}
+use Rattle.cedar_layout.specs.declared.layout.Document.{Document}
+use Rattle.cedar_tree.specs.Erased.{Erased, ident_tree, value_parts, type_parts, operator_parts, expr_parts, node}
+use Rattle.cedar_tree.specs.declared.tree.Annotation.{Annotation}
+use Rattle.cedar_tree.specs.declared.tree.Cond.{Cond}
+use Rattle.cedar_tree.specs.declared.tree.Name.{Name}
+use Rattle.cedar_tree.specs.declared.tree.Node.{Node}
+use Rattle.cedar_tree.specs.declared.tree.Policy.{Policy}
+use Rattle.cedar_tree.specs.declared.tree.VariableDef.{VariableDef}
+use Rattle.cedar_canonical.specs.Leaves.{part_map}
+use Rattle.cedar_canonical.specs.Table.{part_table, body, is_bare}
+use Rattle.cedar_canonical.specs.Table as table
+use Rattle.cedar_leaf_documents.specs.NodeDocuments.{text_of, kind_of_shown, as_leaf, nodes_of, document, IsAt, Shows}
+
+-- a part of a policy outside expressions with these parts is the tree of these tokens
+abbrev pub IsPartOf : {k : PartKind} → Erased → Clause Shown k → Type 0
+IsPartOf inner t = inner ≡ nodes_of (part_parts kind_of_shown t)
+
+-- the parts of the nodes that policies hold
+abbrev pub variable_parts : VariableDef → Erased
+variable_parts v = ident_tree v.variable (type_parts v.entity_type (operator_parts v.ineq))
+
+abbrev pub annotation_parts : Annotation → Erased
+annotation_parts a = leaf (codes "@") (ident_tree a.key (value_parts a.value))
+
+abbrev pub cond_parts : Cond → Erased
+cond_parts c = ident_tree c.cond (leaf (codes "{") (node Label.expr c.expr.span (expr_parts c.expr.inner) (leaf (codes "}") none)))
+
+-- where a type stands, or the word before it where there is no type
+abbrev span_of_type : Option (Node Name) → Span → Span
+span_of_type None word = word
+span_of_type (Some n) word = n.span
+
+-- what stands before the operator of a variable
+abbrev pub span_before : VariableDef → Span
+span_before v = span_of_type v.entity_type v.variable.span
+
+-- the table's document of a part's tree of tokens
+abbrev pub part_document : {k : PartKind} → ℤ → Clause Shown k → Doc
+part_document i t = part_table i (part_map as_leaf t)
+
+-- a variable, its operator, and what it is compared with
+abbrev pub compared_document : ℤ → Doc → Shown → Tree Shown add → Doc
+compared_document i left o t = table.comparison i left (as_leaf o) (document i t)
+
+-- the variables of a scope, and `next` behind each comma without trailing text
+abbrev pub variables_document : ℤ → Doc → Clause Shown variable → Shown → Clause Shown variable → Shown → Clause Shown variable → Doc
+variables_document i next p c a d r = table.variables next (part_document i p) (as_leaf c) (part_document i a) (as_leaf d) (part_document i r)
+
+-- the same as the table lays them out between the scope's brackets
+abbrev pub scope_document : ℤ → Clause Shown variable → Shown → Clause Shown variable → Shown → Clause Shown variable → Doc
+scope_document i p c a d r =
+    table.scope i (is_bare (part_map as_leaf p) && is_bare (part_map as_leaf a) && is_bare (part_map as_leaf r)) (part_document i p) (as_leaf c) (part_document i a) (as_leaf d) (part_document i r)
+
+-- the document of an expression between braces: the leading lines of its first token, and then the rest
+abbrev pub body_document : ℤ → Tree Shown expr → Doc
+body_document i t = body i (tree_map as_leaf t)
+
+-- the variables of a policy and the commas between them are shown in the document that these have
+abbrev pub ShowsScope : {E : Type 0} → Result Document E → List WrappedToken → List WrappedToken → Policy → (Clause Shown variable → Shown → Clause Shown variable → Shown → Clause Shown variable → Doc) → Type 0
+ShowsScope result old new policy doc = (p a r : Clause Shown variable) (c d : Shown) → IsPartOf (variable_parts policy.variables.0.inner) p → IsAt policy.variables.0.span (part_yield p)
+    → IsPartOf (variable_parts policy.variables.1.inner) a → IsAt policy.variables.1.span (part_yield a)
+    → IsPartOf (variable_parts policy.variables.2.inner) r → IsAt policy.variables.2.span (part_yield r)
+    → codes "," ≡ token_value (text_of c) → codes "," ≡ token_value (text_of d)
+    → Shows result old new (part_yield p ++ (c ∷ (part_yield a ++ (d ∷ part_yield r)))) (doc p c a d r)
