@@ -1,6 +1,6 @@
 use Rattle.std.proofs.Common.{◌≡◌, List, ℕ, ◌++◌, length}
 use Rattle.std.specs.Io.KnownBytes.{Appends}
-use Rattle.cedar_policy_formatter.proofs.fmt.stream.write_all.Given as goal
+use Rattle.cedar_streams.proofs.writing.write_until_failure.Given as goal
 
 abbrev pub invariant-loop-rest : goal.invariant-loop-rest
 invariant-loop-rest g l = (l.output.has_failed ≡ l.fn.output.has_failed)

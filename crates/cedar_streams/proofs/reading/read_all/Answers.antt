@@ -4,7 +4,7 @@ use Rattle.std.proofs.Math.Seq.{take-add}
 use Rattle.std.proofs.lemmas.List.{with_items_is, places}
 use Rattle.std.specs.Io.KnownBytes.{Consumes}
 use Rattle.std.proofs.KnownBytes.{Consumes-trans}
-use Rattle.cedar_policy_formatter.proofs.fmt.stream.read_all.Goals as goal
+use Rattle.cedar_streams.proofs.reading.read_all.Goals as goal
 
 -- what was read into ys behind its first f bytes, which are those of xs, stands after them
 read_on : (a b c : Option (List ℕ)) (xs room ys : List ℕ) (f n : ℕ) → take f room ≡ take f xs → take f ys ≡ take f room → Consumes a b (take f xs) → Consumes b c (take n (drop f ys)) → Consumes a c (take (f + n) ys)

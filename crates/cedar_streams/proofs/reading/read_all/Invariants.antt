@@ -1,6 +1,6 @@
 use Rattle.std.proofs.Common.{◌≡◌, ◌-◌, ◌^◌, ◌≤◌, take, vec_len, vec_items}
 use Rattle.std.specs.Io.KnownBytes.{Consumes}
-use Rattle.cedar_policy_formatter.proofs.fmt.stream.read_all.Given as goal
+use Rattle.cedar_streams.proofs.reading.read_all.Given as goal
 
 abbrev pub invariant-loop-bytes : goal.invariant-loop-bytes
 invariant-loop-bytes g l = (l.input.has_failed ≡ l.fn.input.has_failed) × (l.filled ≤ vec_len l.bytes)

@@ -2,7 +2,7 @@
 ghost use Rattle.std.specs.Prelude.{◌≡◌, IsTrue, IsFalse, OnOk, OnErr};
 ghost use Rattle.std.specs.Io.{ReadsAtMost, WritesAtMost};
 ghost use Rattle.std.specs.Io.KnownBytes.{Keeps, ReadConsumes, WriteAppends};
-ghost use Rattle.cedar_policy_formatter.specs.Devices.{device_of, has_failed, IsFailedWrite};
+ghost use Rattle.cedar_streams.specs.Devices.{device_of, has_failed, IsFailedWrite};
 
 use std::io;
 use std::io::{Read, Write};

@@ -1,0 +1,14 @@
+-- Devices under watch.
+use Rattle.std.specs.Prelude.{ℕ, List, Bool, ◌≡◌, ◌<◌, length, Result, MatchResult, ⊤}
+use Rattle.cedar_streams.specs.declared.watched.Watched.{Watched}
+
+-- the device that is watched, and whether a read or a write through this failed
+abbrev pub device_of : {D : Type 0} → Watched D → D
+device_of w = w.device
+
+abbrev pub has_failed : {D : Type 0} → Watched D → Bool
+has_failed w = w.has_failed
+
+-- the write is refused, or takes nothing of some bytes
+abbrev pub IsFailedWrite : {E : Type 0} → Result ℕ E → List ℕ → Type 0
+IsFailedWrite r buf = MatchResult r (λ n. (n ≡ 0) × (0 < length buf)) (λ _. ⊤)
