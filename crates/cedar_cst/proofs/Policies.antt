@@ -6,7 +6,7 @@ use Rattle.std.proofs.Common.{refl, sym, ap, ◌∙◌, inl, inr}
 use Rattle.cedar_tokens.specs.declared.token.Span.{Span}
 use Rattle.cedar_grammar.specs.declared.kind.Kind.{Kind}
 use Rattle.cedar_grammar.specs.declared.kind.Kind.TheVariants as K
-use Rattle.cedar_grammar.specs.Kinds.{is, begins}
+use Rattle.cedar_grammar.specs.Kinds.{is, begins, is_effect}
 use Rattle.cedar_grammar.specs.Trees.{Label, Forest, none, leaf, branch, join}
 use Rattle.cedar_grammar.specs.TrailingCommas.{closes_next}
 use Rattle.cedar_grammar.specs.Reader.Reading.{Answer, Reader, done, stuck, after, choice, both, skip, tree, one, many, repeat}
@@ -15,8 +15,8 @@ use Rattle.cedar_grammar.specs.Reader.Lines.{annotation_rule, scoped, action, co
 use Rattle.cedar_grammar.proofs.ReadingLaws.{both_first, both_done, both_fails, both_then_fails, tree_done, tree_fails, many_step, many_fails, many_end}
 use Rattle.cedar_tree.specs.Erased.{Erased, ident_tree, annotation_trees, cond_trees, policy_parts, policy_trees}
 use Rattle.cedar_tree.specs.NodeTrees.{span_of}
-use Rattle.cedar_reading.specs.Reading.{kind, flat, Fails, Stands, StandsMany, GivesMany, ClosesWith, node_trees, ident_parts, annotation_parts}
-use Rattle.cedar_reading.specs.ReadingParts.{is_effect, variable_parts, scope_rule}
+use Rattle.cedar_reading.specs.Reading.{kind, flat, Fails, Stands, StandsMany, GivesMany, FollowedBy, node_trees, ident_parts, annotation_parts}
+use Rattle.cedar_reading.specs.ReadingParts.{variable_parts, scope_rule}
 use Rattle.cedar_tree.specs.NodeLists.{item_trees}
 use Rattle.cedar_cst.specs.ReadingSet.{cond_parts}
 use Rattle.cedar_reading.specs.Lexemes.{nodes_of}
@@ -33,14 +33,14 @@ use Rattle.cedar_expressions.proofs.Scopes.{both_assoc, closing, first_on, secon
 
 -- Nodes in a row, and the token that closes them.
 module _ {X : Type 0} (l : Label) (parts : X → Erased) (k : Kind) (P : Reader Lexeme) (ts : List Lexeme) where
-  pub many_closed_fails : (read : Result (Vec (Node X) Global × Bor (List Lexeme)) Refusal) (e : Refusal) → GivesMany l parts read (P ts) → ClosesWith k read (Err e) → Fails e (both P (one kind k) ts)
-  many_closed_fails (Ok x) e g c = passes e (one kind k x.1.now) _ c (λ b r i. both_then_fails P (one kind k) ts g.0 x.1.now b r g.1 i)
-  many_closed_fails (Err f) e g c = rw c (passes f (P ts) _ g (λ b r i. both_fails P (one kind k) ts b r i))
+  pub many_followed_fails : (read : Result (Vec (Node X) Global × Bor (List Lexeme)) Refusal) (e : Refusal) → GivesMany l parts read (P ts) → FollowedBy k read (Err e) → Fails e (both P (one kind k) ts)
+  many_followed_fails (Ok x) e g c = passes e (one kind k x.1.now) _ c (λ b r i. both_then_fails P (one kind k) ts g.0 x.1.now b r g.1 i)
+  many_followed_fails (Err f) e g c = rw c (passes f (P ts) _ g (λ b r i. both_fails P (one kind k) ts b r i))
 
-  pub many_closed_done : (read : Result (Vec (Node X) Global × Bor (List Lexeme)) Refusal) (y : (Vec (Node X) Global × ℕ) × Bor (List Lexeme)) → GivesMany l parts read (P ts) → ClosesWith k read (Ok y)
+  pub many_followed_done : (read : Result (Vec (Node X) Global × Bor (List Lexeme)) Refusal) (y : (Vec (Node X) Global × ℕ) × Bor (List Lexeme)) → GivesMany l parts read (P ts) → FollowedBy k read (Ok y)
       → (f : Forest Label Lexeme) × (t : Lexeme) × (middle : List Lexeme) × (P ts ≡ done f middle) × (both P (one kind k) ts ≡ done (join f (leaf t none)) y.1.now) × (t.kind ≡ k) × StandsMany (node_trees l parts y.0.0.items) f × (y.0.1 ≡ t.span.end)
-  many_closed_done (Ok x) y g c = (g.0, c.1, x.1.now, g.1, both_done P (one kind k) ts g.0 x.1.now (leaf c.1 none) y.1.now g.1 c.2, c.3, rw c.0 g.2, c.4)
-  many_closed_done (Err f) y g c = absurd c
+  many_followed_done (Ok x) y g c = (g.0, c.1, x.1.now, g.1, both_done P (one kind k) ts g.0 x.1.now (leaf c.1 none) y.1.now g.1 c.2, c.3, rw c.0 g.2, c.4)
+  many_followed_done (Err f) y g c = absurd c
 
 -- No closing bracket begins a row of nodes.
 opens_turn : (t : List Lexeme → Bool) (l : Label) (P : Reader Lexeme) (n : ℕ) (ts : List Lexeme) (f : Forest Label Lexeme) (r : List Lexeme) → (b : Bool) → t ts ≡ b → (a : Answer Lexeme) → P ts ≡ a

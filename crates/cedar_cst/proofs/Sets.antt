@@ -3,13 +3,12 @@ use Rattle.std.specs.Prelude.{◌≡◌, ◌==◌, ℕ, suc, ◌||◌, Bool, tru
 use Rattle.std.proofs.Common.{refl, sym, ap, ◌∙◌, inl, inr, arith}
 use Rattle.std.proofs.lemmas.Bool.Decides.{nat_tests}
 use Rattle.cedar_grammar.specs.declared.kind.Kind.TheVariants as K
-use Rattle.cedar_grammar.specs.Kinds.{is, begins}
+use Rattle.cedar_grammar.specs.Kinds.{is, begins, is_effect}
 use Rattle.cedar_grammar.specs.Trees.{Label, Forest, none, branch}
 use Rattle.cedar_grammar.specs.Reader.Reading.{Answer, Reader, done, stuck, tree, repeat}
 use Rattle.cedar_grammar.proofs.ReadingLaws.{tree_done, tree_fails, read_end, read_fails}
 use Rattle.cedar_tree.specs.Erased.{policy_parts}
 use Rattle.cedar_reading.specs.Reading.{kind, Fails}
-use Rattle.cedar_reading.specs.ReadingParts.{is_effect}
 use Rattle.cedar_cst.specs.ReadingSet.{GivesSet}
 use Rattle.cedar_reading.specs.declared.lexeme.Lexeme.{Lexeme}
 use Rattle.cedar_reading.specs.declared.reading.Refusal.{Refusal}

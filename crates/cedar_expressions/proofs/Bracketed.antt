@@ -15,7 +15,7 @@ use Rattle.cedar_grammar.proofs.ReadingLaws.{both_done, both_fails, both_then_fa
 use Rattle.cedar_tree.specs.Erased.{Erased, variant, access_parts, primary_parts}
 use Rattle.cedar_reading.specs.Lexemes.{nodes_of}
 use Rattle.cedar_tree.specs.NodeTrees.{is_node, span_of}
-use Rattle.cedar_reading.specs.Reading.{kind, Fails, Stands, PassesOn, ClosesWith, GivesNode}
+use Rattle.cedar_reading.specs.Reading.{kind, Fails, Stands, PassesOn, FollowedBy, GivesNode}
 use Rattle.cedar_nodes.specs.ReadingItems.{StandsItems, GivesItems}
 use Rattle.cedar_tree.specs.NodeLists.{item_trees}
 use Rattle.cedar_reading.specs.ReadingParts.{Makes}
@@ -86,7 +86,7 @@ module _ {X : Type 0} (l : Label) (parts : X → Erased) (x z : List ℕ) where
     enclosed_reader = both (one kind a) (both P (one kind b))
 
     pub enclosed_gives : (read : Result (Vec (Node X) Global × Bor (List Lexeme)) Refusal) (closed : Result ((Vec (Node X) Global × ℕ) × Bor (List Lexeme)) Refusal) (ts rest : List Lexeme) (o : Lexeme) → one kind a ts ≡ done (leaf o none) rest → o.kind ≡ a
-        → GivesItems l parts read (P rest) → ClosesWith b read closed → GivesEnclosed o.span.start closed (enclosed_reader ts)
+        → GivesItems l parts read (P rest) → FollowedBy b read closed → GivesEnclosed o.span.start closed (enclosed_reader ts)
     enclosed_gives (Ok v) (Ok y) ts rest o e h g c = (
       leaf o (join g.0 (leaf c.1 none)),
       both_done (one kind a) (both P (one kind b)) ts (leaf o none) rest (join g.0 (leaf c.1 none)) y.1.now e (both_done P (one kind b) rest g.0 v.1.now (leaf c.1 none) y.1.now g.1 c.2),

@@ -9,7 +9,7 @@ use Rattle.cedar_grammar.specs.Trees.{Label, Forest, none, leaf, branch}
 use Rattle.cedar_grammar.specs.Reader.Reading.{Answer, Reader, done, stuck, choice, both, skip, tree, one}
 use Rattle.cedar_grammar.proofs.ReadingLaws.{tree_done, tree_fails, both_first, both_done, both_fails, both_then_fails, choice_yes, choice_no, token_yes, token_no, token_end, onto}
 use Rattle.cedar_tree.specs.Erased.{expr_parts, add_parts, primary_parts}
-use Rattle.cedar_reading.specs.Reading.{kind, Stands, PassesOn, ClosesWith, GivesNode, GivesBehind, first_place, name_parts}
+use Rattle.cedar_reading.specs.Reading.{kind, Stands, PassesOn, FollowedBy, GivesNode, GivesBehind, first_place, name_parts}
 use Rattle.cedar_reading.specs.ReadingParts.{Makes}
 use Rattle.cedar_nodes.specs.ReadingExprs.{IsIfOf, IsParensOf, IsInitOf, IsTyped, GivesTypeTest}
 use Rattle.cedar_tree.specs.NodeLists.{init_parts}
@@ -25,7 +25,7 @@ use Rattle.cedar_reading.proofs.LeafTexts.{from_to}
 use Rattle.cedar_reading.proofs.Steps.{passes, token_at, first_begins, is_itself}
 use Rattle.cedar_reading.proofs.Rows.{row_token, row_node, row_nodes, row_more, row_parts, row_span}
 use Rattle.cedar_expressions.proofs.Bracketed.{row_variant}
-use Rattle.cedar_reading.proofs.Closed.{closed_fails, closed_done}
+use Rattle.cedar_reading.proofs.Followed.{followed_fails, followed_done}
 use Rattle.cedar_expressions.proofs.Scopes.{both_assoc}
 
 -- the first leaf is the first token
@@ -82,10 +82,10 @@ module _ (E : Reader Lexeme) where
   parens_fails ts rest o b r e d = tree_fails Label.primary _ ts b r (tree_fails Label.parens _ ts b r (both_then_fails (one kind K.LParen) (both E (one kind K.RParen)) ts (leaf o none) rest b r e d))
 
   pub parens_gives : (read : Result (Node Expr.Expr × Bor (List Lexeme)) Refusal) (closed : Result ((Node Expr.Expr × ℕ) × Bor (List Lexeme)) Refusal) (result : Result (Node Primary.Primary × Bor (List Lexeme)) Refusal) (ts rest : List Lexeme) (o : Lexeme)
-      → one kind K.LParen ts ≡ done (leaf o none) rest → o.kind ≡ K.LParen → GivesNode Label.expr expr_parts read (E rest) → ClosesWith K.RParen read closed → PassesOn closed result → Makes (IsParensOf o.span.start) closed result
+      → one kind K.LParen ts ≡ done (leaf o none) rest → o.kind ≡ K.LParen → GivesNode Label.expr expr_parts read (E rest) → FollowedBy K.RParen read closed → PassesOn closed result → Makes (IsParensOf o.span.start) closed result
       → GivesNode Label.primary primary_parts result (parens_reader ts)
   parens_gives read (Ok y) (Ok n) ts rest o e h g c p m =
-      let q = closed_done Label.expr expr_parts K.RParen E rest read y g c in
+      let q = followed_done Label.expr expr_parts K.RParen E rest read y g c in
       let f : Forest Label Lexeme = leaf o (branch Label.expr q.0 (leaf q.1 none)) in (
         branch Label.parens f none,
         tree_done Label.primary _ ts _ y.1.now (tree_done Label.parens _ ts f y.1.now (both_done (one kind K.LParen) (both E (one kind K.RParen)) ts (leaf o none) rest _ y.1.now e q.2))
@@ -95,7 +95,7 @@ module _ (E : Reader Lexeme) where
       )
   parens_gives read (Ok y) (Err f) ts rest o e h g c p m = rw p tt
   parens_gives read (Err f) (Ok n) ts rest o e h g c p m = absurd p
-  parens_gives read (Err f) (Err q) ts rest o e h g c p m = rw p (passes f _ _ (closed_fails Label.expr expr_parts K.RParen E rest read f g c) (λ b r i. parens_fails ts rest o b r e i))
+  parens_gives read (Err f) (Err q) ts rest o e h g c p m = rw p (passes f _ _ (followed_fails Label.expr expr_parts K.RParen E rest read f g c) (λ b r i. parens_fails ts rest o b r e i))
 
   -- an entry of a record; P reads its key
   module _ (P : Reader Lexeme) where

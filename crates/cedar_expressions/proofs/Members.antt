@@ -15,7 +15,7 @@ use Rattle.cedar_tree.specs.declared.tree.Node.{Node}
 use Rattle.cedar_tree.specs.declared.tree.Primary as Primary
 use Rattle.cedar_tree.specs.declared.tree.MemAccess as MemAccess
 use Rattle.cedar_reading.proofs.Operands.{AccessesRead, accesses_next, accesses_stuck, one_access, grown}
-use Rattle.cedar_reading.proofs.Accesses.{turn_fails, turn_plain, turn_called, turn_called_fails, two_accesses}
+use Rattle.cedar_reading.proofs.AccessLaws.{turn_fails, turn_plain, turn_called, turn_called_fails, two_accesses}
 use Rattle.cedar_expressions.proofs.Depths.{depth_takes}
 use Rattle.cedar_expressions.proofs.Primaries.{begins_turn}
 

@@ -17,15 +17,21 @@ use cedar_nodes::nodes::{
     is_node, like_node, list_node, lone_primary, lone_relation, member_node, mult_node, or_expr,
     or_node, parens_node, record_node, unary_node, with_sign, with_type,
 };
-use cedar_reading::lexeme::Lexeme;
-use cedar_reading::reading::{
-    Parsed, begins, closed_by, expect, keep, past, refuse, skip, start_of, too_deep,
+use cedar_reading::accesses::{
+    begins_access, begins_call, parse_access, parse_has_field, parse_pattern,
 };
-use cedar_reading::words::{
-    begins_access, begins_bracket, begins_call, begins_comparison, begins_expression,
-    begins_identifier, begins_key, entity_node, is_lone_variable, name_primary, parse_access,
-    parse_comparison_sign, parse_has_field, parse_key, parse_literal, parse_path, parse_pattern,
-    parse_words, past_sum_sign, read_signs, signed_start,
+use cedar_reading::lexeme::Lexeme;
+use cedar_reading::literals::parse_literal;
+use cedar_reading::names::{
+    begins_identifier, begins_key, entity_node, is_lone_variable, name_primary, parse_key,
+    parse_path, parse_words,
+};
+use cedar_reading::reading::{
+    Parsed, begins, begins_bracket, begins_expression, expect, followed_by, keep, past, refuse,
+    skip, start_of, too_deep,
+};
+use cedar_reading::signs::{
+    begins_comparison, parse_comparison_sign, past_sum_sign, read_signs, signed_start,
 };
 use cedar_tree::tree::{
     Add, And, Expr, MemAccess, Member, Mult, MultOp, Name, Node, Or, Primary, RecInit, RelOp,
@@ -333,7 +339,7 @@ fn parse_call<'t, 'src>(
         return Err(too_deep(tokens));
     }
     let read = parse_exprs(alloc, rest, depth - 1);
-    call_node(open.span.start, closed_by(read, Kind::RParen))
+    call_node(open.span.start, followed_by(read, Kind::RParen))
 }
 
 // Expressions with commas between them, and perhaps one behind the last; or none.
@@ -370,15 +376,15 @@ fn parse_bracket<'t, 'src>(
     let start = start_of(tokens);
     if let Some(after) = past(tokens, Kind::LParen) {
         let read = parse_expr(alloc, after, depth);
-        return parens_node(alloc, start, closed_by(read, Kind::RParen));
+        return parens_node(alloc, start, followed_by(read, Kind::RParen));
     }
     if let Some(after) = past(tokens, Kind::LBracket) {
         let read = parse_exprs(alloc, after, depth);
-        return list_node(start, closed_by(read, Kind::RBracket));
+        return list_node(start, followed_by(read, Kind::RBracket));
     }
     let (_, rest) = expect(tokens, Kind::LBrace)?;
     let read = parse_inits(alloc, rest, depth);
-    record_node(start, closed_by(read, Kind::RBrace))
+    record_node(start, followed_by(read, Kind::RBrace))
 }
 
 // Entries of a record with commas between them, and perhaps one behind the last; or none.
@@ -412,6 +418,6 @@ fn parse_init<'t, 'src>(
     ensures shorter { IfOk result (λ x. length x.1.now < length tokens.now) }
     ensures reads { GivesNode Label.rec_init init_parts result (at_depth (suc depth) init tokens.now) }
 {
-    let ((key, _), rest) = closed_by(parse_key(alloc, tokens), Kind::Colon)?;
+    let ((key, _), rest) = followed_by(parse_key(alloc, tokens), Kind::Colon)?;
     init_node(key, parse_expr(alloc, rest, depth))
 }

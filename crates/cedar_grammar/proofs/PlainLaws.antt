@@ -6,7 +6,7 @@ use Rattle.cedar_grammar.proofs.KindSets.{apart, and_left, and_right, not_true, 
 use Rattle.cedar_grammar.specs.declared.kind.Kind.{Kind}
 use Rattle.cedar_grammar.specs.declared.kind.Kind.TheVariants as K
 use Rattle.cedar_grammar.specs.Kinds.{is, code, is_variable, begins, is_closing}
-use Rattle.cedar_grammar.specs.Trees.{Label, Forest, none, leaf, branch, yield, join, policies}
+use Rattle.cedar_grammar.specs.Trees.{Label, Forest, none, leaf, yield, join}
 use Rattle.cedar_grammar.specs.Trees as L
 use Rattle.cedar_grammar.specs.Languages.{Lang, Many, no_more, one_more}
 use Rattle.cedar_grammar.specs.Grammar as G

@@ -1,5 +1,5 @@
 -- Each policy of the grammar, without trailing commas, is that of a typed tree.
-use Rattle.std.specs.Prelude.{◌≡◌, ℕ, false, ◌||◌, IsTrue, List, [], ◌∷◌}
+use Rattle.std.specs.Prelude.{◌≡◌, ℕ, false, IsTrue, List, [], ◌∷◌}
 use Rattle.std.proofs.Common.{refl, ap, ◌∙◌, inl, inr}
 use Rattle.cedar_grammar.specs.declared.kind.Kind.{Kind}
 use Rattle.cedar_grammar.specs.declared.kind.Kind.TheVariants as K
@@ -11,7 +11,7 @@ use Rattle.cedar_grammar.specs.Grammar as G
 use Rattle.cedar_grammar.specs.TrailingCommas.{without_trailing}
 use Rattle.cedar_grammar.specs.TypedTrees as T
 use Rattle.cedar_grammar.specs.TypedTrees.{PartKind, Clause, parts, part_parts, policy_trees, set_tree}
-use Rattle.cedar_grammar.specs.Kinds.{is_word}
+use Rattle.cedar_grammar.specs.Kinds.{is_word, is_effect, is_cond_word}
 use Rattle.cedar_grammar.proofs.FittingLeaves.{PartFits, is_atom}
 use Rattle.std.specs.List.{AllByRecursion}
 use Rattle.cedar_grammar.proofs.KindSets.{within, within_at}
@@ -161,7 +161,7 @@ module _ {A : Type 0} (kind : A → Kind) where
           ap (without_trailing kind) (word_then g u v i k c j m ∙ ap (branch L.ident (leaf k none)) (one_then v p q l r l' ∙ ap (leaf l) (node_then q x y b.0 L.expr s b.1 ∙ ap (branch L.expr b.0) t'))) ∙ behind k (leaf l (branch L.expr b.0 (leaf t none)))
               ∙ ap (branch L.ident (leaf k none)) (kept kind l L.expr b.0 (leaf t none)
               ∙ ap (λ z. leaf l (branch L.expr z (without_trailing kind (leaf t none)))) b.2.1 ∙ ap (λ z. leaf l (branch L.expr (parts kind b.2.0) z)) (lone kind t)),
-          (within_at (λ k. is K.When k || is K.Unless k) is_atom refl (kind k) n, h, b.2.2, h'),
+          (within_at is_cond_word is_atom refl (kind k) n, h, b.2.2, h'),
         ),
       )
 
@@ -215,7 +215,7 @@ module _ {A : Type 0} (kind : A → Kind) where
         (
           T.policy_of tn.0 k l tp.2.0 c ta.2.0 o tr.2.0 q tc.0 s,
           ap (without_trailing kind) d1 ∙ tn.1 ∙ ap (λ z. join (part_parts kind tn.0) (without_trailing kind z)) word ∙ ap (join (part_parts kind tn.0)) (behind k v2 ∙ ap (branch L.ident (leaf k none)) inside),
-          (tn.2, within_at (λ k. is K.Permit k || is K.Forbid k) is_atom refl (kind k) n, hl, tp.2.2, hc, ta.2.2, ho, tr.2.2, hq, tc.2, hs),
+          (tn.2, within_at is_effect is_atom refl (kind k) n, hl, tp.2.2, hc, ta.2.2, ho, tr.2.2, hq, tc.2, hs),
         ),
       )
 

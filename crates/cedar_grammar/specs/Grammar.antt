@@ -3,7 +3,7 @@
 -- A token is a leaf; every other part is a tree of its label. A path that is called is a name and then an access.
 use Rattle.std.specs.Prelude.{◌≡◌, ℕ, zero, suc, Bool, true, false, ◌||◌, IsTrue, List}
 use Rattle.cedar_grammar.specs.declared.kind.Kind.{Kind}
-use Rattle.cedar_grammar.specs.Kinds.{is, is_word, is_ident, is_comparison, is_boolean, is_variable}
+use Rattle.cedar_grammar.specs.Kinds.{is, is_word, is_ident, is_comparison, is_boolean, is_variable, is_effect, is_cond_word}
 use Rattle.cedar_grammar.specs.Trees.{Label, Forest, yield}
 use Rattle.cedar_grammar.specs.Languages.{Lang, ◌·◌, ◌∪◌, Many, Maybe, Tree, Never, Of}
 
@@ -162,11 +162,11 @@ module _ {A : Type 0} (kind : A → Kind) where
 
   -- Cond = ('when'|'unless') '{' Expr '}'
   abbrev pub Cond : ℕ → Lang A
-  Cond d = Tree Label.condition (Word (λ k. is Kind.When k || is Kind.Unless k) · One Kind.LBrace · Expr d · One Kind.RBrace)
+  Cond d = Tree Label.condition (Word is_cond_word · One Kind.LBrace · Expr d · One Kind.RBrace)
 
   -- Policy = {Annotation} ('permit'|'forbid') '(' Principal ',' Action ',' Resource [','] ')' {Cond} ';'
   abbrev pub Policy : ℕ → Lang A
-  Policy d = Tree Label.policy (Many Annotation · Word (λ k. is Kind.Permit k || is Kind.Forbid k)
+  Policy d = Tree Label.policy (Many Annotation · Word is_effect
       · One Kind.LParen · Principal · One Kind.Comma · Action · One Kind.Comma · Resource · Maybe (One Kind.Comma) · One Kind.RParen
       · Many (Cond d) · One Kind.SemiColon)
 

@@ -1,6 +1,7 @@
 -- Kinds of tokens, and sets of them.
-use Rattle.std.specs.Prelude.{ℕ, Bool, false, ◌||◌, ◌&&◌, not, nat_eq, nat_lt, List, [], ◌∷◌}
+use Rattle.std.specs.Prelude.{ℕ, Bool, false, ◌||◌, nat_eq, List, [], ◌∷◌}
 use Rattle.cedar_grammar.specs.declared.kind.Kind.{Kind}
+use Rattle.cedar_grammar.specs.declared.kind.Words.{Words}
 use Rattle.cedar_grammar.specs.declared.kind.Kind.TheVariants.{True, False, If, Then, Else, In, Is, Like, Has, Permit, Forbid, When, Unless, Principal, Action, Resource, Context, Identifier, PrincipalSlot, ResourceSlot, Number, Str, At, Dot, Comma, SemiColon, Colon, DoubleColon, LParen, RParen, LBrace, RBrace, LBracket, RBracket, Equal, NotEqual, Lt, Le, Gt, Ge, Or, And, Add, Dash, Mul, Div, Modulo, Neg}
 
 -- a number for each kind
@@ -58,14 +59,6 @@ code Neg = 47
 abbrev pub is : Kind → Kind → Bool
 is k x = nat_eq (code x) (code k)
 
--- a keyword or an identifier
-abbrev pub is_word : Kind → Bool
-is_word x = nat_lt (code x) 18
-
--- every word but true false if then else in is like has
-abbrev pub is_ident : Kind → Bool
-is_ident x = is_word x && not (nat_lt (code x) 9)
-
 -- < <= > >= != == in
 abbrev pub is_comparison : Kind → Bool
 is_comparison x = is Lt x || is Le x || is Gt x || is Ge x || is NotEqual x || is Equal x || is In x
@@ -76,6 +69,29 @@ is_boolean x = is True x || is False x
 -- principal action resource context
 abbrev pub is_variable : Kind → Bool
 is_variable x = is Principal x || is Action x || is Resource x || is Context x
+
+-- permit forbid
+abbrev pub is_effect : Kind → Bool
+is_effect x = is Permit x || is Forbid x
+
+-- when unless
+abbrev pub is_cond_word : Kind → Bool
+is_cond_word x = is When x || is Unless x
+
+-- every word but true false if then else in is like has
+abbrev pub is_ident : Kind → Bool
+is_ident x = is_variable x || is_effect x || is_cond_word x || is Identifier x
+
+-- a keyword or an identifier
+abbrev pub is_word : Kind → Bool
+is_word x = is_ident x || is_boolean x || is If x || is Then x || is Else x || is In x || is Is x || is Like x || is Has x
+
+-- the kinds of these words
+abbrev pub set_of : Words → Kind → Bool
+set_of Words.Identifier = is_ident
+set_of Words.Any = is_word
+set_of Words.Effect = is_effect
+set_of Words.Condition = is_cond_word
 
 -- ) ] }
 abbrev pub is_closing : Kind → Bool

@@ -18,9 +18,3 @@ pub record IsFirstTooLarge (text : List ℕ) (at : ℕ) : Type 0 where
   pub place : at ≡ sum_by length before
   pub large : is_too_large number ≡ true
   pub first : list_any is_too_large before ≡ false
-
--- the text splits, and no number of it is above the limit
-pub record HasFittingNumbers (text : List ℕ) : Type 0 where
-  pub units : List (List ℕ)
-  pub split : SplitsInto text units
-  pub fitting : list_any is_too_large units ≡ false

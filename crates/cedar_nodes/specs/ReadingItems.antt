@@ -11,7 +11,7 @@ use Rattle.cedar_tree.specs.declared.tree.Node.{Node}
 use Rattle.cedar_tree.specs.declared.tree.Expr as Expr
 use Rattle.cedar_tree.specs.declared.tree.Primary as Primary
 use Rattle.cedar_tree.specs.NodeLists.{item_trees}
-use Rattle.cedar_tree.specs.Erased.{Erased, node, variant, expr_parts, primary_parts}
+use Rattle.cedar_tree.specs.Erased.{Erased, variant, expr_parts, primary_parts}
 use Rattle.cedar_reading.specs.Lexemes.{nodes_of}
 use Rattle.cedar_reading.specs.Reading.{AreRight, Fails, Stands}
 use Rattle.cedar_reading.specs.ReadingParts.{variable_parts}

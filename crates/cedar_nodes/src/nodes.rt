@@ -6,8 +6,8 @@ ghost use Rattle.cedar_nodes.specs.ReadingItems.{IsListOf};
 ghost use Rattle.cedar_nodes.specs.ReadingExprs.{end_of_last, IsOrOf, IsAndOf, IsAddOf, IsMultOf, IsMemberOf, IsUnaryOf, IsLoneRelationOf, IsComparedOf, IsWordOf, IsTypeTestOf, IsCallOf, IsParensOf, IsRecordOf, IsInitOf, IsIfOf, IsSigned, IsTyped, IsUncalled, IsCalled, type_test_end};
 ghost use Rattle.cedar_reading.specs.declared.reading.Refusal.TheVariants.{OutOfMemory};
 
+use cedar_reading::accesses::accesses_end;
 use cedar_reading::reading::{Parsed, Refusal};
-use cedar_reading::words::accesses_end;
 use cedar_tokens::token::Span;
 use cedar_tree::tree::{
     Add, AddOp, And, Expr, MemAccess, Member, Mult, MultOp, Name, NegOp, Node, Or, Primary,

@@ -5,7 +5,8 @@ use denote.Enum.Bare.{sameb, same_true}
 use Rattle.cedar_grammar.specs.declared.kind.Kind.{Kind}
 use Rattle.cedar_grammar.specs.contracts.kind.Kind.{the_type}
 use Rattle.cedar_grammar.specs.declared.kind.Kind.TheVariants as K
-use Rattle.cedar_grammar.specs.Kinds.{is, is_word, is_ident, begins}
+use Rattle.cedar_grammar.specs.declared.kind.Words.{Words}
+use Rattle.cedar_grammar.specs.Kinds.{is, is_word, is_ident, is_effect, is_cond_word, set_of, begins}
 use Rattle.cedar_grammar.specs.Trees.{Label, none, leaf, branch}
 use Rattle.cedar_grammar.specs.Reader.Reading.{Answer, done, stuck, token, tree}
 use Rattle.cedar_grammar.proofs.KindSets.{every, kinds, every_kind, apart_at}
@@ -20,7 +21,6 @@ use Rattle.cedar_reading.specs.declared.reading.Refusal.{Refusal}
 use Rattle.cedar_reading.specs.declared.reading.Refusal.TheVariants.{Grammar, TooDeep, OutOfMemory}
 use Rattle.cedar_tree.specs.Erased.{Erased}
 use Rattle.cedar_reading.specs.Reading.{kind, Fails, Stands, GivesNode, IsIdentOf, IsStrOf, ident_parts, str_parts}
-use Rattle.cedar_reading.specs.ReadingParts.{is_effect, is_cond_word}
 
 abbrev agree : Bool → Bool → Bool
 agree true y = y
@@ -88,14 +88,9 @@ str_stands t n h k = record {
   place = covers_leaf t K.Str k refl ∙ ap Some (sym h.1);
 }
 
-pub words_apart : (k : Kind) → is_word k ≡ true → (is K.Comma k ≡ false) × (is K.Number k ≡ false)
-words_apart k h = (apart_at is_word (is K.Comma) refl k h, apart_at is_word (is K.Number) refl k h)
-
-pub idents_apart : (k : Kind) → is_ident k ≡ true → (is K.Comma k ≡ false) × (is K.Number k ≡ false)
-idents_apart k h = (apart_at is_ident (is K.Comma) refl k h, apart_at is_ident (is K.Number) refl k h)
-
-pub effects_apart : (k : Kind) → is_effect k ≡ true → (is K.Comma k ≡ false) × (is K.Number k ≡ false)
-effects_apart k h = (apart_at is_effect (is K.Comma) refl k h, apart_at is_effect (is K.Number) refl k h)
-
-pub cond_words_apart : (k : Kind) → is_cond_word k ≡ true → (is K.Comma k ≡ false) × (is K.Number k ≡ false)
-cond_words_apart k h = (apart_at is_cond_word (is K.Comma) refl k h, apart_at is_cond_word (is K.Number) refl k h)
+-- no set of words has commas or numbers
+pub words_apart : (w : Words) (k : Kind) → set_of w k ≡ true → (is K.Comma k ≡ false) × (is K.Number k ≡ false)
+words_apart Words.Identifier k h = (apart_at is_ident (is K.Comma) refl k h, apart_at is_ident (is K.Number) refl k h)
+words_apart Words.Any k h = (apart_at is_word (is K.Comma) refl k h, apart_at is_word (is K.Number) refl k h)
+words_apart Words.Effect k h = (apart_at is_effect (is K.Comma) refl k h, apart_at is_effect (is K.Number) refl k h)
+words_apart Words.Condition k h = (apart_at is_cond_word (is K.Comma) refl k h, apart_at is_cond_word (is K.Number) refl k h)

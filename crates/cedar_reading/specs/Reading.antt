@@ -16,7 +16,7 @@ use Rattle.cedar_tree.specs.declared.tree.MemAccess as MemAccess
 use Rattle.cedar_tree.specs.declared.tree.Primary as Primary
 use Rattle.cedar_tree.specs.declared.tree.Add as Add
 use Rattle.cedar_tree.specs.NodeLists.{operand_parts}
-use Rattle.cedar_tree.specs.Erased.{Erased, path_parts, node, access_parts, primary_parts, add_parts, ident_tree, value_parts, variant_label, literal_text}
+use Rattle.cedar_tree.specs.Erased.{Erased, path_parts, node, primary_parts, add_parts, ident_tree, value_parts, variant_label, literal_text}
 use Rattle.cedar_reading.specs.Lexemes.{nodes_of}
 use Rattle.cedar_tree.specs.NodeTrees.{span_of}
 use Rattle.cedar_tokens.specs.Units.{is_token}
@@ -40,10 +40,10 @@ Keeps (Err f) old new rest (Ok _) = ⊥
 Keeps (Err f) old new rest (Err e) = e ≡ f
 
 -- what was read, the end of the token after it, and fewer tokens are left
-abbrev pub Closes : {X : Type 0} → Result (X × Bor (List Lexeme)) Refusal → Result ((X × ℕ) × Bor (List Lexeme)) Refusal → Type 0
-Closes (Ok x) (Ok y) = (y.0.0 ≡ x.0) × (length y.1.now < length x.1.now)
-Closes (Err f) (Ok y) = ⊥
-Closes _ (Err e) = Unit {0}
+abbrev pub Follows : {X : Type 0} → Result (X × Bor (List Lexeme)) Refusal → Result ((X × ℕ) × Bor (List Lexeme)) Refusal → Type 0
+Follows (Ok x) (Ok y) = (y.0.0 ≡ x.0) × (length y.1.now < length x.1.now)
+Follows (Err f) (Ok y) = ⊥
+Follows _ (Err e) = Unit {0}
 
 -- after a success the tokens after it are left, or memory is wanting; a refusal is passed on
 abbrev pub PassesOn : {X Y : Type 0} → Result (X × Bor (List Lexeme)) Refusal → Result (Y × Bor (List Lexeme)) Refusal → Type 0
@@ -54,6 +54,11 @@ PassesOn (Err f) (Err e) = e ≡ f
 
 abbrev pub kind : Lexeme → Kind
 kind l = l.kind
+
+-- the kind of the first token
+abbrev pub first_kind : List Lexeme → Option Kind
+first_kind [] = None
+first_kind (t ∷ ts) = Some t.kind
 
 -- the kind is that of the text, which is a token
 abbrev pub IsRight : Lexeme → Type 0
@@ -119,11 +124,11 @@ abbrev pub IsNameOf : List (Node Ident) → Node Ident → Node Name → Type 0
 IsNameOf path name n = (n.inner.path.items ≡ path) × (n.inner.name ≡ name) × (n.span ≡ record { start = first_start path name; end = name.span.end })
 
 -- the token of this kind behind what was read, of which the end is answered; or the refusal is the first of the two
-abbrev pub ClosesWith : {X : Type 0} → Kind → Result (X × Bor (List Lexeme)) Refusal → Result ((X × ℕ) × Bor (List Lexeme)) Refusal → Type 0
-ClosesWith k (Ok x) (Ok y) = (y.0.0 ≡ x.0) × (t : Lexeme) × (one kind k x.1.now ≡ done (leaf t none) y.1.now) × (t.kind ≡ k) × (y.0.1 ≡ t.span.end)
-ClosesWith k (Ok x) (Err e) = Fails e (one kind k x.1.now)
-ClosesWith k (Err f) (Ok y) = ⊥
-ClosesWith k (Err f) (Err e) = e ≡ f
+abbrev pub FollowedBy : {X : Type 0} → Kind → Result (X × Bor (List Lexeme)) Refusal → Result ((X × ℕ) × Bor (List Lexeme)) Refusal → Type 0
+FollowedBy k (Ok x) (Ok y) = (y.0.0 ≡ x.0) × (t : Lexeme) × (one kind k x.1.now ≡ done (leaf t none) y.1.now) × (t.kind ≡ k) × (y.0.1 ≡ t.span.end)
+FollowedBy k (Ok x) (Err e) = Fails e (one kind k x.1.now)
+FollowedBy k (Err f) (Ok y) = ⊥
+FollowedBy k (Err f) (Err e) = e ≡ f
 
 -- an operand that a primary and what is accessed in it make
 abbrev pub IsOperandOf : Node Primary.Primary → List (Node MemAccess.MemAccess) → Span → Node Add.Add → Type 0

@@ -29,12 +29,6 @@ use Rattle.cedar_tree.specs.declared.tree.Or as Or
 use Rattle.cedar_tree.specs.Erased.{Erased, node, ident_tree, name_tree, str_tree, primary_parts, slot_text, type_parts, operator_parts, add_parts, expr_parts, or_parts}
 use Rattle.cedar_reading.specs.Reading.{kind, Fails, Stands, str_parts, name_parts}
 
-abbrev pub is_effect : Kind → Bool
-is_effect x = is K.Permit x || is K.Forbid x
-
-abbrev pub is_cond_word : Kind → Bool
-is_cond_word x = is K.When x || is K.Unless x
-
 -- Literals.
 abbrev pub is_literal : Kind → Bool
 is_literal x = is_boolean x || (is K.Number x || is K.Str x)

@@ -1,6 +1,11 @@
-// What the parser reads with: a text's tokens, single steps over them, and all that is read without nesting.
+// What the parser reads with, and all that it reads without nesting:
+// the tokens of a text (`lexeme`), single steps over them (`reading`), signs (`signs`), strings, numbers, truth values and
+// slots (`literals`), words, names, keys and entities (`names`), fields, indices and their operands (`accesses`).
 #![tactic(auto)]
 
+pub mod accesses;
 pub mod lexeme;
+pub mod literals;
+pub mod names;
 pub mod reading;
-pub mod words;
+pub mod signs;

@@ -1,9 +1,10 @@
 //! Steps over tokens that every parse function shares.
-ghost use Rattle.std.specs.Prelude.{◌≡◌, ◌<◌, ◌≤◌, true, false, length, IfOk, IfSome};
+ghost use Rattle.std.specs.Prelude.{◌≡◌, ◌<◌, ◌≤◌, ◌||◌, true, false, length, IfOk, IfSome};
+ghost use Rattle.cedar_grammar.specs.declared.kind.Kind.TheVariants as K;
 ghost use Rattle.cedar_grammar.specs.Kinds.{is, begins};
-ghost use Rattle.cedar_grammar.specs.Reader.Reading.{one};
-ghost use Rattle.cedar_reading.specs.Reading.{Keeps, Closes, kind, GivesToken, GoesPast, Fails, ClosesWith, first_place, Skips};
-ghost use Rattle.cedar_grammar.specs.Reader.Reading.{stuck};
+ghost use Rattle.cedar_grammar.specs.Reader.Reading.{one, stuck};
+ghost use Rattle.cedar_grammar.specs.Reader.Rules.{expr_first};
+ghost use Rattle.cedar_reading.specs.Reading.{Keeps, Follows, kind, first_kind, GivesToken, GoesPast, Fails, FollowedBy, first_place, Skips};
 ghost use Rattle.cedar_reading.specs.declared.reading.Refusal.TheVariants.{OutOfMemory};
 
 use crate::lexeme::Lexeme;
@@ -43,6 +44,14 @@ pub fn too_deep(tokens: &[Lexeme]) -> Refusal
     Refusal::TooDeep { left: tokens.len() }
 }
 
+/// The kind of the first token.
+pub fn first_kind(tokens: &[Lexeme]) -> Option<Kind>
+    ensures { result ≡ first_kind tokens.now }
+{
+    let (first, _) = tokens.split_first()?;
+    Some(first.kind)
+}
+
 /// Whether the first token is of this kind.
 pub fn begins(tokens: &[Lexeme], wanted: Kind) -> bool
     ensures { result ≡ begins kind (is wanted) tokens.now }
@@ -51,6 +60,20 @@ pub fn begins(tokens: &[Lexeme], wanted: Kind) -> bool
         Some((first, _)) => wanted == first.kind,
         None => false,
     }
+}
+
+/// Whether an expression begins with the first token.
+pub fn begins_expression(tokens: &[Lexeme]) -> bool
+    ensures { result ≡ begins kind expr_first tokens.now }
+{
+    first_kind(tokens).is_some_and(Kind::begins_expression)
+}
+
+/// Whether a parenthesis, a list or a record begins with the first token.
+pub fn begins_bracket(tokens: &[Lexeme]) -> bool
+    ensures { result ≡ (begins kind (is K.LParen) tokens.now || (begins kind (is K.LBracket) tokens.now || begins kind (is K.LBrace) tokens.now)) }
+{
+    begins(tokens, Kind::LParen) || begins(tokens, Kind::LBracket) || begins(tokens, Kind::LBrace)
 }
 
 /// The tokens after the first, where that is of this kind.
@@ -126,12 +149,12 @@ pub fn keep<'t, 'src, T: Drop>(
 }
 
 /// What was read and the token of this kind after it, of which the end is answered.
-pub fn closed_by<'t, 'src, T: Drop>(
+pub fn followed_by<'t, 'src, T: Drop>(
     read: Parsed<'t, 'src, T>,
     wanted: Kind,
 ) -> Parsed<'t, 'src, (T, usize)>
-    ensures shorter { Closes read.entry result }
-    ensures reads { ClosesWith wanted read.entry result }
+    ensures shorter { Follows read.entry result }
+    ensures reads { FollowedBy wanted read.entry result }
 {
     match read {
         Ok((value, rest)) => match expect(rest, wanted) {

@@ -1,28 +1,29 @@
 //! Policies: annotations, scopes and conditions.
 ghost use Rattle.std.specs.Prelude.{◌≡◌, ◌<◌, ◌≤◌, ◌||◌, suc, length, IfOk};
 ghost use Rattle.cedar_grammar.specs.Trees.{Label};
-ghost use Rattle.cedar_grammar.specs.Kinds.{is, begins};
+ghost use Rattle.cedar_grammar.specs.Kinds.{is, begins, is_effect, is_cond_word};
 ghost use Rattle.cedar_grammar.specs.Texts.{greatest_depth};
 ghost use Rattle.cedar_grammar.specs.declared.kind.Kind.TheVariants as K;
 ghost use Rattle.cedar_grammar.specs.Reader.Rules.{star, entity, items, word_of};
 ghost use Rattle.cedar_grammar.specs.Reader.Lines.{◌∥◌, annotation_rule, operand, entity_or, scoped, maybe, entity_item, action, cond_rule, policy_rule, set_to};
 ghost use Rattle.cedar_tree.specs.Erased.{add_parts, expr_parts, primary_parts, policy_parts};
-ghost use Rattle.cedar_reading.specs.ReadingParts.{is_effect, is_cond_word, slot_kind, variable_kind, variable_parts, IsVariableOf, IsLoneOrOf, entity_list, scope_rule};
+ghost use Rattle.cedar_reading.specs.ReadingParts.{slot_kind, variable_kind, variable_parts, IsVariableOf, IsLoneOrOf, entity_list, scope_rule};
 ghost use Rattle.cedar_nodes.specs.ReadingItems.{GivesItems, GivesScope};
 ghost use Rattle.cedar_nodes.specs.ReadingExprs.{at_depth};
 ghost use Rattle.cedar_cst.specs.ReadingSet.{cond_parts, GivesSet};
 ghost use Rattle.cedar_reading.specs.Reading.{kind, flat, GivesNode, GivesMany, annotation_parts, ident_parts};
 
 use cedar_expressions::expressions::parse_expr;
-use cedar_grammar::kind::Kind;
+use cedar_grammar::kind::{Kind, Words};
 use cedar_nodes::nodes::{list_node, or_expr};
+use cedar_reading::accesses::lone_operand;
 use cedar_reading::lexeme::Lexeme;
-use cedar_reading::reading::{
-    Parsed, Refusal, begins, closed_by, expect, keep, past, refuse, skip, start_of,
+use cedar_reading::literals::parse_str;
+use cedar_reading::names::{
+    begins_identifier, ident_node, parse_entity, parse_path, parse_slot_or_entity, parse_word,
 };
-use cedar_reading::words::{
-    begins_identifier, ident_node, lone_operand, parse_any_word, parse_cond_word, parse_effect,
-    parse_entity, parse_path, parse_slot_or_entity, parse_str,
+use cedar_reading::reading::{
+    Parsed, Refusal, begins, expect, followed_by, keep, past, refuse, skip, start_of,
 };
 use cedar_tokens::token::Span;
 use cedar_tree::tree::{
@@ -66,9 +67,9 @@ fn parse_policy<'t, 'src>(
     ensures reads { GivesNode Label.policy policy_parts result (at_depth (suc greatest_depth) policy_rule tokens.now) }
 {
     let (annotations, rest) = parse_annotations(alloc, tokens)?;
-    let (effect, rest) = parse_effect(rest)?;
+    let (effect, rest) = parse_word(rest, Words::Effect)?;
     let (variables, rest) = parse_scope(alloc, rest)?;
-    let ((conds, end), rest) = closed_by(parse_conds(alloc, rest), Kind::SemiColon)?;
+    let ((conds, end), rest) = followed_by(parse_conds(alloc, rest), Kind::SemiColon)?;
     let span = Span {
         start: start_of(tokens),
         end,
@@ -106,11 +107,11 @@ fn parse_annotation<'t, 'src>(
     ensures reads { GivesNode Label.annotation annotation_parts result (flat annotation_rule tokens.now) }
 {
     let (at, rest) = expect(tokens, Kind::At)?;
-    let (key, rest) = parse_any_word(rest)?;
+    let (key, rest) = parse_word(rest, Words::Any)?;
     let start = at.span.start;
     match past(rest, Kind::LParen) {
         Some(after) => {
-            let ((value, end), rest) = closed_by(parse_str(after), Kind::RParen)?;
+            let ((value, end), rest) = followed_by(parse_str(after), Kind::RParen)?;
             let value = Some(value);
             let inner = Annotation { key, value };
             Ok((
@@ -316,7 +317,7 @@ fn parse_entity_list<'t, 'src>(
     ensures reads { GivesNode Label.primary primary_parts result (flat entity_list tokens.now) }
 {
     let (open, rest) = expect(tokens, Kind::LBracket)?;
-    let read = closed_by(parse_entities(alloc, rest), Kind::RBracket);
+    let read = followed_by(parse_entities(alloc, rest), Kind::RBracket);
     list_node(open.span.start, read)
 }
 
@@ -375,8 +376,8 @@ fn parse_scope<'t, 'src>(
 {
     let (_, rest) = expect(tokens, Kind::LParen)?;
     let principal = parse_variable(alloc, rest, Slot::Principal);
-    let ((principal, _), rest) = closed_by(principal, Kind::Comma)?;
-    let ((action, _), rest) = closed_by(parse_action(alloc, rest), Kind::Comma)?;
+    let ((principal, _), rest) = followed_by(principal, Kind::Comma)?;
+    let ((action, _), rest) = followed_by(parse_action(alloc, rest), Kind::Comma)?;
     let (resource, mut rest) = parse_variable(alloc, rest, Slot::Resource)?;
     skip(&mut rest, Kind::Comma);
     let (_, rest) = expect(rest, Kind::RParen)?;
@@ -414,9 +415,9 @@ fn parse_cond<'t, 'src>(
     ensures shorter { IfOk result (λ x. length x.1.now < length tokens.now) }
     ensures reads { GivesNode Label.condition cond_parts result (at_depth (suc greatest_depth) cond_rule tokens.now) }
 {
-    let (cond, rest) = parse_cond_word(tokens)?;
+    let (cond, rest) = parse_word(tokens, Words::Condition)?;
     let (_, rest) = expect(rest, Kind::LBrace)?;
-    let ((expr, end), rest) = closed_by(parse_expr(alloc, rest, MAX_NESTING), Kind::RBrace)?;
+    let ((expr, end), rest) = followed_by(parse_expr(alloc, rest, MAX_NESTING), Kind::RBrace)?;
     let span = Span {
         start: cond.span.start,
         end,

@@ -2,8 +2,8 @@
 use Rattle.std.specs.Prelude.{ℕ, zero, suc, true, false, ◌||◌}
 use Rattle.cedar_grammar.specs.declared.kind.Kind.{Kind}
 use Rattle.cedar_grammar.specs.declared.kind.Kind.TheVariants as K
-use Rattle.cedar_grammar.specs.Kinds.{is, is_word, is_ident, is_comparison, is_boolean}
-use Rattle.cedar_grammar.specs.Trees.{Label, policies, policy, annotation, str, variable, condition, expr, or, and, relation, add, mult, unary, member, access, primary, name, slot, rec_init}
+use Rattle.cedar_grammar.specs.Kinds.{is, is_word, is_ident, is_comparison, is_boolean, is_effect, is_cond_word}
+use Rattle.cedar_grammar.specs.Trees.{policies, policy, annotation, variable, condition, expr, or, and, relation, add, mult, unary, member, access, primary, name, slot, rec_init}
 use Rattle.cedar_grammar.specs.Trees as L
 use Rattle.cedar_grammar.specs.Reader.Reading.{Reader, too_deep}
 use Rattle.cedar_grammar.specs.Reader.Rules.{Rule, empty, inner, leaf_of, nested, then, either, star, node, items, entity, reference, word_of, text_rule, read, core}
@@ -109,10 +109,10 @@ abbrev pub expr_rule : Rule
 expr_rule = node expr (nested K.If (inner ▸ one_of K.Then ▸ inner ▸ one_of K.Else ▸ inner) ∥ or_rule)
 
 abbrev pub cond_rule : Rule
-cond_rule = node condition (word_of (λ x. is K.When x || is K.Unless x) ▸ one_of K.LBrace ▸ inner ▸ one_of K.RBrace)
+cond_rule = node condition (word_of is_cond_word ▸ one_of K.LBrace ▸ inner ▸ one_of K.RBrace)
 
 abbrev pub policy_rule : Rule
-policy_rule = node policy (star annotation_rule ▸ word_of (λ x. is K.Permit x || is K.Forbid x)
+policy_rule = node policy (star annotation_rule ▸ word_of is_effect
     ▸ one_of K.LParen ▸ scoped K.Principal K.PrincipalSlot ▸ one_of K.Comma ▸ action ▸ one_of K.Comma ▸ scoped K.Resource K.ResourceSlot ▸ maybe (one_of K.Comma) ▸ one_of K.RParen
     ▸ star cond_rule ▸ one_of K.SemiColon)
 

@@ -4,7 +4,7 @@ use Rattle.cedar_grammar.specs.declared.kind.Kind.{Kind}
 use Rattle.cedar_grammar.specs.declared.kind.Kind.TheVariants as K
 use Rattle.cedar_grammar.specs.Kinds.{is, is_ident, is_variable, begins}
 use Rattle.cedar_grammar.specs.Reader.Sets.{no_kind, joined}
-use Rattle.cedar_grammar.specs.Trees.{Label, Forest, none, leaf, branch}
+use Rattle.cedar_grammar.specs.Trees.{Label, none}
 use Rattle.cedar_grammar.specs.Trees as L
 use Rattle.cedar_grammar.specs.Reader.Reading.{Reader, done, stuck, after, choice, both, skip, tree, nest, repeat, token, one}
 use Rattle.cedar_grammar.specs.Reader.Regroup.{gather}

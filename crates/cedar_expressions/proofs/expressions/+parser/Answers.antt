@@ -28,7 +28,7 @@ use Rattle.cedar_expressions.proofs.Branches.{if_test_fails, if_yes_fails, if_no
 use Rattle.cedar_expressions.proofs.Primaries.{add_at, compared_at, has_at, like_at, type_at, begins_turn, has_between, like_between, expr_takes, one_begins, one_first, call_stuck, brackets_none, or_gives, signed_gives, item_as, lone_item}
 use Rattle.cedar_expressions.proofs.Unaries.{unary_gives}
 use Rattle.cedar_expressions.proofs.References.{reference_fails, reference_entity, reference_called, reference_variable, reference_stops, call_refuses}
-use Rattle.cedar_reading.proofs.Closed.{closed_fails, closed_done}
+use Rattle.cedar_reading.proofs.Followed.{followed_fails, followed_done}
 use Rattle.cedar_expressions.proofs.Depths.{depth_takes, expr_at}
 use Rattle.cedar_expressions.proofs.expressions.+parser.Goals as goal
 
@@ -293,8 +293,8 @@ parse_call-returns-clause-reads _ c =
     let h = c.in_ok-open.ensures.reads in
     let e = depth_back c.args.depth (omega (arith, c.if-depth-eq0.false)) in
     let P = at_depth (suc (c.args.depth - 1)) (maybe (items inner)) in
-    let g = enclosed_gives Label.expr expr_parts (codes "(") (codes ")") K.LParen K.RParen round P c.parse_exprs-read.result c.closed_by.result _ _ c.in_ok-open.open h.0 h.1 c.parse_exprs-read.ensures.reads c.closed_by.ensures.reads in
-    gives_as Label.access access_parts c.call_node.result _ _ (access_gives Label.expr expr_parts (codes "(") (codes ")") (enclosed_reader Label.expr expr_parts (codes "(") (codes ")") K.LParen K.RParen round P) _ c.closed_by.result c.call_node.result _ g c.call_node.ensures.passes c.call_node.ensures.made)
+    let g = enclosed_gives Label.expr expr_parts (codes "(") (codes ")") K.LParen K.RParen round P c.parse_exprs-read.result c.followed_by.result _ _ c.in_ok-open.open h.0 h.1 c.parse_exprs-read.ensures.reads c.followed_by.ensures.reads in
+    gives_as Label.access access_parts c.call_node.result _ _ (access_gives Label.expr expr_parts (codes "(") (codes ")") (enclosed_reader Label.expr expr_parts (codes "(") (codes ")") K.LParen K.RParen round P) _ c.followed_by.result c.call_node.result _ g c.call_node.ensures.passes c.call_node.ensures.made)
     (subst (λ d. at_depth d call c.args.tokens.now ≡ tree Label.access (enclosed_reader Label.expr expr_parts (codes "(") (codes ")") K.LParen K.RParen round P) c.args.tokens.now) e (call_reads (c.args.depth - 1) _ (one_begins K.LParen _ _ _ h.0)))
 
 -- Items.
@@ -319,8 +319,8 @@ pub parse_bracket-returns-in-Some-clause-reads : goal.parse_bracket-returns-in-S
 parse_bracket-returns-in-Some-clause-reads _ c =
     let d = c.in-Some.ensures.token in
     let t = is_itself K.LParen d.0.kind (sym d.2) in
-    gives_as Label.primary primary_parts c.parens_node.result _ _ (parens_gives (expr_to kind c.args.depth) c.parse_expr-read.result c.closed_by.result c.parens_node.result _ _ d.0 (token_at (is K.LParen) _ d.0 _ d.1 t) d.2
-    (gives_as Label.expr expr_parts c.parse_expr-read.result _ _ c.parse_expr-read.ensures.reads (expr_at c.args.depth _)) c.closed_by.ensures.reads c.parens_node.ensures.passes (subst (λ z. Makes (IsParensOf z) c.closed_by.result c.parens_node.result) (c.start_of-start.ensures ∙ ap first_place d.1) c.parens_node.ensures.made))
+    gives_as Label.primary primary_parts c.parens_node.result _ _ (parens_gives (expr_to kind c.args.depth) c.parse_expr-read.result c.followed_by.result c.parens_node.result _ _ d.0 (token_at (is K.LParen) _ d.0 _ d.1 t) d.2
+    (gives_as Label.expr expr_parts c.parse_expr-read.result _ _ c.parse_expr-read.ensures.reads (expr_at c.args.depth _)) c.followed_by.ensures.reads c.parens_node.ensures.passes (subst (λ z. Makes (IsParensOf z) c.followed_by.result c.parens_node.result) (c.start_of-start.ensures ∙ ap first_place d.1) c.parens_node.ensures.made))
     (round_reads c.args.depth _ (first_begins (is K.LParen) _ d.0 _ d.1 ∙ t))
 
 pub parse_bracket-returns-in-Some-past-clause-reads : goal.parse_bracket-returns-in-Some-past-clause-reads
@@ -329,8 +329,8 @@ parse_bracket-returns-in-Some-past-clause-reads _ c =
     let t = is_itself K.LBracket d.0.kind (sym d.2) in
     let P = at_depth (suc c.args.depth) (maybe (items inner)) in
     let Q = enclosed_reader Label.expr expr_parts (codes "[") (codes "]") K.LBracket K.RBracket square P in
-    let g = enclosed_gives Label.expr expr_parts (codes "[") (codes "]") K.LBracket K.RBracket square P c.parse_exprs-read.result c.closed_by-in-Some-past.result _ _ d.0 (token_at (is K.LBracket) _ d.0 _ d.1 t) d.2 c.parse_exprs-read.ensures.reads c.closed_by-in-Some-past.ensures.reads in
-    gives_as Label.primary primary_parts c.list_node.result _ _ (primary_gives Label.expr expr_parts (codes "[") (codes "]") Label.list refl Q _ c.closed_by-in-Some-past.result c.list_node.result _ g c.list_node.ensures.passes (subst (λ z. Makes (IsListOf z) c.closed_by-in-Some-past.result c.list_node.result) (c.start_of-start.ensures ∙ ap first_place d.1) c.list_node.ensures.made))
+    let g = enclosed_gives Label.expr expr_parts (codes "[") (codes "]") K.LBracket K.RBracket square P c.parse_exprs-read.result c.followed_by-in-Some-past.result _ _ d.0 (token_at (is K.LBracket) _ d.0 _ d.1 t) d.2 c.parse_exprs-read.ensures.reads c.followed_by-in-Some-past.ensures.reads in
+    gives_as Label.primary primary_parts c.list_node.result _ _ (primary_gives Label.expr expr_parts (codes "[") (codes "]") Label.list refl Q _ c.followed_by-in-Some-past.result c.list_node.result _ g c.list_node.ensures.passes (subst (λ z. Makes (IsListOf z) c.followed_by-in-Some-past.result c.list_node.result) (c.start_of-start.ensures ∙ ap first_place d.1) c.list_node.ensures.made))
     (square_reads c.args.depth _ c.in_default.ensures.token (first_begins (is K.LBracket) _ d.0 _ d.1 ∙ t))
 
 pub parse_bracket-returns-in_err-rest-clause-reads : goal.parse_bracket-returns-in_err-rest-clause-reads
@@ -343,20 +343,20 @@ parse_bracket-returns-clause-reads _ c =
     let h = c.in_ok-rest.ensures.reads in
     let P = at_depth (suc c.args.depth) (maybe (items init)) in
     let Q = enclosed_reader Label.rec_init init_parts (codes "{") (codes "}") K.LBrace K.RBrace curly P in
-    let g = enclosed_gives Label.rec_init init_parts (codes "{") (codes "}") K.LBrace K.RBrace curly P c.parse_inits-read.result c.closed_by-2.result _ _ c.in_ok-rest.field-0-0 h.0 h.1 c.parse_inits-read.ensures.reads c.closed_by-2.ensures.reads in
-    gives_as Label.primary primary_parts c.record_node.result _ _ (primary_gives Label.rec_init init_parts (codes "{") (codes "}") Label.fields refl Q _ c.closed_by-2.result c.record_node.result _ g c.record_node.ensures.passes (subst (λ z. Makes (IsRecordOf z) c.closed_by-2.result c.record_node.result) (c.start_of-start.ensures ∙ one_first K.LBrace _ _ _ h.0) c.record_node.ensures.made))
+    let g = enclosed_gives Label.rec_init init_parts (codes "{") (codes "}") K.LBrace K.RBrace curly P c.parse_inits-read.result c.followed_by-2.result _ _ c.in_ok-rest.field-0-0 h.0 h.1 c.parse_inits-read.ensures.reads c.followed_by-2.ensures.reads in
+    gives_as Label.primary primary_parts c.record_node.result _ _ (primary_gives Label.rec_init init_parts (codes "{") (codes "}") Label.fields refl Q _ c.followed_by-2.result c.record_node.result _ g c.record_node.ensures.passes (subst (λ z. Makes (IsRecordOf z) c.followed_by-2.result c.record_node.result) (c.start_of-start.ensures ∙ one_first K.LBrace _ _ _ h.0) c.record_node.ensures.made))
     (curly_reads c.args.depth _ c.in_default.ensures.token c.in_default-past.ensures.token)
 
 -- Entries of records.
 pub parse_init-returns-in_err-key-clause-reads : goal.parse_init-returns-in_err-key-clause-reads
 parse_init-returns-in_err-key-clause-reads _ c =
     let p = err_from_is_err_and c.from_residual.result c.from_residual.ensures.1 in
-    rw (p.1, p.2) (passes _ _ _ (closed_fails Label.primary primary_parts K.Colon (flat key_rule) _ c.parse_key.result _ c.parse_key.ensures.reads c.in_err-key.ensures.reads) (λ x r e. init_fails (expr_to kind c.args.depth) (flat key_rule) _ x r e))
+    rw (p.1, p.2) (passes _ _ _ (followed_fails Label.primary primary_parts K.Colon (flat key_rule) _ c.parse_key.result _ c.parse_key.ensures.reads c.in_err-key.ensures.reads) (λ x r e. init_fails (expr_to kind c.args.depth) (flat key_rule) _ x r e))
 
 pub parse_init-returns-clause-reads : goal.parse_init-returns-clause-reads
 parse_init-returns-clause-reads _ c =
     let v = c.in_ok-key in
-    let q = closed_done Label.primary primary_parts K.Colon (flat key_rule) _ c.parse_key.result ((v.key, _), v.rest) c.parse_key.ensures.reads v.ensures.reads in
+    let q = followed_done Label.primary primary_parts K.Colon (flat key_rule) _ c.parse_key.result ((v.key, _), v.rest) c.parse_key.ensures.reads v.ensures.reads in
     init_gives (expr_to kind c.args.depth) (flat key_rule) v.key q.0 q.1 _ _ c.parse_expr.result c.init_node.result q.2 q.3 q.4 (gives_as Label.expr expr_parts c.parse_expr.result _ _ c.parse_expr.ensures.reads (expr_at c.args.depth _)) c.init_node.ensures.passes c.init_node.ensures.made
 
 pub parse_exprs-items-init : goal.parse_exprs-items-init

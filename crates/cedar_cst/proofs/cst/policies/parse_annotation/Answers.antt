@@ -8,7 +8,7 @@ use Rattle.cedar_grammar.proofs.ReadingLaws.{tree_done, tree_fails, both_done, b
 use Rattle.cedar_reading.specs.Reading.{kind, str_parts}
 use Rattle.cedar_reading.proofs.Steps.{passes, first_begins, is_itself, token_at}
 use Rattle.cedar_reading.proofs.Rows.{row_more, row_node, row_nodes, row_token, row_span}
-use Rattle.cedar_reading.proofs.Closed.{closed_fails, closed_done}
+use Rattle.cedar_reading.proofs.Followed.{followed_fails, followed_done}
 use Rattle.cedar_cst.proofs.cst.policies.parse_annotation.Goals as goal
 
 pub returns-in_err-at-clause-reads : goal.returns-in_err-at-clause-reads
@@ -26,7 +26,7 @@ returns-in_err-value-in-Some-clause-reads c =
     let p = err_from_is_err_and c.from_residual-in_err-value-in-Some.result c.from_residual-in_err-value-in-Some.ensures.1 in
     let d = c.in-Some.ensures.token in
     let t = is_itself K.LParen d.0.kind (sym d.2) in
-    rw (p.1, p.2) (passes _ _ _ (closed_fails Label.str str_parts K.RParen (tree Label.str (token kind (is K.Str))) _ c.parse_str.result _ c.parse_str.ensures.reads c.in_err-value-in-Some.ensures.reads)
+    rw (p.1, p.2) (passes _ _ _ (followed_fails Label.str str_parts K.RParen (tree Label.str (token kind (is K.Str))) _ c.parse_str.result _ c.parse_str.ensures.reads c.in_err-value-in-Some.ensures.reads)
     (λ x r e. tree_fails Label.annotation _ _ x r (both_then_fails _ _ _ _ _ x r c.in_ok-at.ensures.reads.0 (both_then_fails _ _ _ _ _ x r c.in_ok-key.ensures.reads.1
     (choice_yes _ _ _ _ (first_begins (is K.LParen) _ _ _ d.1 ∙ t) ∙ both_then_fails _ _ _ _ _ x r (token_at (is K.LParen) _ _ _ d.1 t) e)))))
 
@@ -37,7 +37,7 @@ returns-in_ok-value-in-Some-clause-reads c =
     let d = c.in-Some.ensures.token in
     let t = is_itself K.LParen d.0.kind (sym d.2) in
     let v = c.in_ok-value-in-Some in
-    let q = closed_done Label.str str_parts K.RParen (tree Label.str (token kind (is K.Str))) _ c.parse_str.result ((v.value, v.end), v.rest) c.parse_str.ensures.reads v.ensures.reads in (
+    let q = followed_done Label.str str_parts K.RParen (tree Label.str (token kind (is K.Str))) _ c.parse_str.result ((v.value, v.end), v.rest) c.parse_str.ensures.reads v.ensures.reads in (
       leaf c.in_ok-at.at (branch Label.ident h.0 (leaf d.0 (branch Label.str q.0 (leaf q.1 none)))),
       tree_done Label.annotation _ _ _ _ (both_done _ _ _ _ _ _ _ a.0 (both_done _ _ _ _ _ _ _ h.1
           (choice_yes _ _ _ _ (first_begins (is K.LParen) _ _ _ d.1 ∙ t) ∙ both_done _ _ _ _ _ _ _ (token_at (is K.LParen) _ _ _ d.1 t) q.2))),

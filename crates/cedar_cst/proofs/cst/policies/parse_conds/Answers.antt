@@ -1,6 +1,6 @@
 use Rattle.std.proofs.Common.{suc, refl, sym, ◌∙◌, arith}
 use Rattle.std.proofs.lemmas.Result.{err_from_is_err_and}
-use Rattle.cedar_grammar.specs.Kinds.{begins}
+use Rattle.cedar_grammar.specs.Kinds.{begins, is_cond_word}
 use Rattle.cedar_grammar.specs.Texts.{greatest_depth}
 use Rattle.cedar_grammar.specs.Trees.{Label}
 use Rattle.cedar_grammar.specs.Reader.Reading.{Reader}
@@ -8,7 +8,6 @@ use Rattle.cedar_grammar.specs.Reader.Lines.{cond_rule}
 use Rattle.cedar_grammar.proofs.ReadingLaws.{read_end, read_fails}
 use Rattle.cedar_reading.specs.Reading.{kind}
 use Rattle.cedar_nodes.specs.ReadingExprs.{at_depth}
-use Rattle.cedar_reading.specs.ReadingParts.{is_cond_word}
 use Rattle.cedar_cst.specs.ReadingSet.{cond_parts}
 use Rattle.cedar_reading.specs.declared.lexeme.Lexeme.{Lexeme}
 use Rattle.cedar_reading.proofs.Steps.{passes}

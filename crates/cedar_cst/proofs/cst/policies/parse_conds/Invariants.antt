@@ -1,11 +1,10 @@
 use Rattle.std.proofs.Common.{◌≤◌, suc, length}
-use Rattle.cedar_grammar.specs.Kinds.{begins}
+use Rattle.cedar_grammar.specs.Kinds.{begins, is_cond_word}
 use Rattle.cedar_grammar.specs.Texts.{greatest_depth}
 use Rattle.cedar_grammar.specs.Trees.{Label}
 use Rattle.cedar_grammar.specs.Reader.Lines.{cond_rule}
 use Rattle.cedar_reading.specs.Reading.{kind}
 use Rattle.cedar_nodes.specs.ReadingExprs.{at_depth}
-use Rattle.cedar_reading.specs.ReadingParts.{is_cond_word}
 use Rattle.cedar_cst.specs.ReadingSet.{cond_parts}
 use Rattle.cedar_reading.proofs.Manys.{ManyRead}
 use Rattle.cedar_cst.proofs.cst.policies.parse_conds.Given as goal

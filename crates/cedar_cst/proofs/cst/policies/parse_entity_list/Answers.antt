@@ -20,5 +20,5 @@ pub returns-clause-reads : goal.returns-clause-reads
 returns-clause-reads c =
     let h = c.in_ok-open.ensures.reads in
     let P = flat (maybe (items entity_item)) in
-    let g = enclosed_gives Label.expr expr_parts (codes "[") (codes "]") K.LBracket K.RBracket square P c.parse_entities.result c.closed_by-read.result _ _ c.in_ok-open.open h.0 h.1 c.parse_entities.ensures.reads c.closed_by-read.ensures.reads in
-    primary_gives Label.expr expr_parts (codes "[") (codes "]") Label.list refl (enclosed_reader Label.expr expr_parts (codes "[") (codes "]") K.LBracket K.RBracket square P) _ c.closed_by-read.result c.list_node.result _ g c.list_node.ensures.passes c.list_node.ensures.made
+    let g = enclosed_gives Label.expr expr_parts (codes "[") (codes "]") K.LBracket K.RBracket square P c.parse_entities.result c.followed_by-read.result _ _ c.in_ok-open.open h.0 h.1 c.parse_entities.ensures.reads c.followed_by-read.ensures.reads in
+    primary_gives Label.expr expr_parts (codes "[") (codes "]") Label.list refl (enclosed_reader Label.expr expr_parts (codes "[") (codes "]") K.LBracket K.RBracket square P) _ c.followed_by-read.result c.list_node.result _ g c.list_node.ensures.passes c.list_node.ensures.made

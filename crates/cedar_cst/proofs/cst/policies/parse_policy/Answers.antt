@@ -13,7 +13,7 @@ use Rattle.cedar_reading.specs.declared.lexeme.Lexeme.{Lexeme}
 use Rattle.cedar_reading.proofs.Steps.{passes}
 use Rattle.cedar_reading.proofs.Rows.{row_span}
 use Rattle.cedar_expressions.proofs.Starts.{node_starts}
-use Rattle.cedar_cst.proofs.Policies.{many_closed_fails, many_closed_done, repeat_opens, annotations_fail, effect_fails, scope_fails, ending_fails, policy_done, policy_stands, span_ends}
+use Rattle.cedar_cst.proofs.Policies.{many_followed_fails, many_followed_done, repeat_opens, annotations_fail, effect_fails, scope_fails, ending_fails, policy_done, policy_stands, span_ends}
 use Rattle.cedar_cst.proofs.cst.policies.parse_policy.Goals as goal
 
 abbrev E : Reader Lexeme
@@ -40,7 +40,7 @@ returns-in_err-variables-clause-reads c =
 pub returns-in_err-conds-clause-reads : goal.returns-in_err-conds-clause-reads
 returns-in_err-conds-clause-reads c =
     let p = err_from_is_err_and c.from_residual-in_err-conds.result c.from_residual-in_err-conds.ensures.1 in
-    rw (p.1, p.2) (passes _ _ _ (many_closed_fails Label.condition cond_parts K.SemiColon C _ c.parse_conds.result _ c.parse_conds.ensures.reads c.in_err-conds.ensures.reads)
+    rw (p.1, p.2) (passes _ _ _ (many_followed_fails Label.condition cond_parts K.SemiColon C _ c.parse_conds.result _ c.parse_conds.ensures.reads c.in_err-conds.ensures.reads)
     (λ x r e. ending_fails E _ _ _ _ _ _ _ x r c.in_ok-annotations.ensures.reads.1 c.in_ok-effect.ensures.reads.1 c.in_ok-variables.ensures.reads.2 e))
 
 pub returns-clause-reads : goal.returns-clause-reads
@@ -49,7 +49,7 @@ returns-clause-reads c =
     let e = c.in_ok-effect.ensures.reads in
     let s = c.in_ok-variables.ensures.reads in
     let v = c.in_ok-conds in
-    let q = many_closed_done Label.condition cond_parts K.SemiColon C _ c.parse_conds.result ((v.conds, _), v.rest) c.parse_conds.ensures.reads v.ensures.reads in
+    let q = many_followed_done Label.condition cond_parts K.SemiColon C _ c.parse_conds.result ((v.conds, _), v.rest) c.parse_conds.ensures.reads v.ensures.reads in
     let w = policy_done E _ _ _ _ _ _ _ _ _ a.1 e.1 s.2 q.4 in
     let t = policy_stands (record { annotations = c.in_ok-annotations.annotations; effect = c.in_ok-effect.effect; variables = c.in_ok-variables.variables; conds = v.conds }) s.1 a.0 e.0 s.0 q.0 q.1 a.2 e.2 s.3 q.6 (repeat_opens _ Label.condition _ _ _ _ q.3) q.5 in
     (_, w, row_span _ _ _ _ (span_ends t.0 _ _ (c.start_of.ensures ∙ node_starts (suc greatest_depth) policy_rule refl refl refl Label.policy _ _ _ t.0 w t.2.place) (t.1 ∙ sym q.7)) t.2)
