@@ -4,7 +4,8 @@ use Rattle.std.specs.declared.alloc.Global.{Global}
 use Rattle.std.specs.Borrow.{Bor}
 use Rattle.cedar_tokens.specs.declared.token.Span.{Span}
 use Rattle.cedar_grammar.specs.declared.kind.Kind.{Kind}
-use Rattle.cedar_grammar.specs.Trees.{Label, Forest, none, leaf, branch, join}
+use Rattle.cedar_grammar.specs.Trees.{Label, Forest, none, leaf, branch}
+use Rattle.cedar_nodes.specs.ReadingItems.{bracketed, IsBracketsOf}
 use Rattle.cedar_grammar.specs.Reader.Reading.{Reader, Answer, done, too_deep}
 use Rattle.cedar_grammar.specs.declared.kind.Kind.TheVariants as K
 use Rattle.cedar_grammar.specs.Reader.Rules.{Rule, inner, items, read, core}
@@ -30,7 +31,7 @@ use Rattle.cedar_tree.specs.declared.tree.MemAccess as MemAccess
 use Rattle.cedar_tree.specs.declared.tree.Primary as Primary
 use Rattle.cedar_tree.specs.declared.tree.RecInit as RecInit
 use Rattle.cedar_tree.specs.Erased.{Erased, node, variant, name_tree, relop_text, addop_text, signs, expr_parts, or_parts, relation_parts, add_parts, mult_parts, unary_parts, access_parts, primary_parts}
-use Rattle.cedar_reading.specs.Reading.{kind, Fails, Stands, last_end}
+use Rattle.cedar_reading.specs.Reading.{kind, Fails, Stands, IsMade, span_to, last_end}
 use Rattle.cedar_tree.specs.NodeLists.{access_items, and_parts, init_parts, item_trees, member_parts, operand_trees}
 
 -- Readers where so many brackets and ifs may still be nested.
@@ -67,8 +68,7 @@ module _ {X Y : Type 0} (l : Label) (parts : X → Erased) (sign : Y → List �
   operands_end = end_of_last operand
 
   abbrev pub IsChainOf : {Z : Type 0} → (Z → Erased) → Node X → List Y → Node Z → Type 0
-  IsChainOf whole first more n =
-      (whole n.inner ≡ node l first.span (parts first.inner) (operand_trees l parts sign operand more)) × (n.span ≡ record { start = first.span.start; end = operands_end first.span.end more })
+  IsChainOf whole first more = IsMade whole (node l first.span (parts first.inner) (operand_trees l parts sign operand more)) (span_to first.span (operands_end first.span.end more))
 
 abbrev pub IsOrOf : Node And.And → List (Node And.And) → Node Or.Or → Type 0
 IsOrOf = IsChainOf Label.and and_parts (λ _. codes "||") (λ n. n) or_parts
@@ -84,25 +84,25 @@ IsMultOf = IsChainOf Label.unary unary_parts (λ _. codes "*") (λ x. x.1) mult_
 
 -- a primary and what is accessed in it
 abbrev pub IsMemberOf : Node Primary.Primary → List (Node MemAccess.MemAccess) → Node Member.Member → Type 0
-IsMemberOf item access n = (member_parts n.inner ≡ node Label.primary item.span (primary_parts item.inner) (access_items access)) × (n.span ≡ record { start = item.span.start; end = last_end item.span.end access })
+IsMemberOf item access = IsMade member_parts (node Label.primary item.span (primary_parts item.inner) (access_items access)) (span_to item.span (last_end item.span.end access))
 
 abbrev pub IsUnaryOf : ℕ → Option NegOp → Node Member.Member → Node Unary.Unary → Type 0
-IsUnaryOf start op m n = (unary_parts n.inner ≡ signs op (node Label.member m.span (member_parts m.inner) none)) × (n.span ≡ record { start = start; end = m.span.end })
+IsUnaryOf start op m = IsMade unary_parts (signs op (node Label.member m.span (member_parts m.inner) none)) (record { start = start; end = m.span.end })
 
 -- Relations.
 abbrev pub IsLoneRelationOf : Node Add.Add → Node Relation.Relation → Type 0
-IsLoneRelationOf a n = (relation_parts n.inner ≡ node Label.add a.span (add_parts a.inner) none) × (n.span ≡ a.span)
+IsLoneRelationOf a = IsMade relation_parts (node Label.add a.span (add_parts a.inner) none) a.span
+
+-- an operand and what stands behind it, which ends here
+abbrev pub IsRelatedOf : Label → Node Add.Add → Erased → ℕ → Node Relation.Relation → Type 0
+IsRelatedOf l a trees end = IsMade relation_parts (node Label.add a.span (add_parts a.inner) (variant l trees none)) (span_to a.span end)
 
 abbrev pub IsComparedOf : Node Add.Add → RelOp × Node Add.Add → Node Relation.Relation → Type 0
-IsComparedOf a x n =
-    (relation_parts n.inner ≡ node Label.add a.span (add_parts a.inner) (variant Label.compare (leaf (relop_text x.0) (node Label.add x.1.span (add_parts x.1.inner) none)) none))
-    × (n.span ≡ record { start = a.span.start; end = x.1.span.end })
+IsComparedOf a x = IsRelatedOf Label.compare a (leaf (relop_text x.0) (node Label.add x.1.span (add_parts x.1.inner) none)) x.1.span.end
 
 -- two operands with this word between them
 abbrev pub IsWordOf : List ℕ → Node Add.Add → Node Add.Add → Node Relation.Relation → Type 0
-IsWordOf word a b n =
-    (relation_parts n.inner ≡ node Label.add a.span (add_parts a.inner) (variant Label.has_or_like (leaf word (node Label.add b.span (add_parts b.inner) none)) none))
-    × (n.span ≡ record { start = a.span.start; end = b.span.end })
+IsWordOf word a b = IsRelatedOf Label.has_or_like a (leaf word (node Label.add b.span (add_parts b.inner) none)) b.span.end
 
 abbrev pub in_trees : Option (Node Add.Add) → Erased
 in_trees None = none
@@ -117,38 +117,36 @@ abbrev pub type_test_trees : Node Name → Option (Node Add.Add) → Erased
 type_test_trees name o = leaf (codes "is") (name_tree name (in_trees o))
 
 abbrev pub IsTypeTestOf : Node Add.Add → Node Name × Option (Node Add.Add) → Node Relation.Relation → Type 0
-IsTypeTestOf a x n =
-    (relation_parts n.inner ≡ node Label.add a.span (add_parts a.inner) (variant Label.is_type (type_test_trees x.0 x.1) none))
-    × (n.span ≡ record { start = a.span.start; end = type_test_end x.0 x.1 })
+IsTypeTestOf a x = IsRelatedOf Label.is_type a (type_test_trees x.0 x.1) (type_test_end x.0 x.1)
 
 -- Brackets from here on, with the closing bracket's end.
 abbrev pub IsCallOf : ℕ → Vec (Node Expr.Expr) Global × ℕ → Node MemAccess.MemAccess → Type 0
-IsCallOf start x n =
-    (access_parts n.inner ≡ leaf (codes "(") (join (item_trees Label.expr expr_parts x.0.items) (leaf (codes ")") none))) × (n.span ≡ record { start = start; end = x.1 })
+IsCallOf start x = IsMade access_parts (bracketed (codes "(") (item_trees Label.expr expr_parts x.0.items) (codes ")")) (record { start = start; end = x.1 })
 
 abbrev pub IsParensOf : ℕ → Node Expr.Expr × ℕ → Node Primary.Primary → Type 0
-IsParensOf start x n =
-    (primary_parts n.inner ≡ variant Label.parens (leaf (codes "(") (node Label.expr x.0.span (expr_parts x.0.inner) (leaf (codes ")") none))) none) × (n.span ≡ record { start = start; end = x.1 })
+IsParensOf start x = IsBracketsOf Label.parens (codes "(") (node Label.expr x.0.span (expr_parts x.0.inner) none) (codes ")") start x.1
 
 abbrev pub IsRecordOf : ℕ → Vec (Node RecInit.RecInit) Global × ℕ → Node Primary.Primary → Type 0
-IsRecordOf start x n =
-    (primary_parts n.inner ≡ variant Label.fields (leaf (codes "{") (join (item_trees Label.rec_init init_parts x.0.items) (leaf (codes "}") none))) none) × (n.span ≡ record { start = start; end = x.1 })
+IsRecordOf start x = IsBracketsOf Label.fields (codes "{") (item_trees Label.rec_init init_parts x.0.items) (codes "}") start x.1
 
 abbrev pub IsInitOf : Node Primary.Primary → Node Expr.Expr → Node RecInit.RecInit → Type 0
-IsInitOf key value n =
-    (init_parts n.inner ≡ node Label.primary key.span (primary_parts key.inner) (leaf (codes ":") (node Label.expr value.span (expr_parts value.inner) none)))
-    × (n.span ≡ record { start = key.span.start; end = value.span.end })
+IsInitOf key value =
+    IsMade init_parts (node Label.primary key.span (primary_parts key.inner) (leaf (codes ":") (node Label.expr value.span (expr_parts value.inner) none))) (span_to key.span value.span.end)
 
 -- `if` from here on, with its three expressions
 abbrev pub IsIfOf : ℕ → Node Expr.Expr → Node Expr.Expr → Node Expr.Expr → Node Expr.Expr → Type 0
-IsIfOf start a b c n =
-    (expr_parts n.inner ≡ leaf (codes "if") (node Label.expr a.span (expr_parts a.inner) (leaf (codes "then") (node Label.expr b.span (expr_parts b.inner) (leaf (codes "else") (node Label.expr c.span (expr_parts c.inner) none))))))
-    × (n.span ≡ record { start = start; end = c.span.end })
+IsIfOf start a b c =
+    IsMade expr_parts (leaf (codes "if") (node Label.expr a.span (expr_parts a.inner) (leaf (codes "then") (node Label.expr b.span (expr_parts b.inner) (leaf (codes "else") (node Label.expr c.span (expr_parts c.inner) none))))))
+    (record { start = start; end = c.span.end })
 
 -- What is kept beside a node.
--- a sign and what was read behind it
-abbrev pub IsSigned : {S X : Type 0} → S → X → S × X → Type 0
-IsSigned sign x y = y ≡ (sign, x)
+-- this, and what was read behind it
+abbrev pub IsBeside : {S X : Type 0} → S → X → S × X → Type 0
+IsBeside first x y = y ≡ (first, x)
+
+-- this, and the one item that was read behind it
+abbrev pub IsBesideOne : {S X : Type 0} → S → X → S × Vec X Global → Type 0
+IsBesideOne first x y = (y.0 ≡ first) × (y.1.items ≡ x ∷ [])
 
 -- a type and the operand that was read behind it
 abbrev pub IsTyped : Node Name → Node Add.Add → Node Name × Option (Node Add.Add) → Type 0
@@ -157,10 +155,6 @@ IsTyped name x y = y ≡ (name, Some x)
 -- the primary that was read, without any access
 abbrev pub IsUncalled : Node Primary.Primary → Node Primary.Primary × Vec (Node MemAccess.MemAccess) Global → Type 0
 IsUncalled x y = (y.0 ≡ x) × (y.1.items ≡ [])
-
--- a primary and the call that was read behind it
-abbrev pub IsCalled : Node Primary.Primary → Node MemAccess.MemAccess → Node Primary.Primary × Vec (Node MemAccess.MemAccess) Global → Type 0
-IsCalled primary x y = (y.0 ≡ primary) × (y.1.items ≡ x ∷ [])
 
 -- What is read beside nodes.
 -- a sign of this kind and a tree of this label, for which the node stands; or the refusal is the reader's

@@ -13,7 +13,7 @@ use Rattle.cedar_tree.specs.declared.tree.Primary as Primary
 use Rattle.cedar_tree.specs.NodeLists.{item_trees}
 use Rattle.cedar_tree.specs.Erased.{Erased, variant, expr_parts, primary_parts}
 use Rattle.cedar_reading.specs.Lexemes.{nodes_of}
-use Rattle.cedar_reading.specs.Reading.{AreRight, Fails, Stands}
+use Rattle.cedar_reading.specs.Reading.{AreRight, Fails, Stands, IsMade}
 use Rattle.cedar_reading.specs.ReadingParts.{variable_parts}
 use Rattle.cedar_tree.specs.declared.tree.VariableDef.{VariableDef}
 use Rattle.cedar_tokens.specs.declared.token.Span.{Span}
@@ -27,10 +27,17 @@ abbrev pub GivesItems : {X : Type 0} → Label → (X → Erased) → Result (Ve
 GivesItems l parts (Ok x) a = (f : Forest Label Lexeme) × (a ≡ done f x.1.now) × StandsItems (item_trees l parts x.0.items) f
 GivesItems l parts (Err e) a = Fails e a
 
+-- these trees between two brackets
+abbrev pub bracketed : List ℕ → Erased → List ℕ → Erased
+bracketed first trees last = leaf first (join trees (leaf last none))
+
+-- a primary of this variant: these trees between two brackets, from here to there
+abbrev pub IsBracketsOf : Label → List ℕ → Erased → List ℕ → ℕ → ℕ → Node Primary.Primary → Type 0
+IsBracketsOf l first trees last start end = IsMade primary_parts (variant l (bracketed first trees last) none) (record { start = start; end = end })
+
 -- a list from here on, of these items and with its closing bracket's end
 abbrev pub IsListOf : ℕ → Vec (Node Expr.Expr) Global × ℕ → Node Primary.Primary → Type 0
-IsListOf start x n =
-    (primary_parts n.inner ≡ variant Label.list (leaf (codes "[") (join (item_trees Label.expr expr_parts x.0.items) (leaf (codes "]") none))) none) × (n.span ≡ record { start = start; end = x.1 })
+IsListOf start x = IsBracketsOf Label.list (codes "[") (item_trees Label.expr expr_parts x.0.items) (codes "]") start x.1
 
 -- the reader gives a scope, and the three variables that were read stand for it; or the refusal is the reader's
 abbrev pub GivesScope : Result ((Node VariableDef × Node VariableDef × Node VariableDef) × Bor (List Lexeme)) Refusal → Answer Lexeme → Type 0

@@ -3,7 +3,7 @@ ghost use Rattle.std.specs.Prelude.{◌≡◌, MatchResult, box_value, codes};
 ghost use Rattle.cedar_reading.specs.Reading.{PassesOn};
 ghost use Rattle.cedar_reading.specs.ReadingParts.{Makes, IsOrExprOf};
 ghost use Rattle.cedar_nodes.specs.ReadingItems.{IsListOf};
-ghost use Rattle.cedar_nodes.specs.ReadingExprs.{end_of_last, IsOrOf, IsAndOf, IsAddOf, IsMultOf, IsMemberOf, IsUnaryOf, IsLoneRelationOf, IsComparedOf, IsWordOf, IsTypeTestOf, IsCallOf, IsParensOf, IsRecordOf, IsInitOf, IsIfOf, IsSigned, IsTyped, IsUncalled, IsCalled, type_test_end};
+ghost use Rattle.cedar_nodes.specs.ReadingExprs.{end_of_last, IsOrOf, IsAndOf, IsAddOf, IsMultOf, IsMemberOf, IsUnaryOf, IsLoneRelationOf, IsComparedOf, IsWordOf, IsTypeTestOf, IsCallOf, IsParensOf, IsRecordOf, IsInitOf, IsIfOf, IsBeside, IsBesideOne, IsTyped, IsUncalled, type_test_end};
 ghost use Rattle.cedar_reading.specs.declared.reading.Refusal.TheVariants.{OutOfMemory};
 
 use cedar_reading::accesses::accesses_end;
@@ -23,14 +23,10 @@ pub fn or_expr<'t, 'src>(
     ensures passes { PassesOn read.entry result }
     ensures made { Makes IsOrExprOf read.entry result }
 {
-    match read {
-        Ok((or, rest)) => {
-            let span = or.span;
-            let inner = Expr::Or(Box::new(alloc, or)?);
-            Ok((Node { inner, span }, rest))
-        }
-        Err(refusal) => Err(refusal),
-    }
+    let (or, rest) = read?;
+    let span = or.span;
+    let inner = Expr::Or(Box::new(alloc, or)?);
+    Ok((Node { inner, span }, rest))
 }
 
 // `if` from `start` on, with these expressions.
@@ -90,10 +86,7 @@ pub fn or_node<'src>(initial: Node<And<'src>>, extended: Vec<Node<And<'src>>>) -
     ensures { IsOrOf initial.entry extended.entry.items result }
 {
     let end = nodes_end(initial.span.end, &extended);
-    let span = Span {
-        start: initial.span.start,
-        end,
-    };
+    let span = initial.span.to(end);
     Node {
         inner: Or { initial, extended },
         span,
@@ -108,10 +101,7 @@ pub fn and_node<'src>(
     ensures { IsAndOf initial.entry extended.entry.items result }
 {
     let end = nodes_end(initial.span.end, &extended);
-    let span = Span {
-        start: initial.span.start,
-        end,
-    };
+    let span = initial.span.to(end);
     Node {
         inner: And { initial, extended },
         span,
@@ -126,10 +116,7 @@ pub fn add_node<'src>(
     ensures { IsAddOf initial.entry extended.entry.items result }
 {
     let end = signed_end(initial.span.end, &extended);
-    let span = Span {
-        start: initial.span.start,
-        end,
-    };
+    let span = initial.span.to(end);
     Node {
         inner: Add { initial, extended },
         span,
@@ -144,10 +131,7 @@ pub fn mult_node<'src>(
     ensures { IsMultOf initial.entry extended.entry.items result }
 {
     let end = signed_end(initial.span.end, &extended);
-    let span = Span {
-        start: initial.span.start,
-        end,
-    };
+    let span = initial.span.to(end);
     Node {
         inner: Mult { initial, extended },
         span,
@@ -162,28 +146,38 @@ pub fn member_node<'src>(
     ensures { IsMemberOf item.entry access.entry.items result }
 {
     let end = accesses_end(item.span.end, &access);
-    let span = Span {
-        start: item.span.start,
-        end,
-    };
+    let span = item.span.to(end);
     Node {
         inner: Member { item, access },
         span,
     }
 }
 
-/// An operand behind its sign.
-pub fn with_sign<'t, 'src, S: Copy, T: Drop>(
-    sign: S,
+/// What was read, beside this.
+pub fn beside<'t, 'src, S: Drop, T: Drop>(
+    first: S,
     read: Parsed<'t, 'src, T>,
 ) -> Parsed<'t, 'src, (S, T)>
     ensures passes { PassesOn read.entry result }
-    ensures made { Makes (IsSigned sign) read.entry result }
+    ensures made { Makes (IsBeside first) read.entry result }
 {
-    match read {
-        Ok((operand, rest)) => Ok(((sign, operand), rest)),
-        Err(refusal) => Err(refusal),
-    }
+    let (item, rest) = read?;
+    Ok(((first, item), rest))
+}
+
+/// The one item that was read as a vector, beside this.
+pub fn beside_one<'t, 'src, S: Drop, T: Drop>(
+    alloc: Global,
+    first: S,
+    read: Parsed<'t, 'src, T>,
+) -> Parsed<'t, 'src, (S, Vec<T>)>
+    ensures passes { PassesOn read.entry result }
+    ensures made { Makes (IsBesideOne first) read.entry result }
+{
+    let (item, rest) = read?;
+    let mut items = Vec::new(alloc);
+    items.push(item)?;
+    Ok(((first, items), rest))
 }
 
 /// A type, and the operand behind `in`.
@@ -194,10 +188,8 @@ pub fn with_type<'t, 'src>(
     ensures passes { PassesOn read.entry result }
     ensures made { Makes (IsTyped entity_type.entry) read.entry result }
 {
-    match read {
-        Ok((operand, rest)) => Ok(((entity_type, Some(operand)), rest)),
-        Err(refusal) => Err(refusal),
-    }
+    let (operand, rest) = read?;
+    Ok(((entity_type, Some(operand)), rest))
 }
 
 /// One operand alone.
@@ -212,23 +204,6 @@ pub fn lone_relation<'src>(initial: Node<Add<'src>>) -> Node<Relation<'src>>
     }
 }
 
-// Operands with this comparison between them.
-fn compared<'src>(
-    initial: Node<Add<'src>>,
-    op: RelOp,
-    operand: Node<Add<'src>>,
-) -> Node<Relation<'src>>
-    ensures { IsComparedOf initial.entry (op, operand.entry) result }
-{
-    let span = Span {
-        start: initial.span.start,
-        end: operand.span.end,
-    };
-    let extended = Some((op, operand));
-    let inner = Relation::Common { initial, extended };
-    Node { inner, span }
-}
-
 /// Two operands with a comparison between them.
 pub fn compared_node<'t, 'src>(
     initial: Node<Add<'src>>,
@@ -237,22 +212,11 @@ pub fn compared_node<'t, 'src>(
     ensures passes { PassesOn read.entry result }
     ensures made { Makes (IsComparedOf initial.entry) read.entry result }
 {
-    match read {
-        Ok(((op, operand), rest)) => Ok((compared(initial, op, operand), rest)),
-        Err(refusal) => Err(refusal),
-    }
-}
-
-// An operand with what stands after `has`.
-fn has_relation<'src>(target: Node<Add<'src>>, field: Node<Add<'src>>) -> Node<Relation<'src>>
-    ensures { IsWordOf (codes "has") target.entry field.entry result }
-{
-    let span = Span {
-        start: target.span.start,
-        end: field.span.end,
-    };
-    let inner = Relation::Has { target, field };
-    Node { inner, span }
+    let ((initial, (op, operand)), rest) = beside(initial, read)?;
+    let span = initial.span.to(operand.span.end);
+    let extended = Some((op, operand));
+    let inner = Relation::Common { initial, extended };
+    Ok((Node { inner, span }, rest))
 }
 
 /// An operand with what stands after `has`.
@@ -263,22 +227,10 @@ pub fn has_node<'t, 'src>(
     ensures passes { PassesOn read.entry result }
     ensures made { Makes (IsWordOf (codes "has") target.entry) read.entry result }
 {
-    match read {
-        Ok((field, rest)) => Ok((has_relation(target, field), rest)),
-        Err(refusal) => Err(refusal),
-    }
-}
-
-// An operand with this pattern after `like`.
-fn like_relation<'src>(target: Node<Add<'src>>, pattern: Node<Add<'src>>) -> Node<Relation<'src>>
-    ensures { IsWordOf (codes "like") target.entry pattern.entry result }
-{
-    let span = Span {
-        start: target.span.start,
-        end: pattern.span.end,
-    };
-    let inner = Relation::Like { target, pattern };
-    Node { inner, span }
+    let ((target, field), rest) = beside(target, read)?;
+    let span = target.span.to(field.span.end);
+    let inner = Relation::Has { target, field };
+    Ok((Node { inner, span }, rest))
 }
 
 /// An operand with the pattern after `like`.
@@ -289,10 +241,10 @@ pub fn like_node<'t, 'src>(
     ensures passes { PassesOn read.entry result }
     ensures made { Makes (IsWordOf (codes "like") target.entry) read.entry result }
 {
-    match read {
-        Ok((pattern, rest)) => Ok((like_relation(target, pattern), rest)),
-        Err(refusal) => Err(refusal),
-    }
+    let ((target, pattern), rest) = beside(target, read)?;
+    let span = target.span.to(pattern.span.end);
+    let inner = Relation::Like { target, pattern };
+    Ok((Node { inner, span }, rest))
 }
 
 // Where a type ends, or the operand behind it.
@@ -305,26 +257,6 @@ fn type_end(entity_type: &Node<Name<'_>>, in_entity: &Option<Node<Add<'_>>>) -> 
     }
 }
 
-// An operand with this type after `is`, and perhaps an operand behind it.
-fn type_test<'src>(
-    target: Node<Add<'src>>,
-    entity_type: Node<Name<'src>>,
-    in_entity: Option<Node<Add<'src>>>,
-) -> Node<Relation<'src>>
-    ensures { IsTypeTestOf target.entry (entity_type.entry, in_entity.entry) result }
-{
-    let span = Span {
-        start: target.span.start,
-        end: type_end(&entity_type, &in_entity),
-    };
-    let inner = Relation::IsIn {
-        target,
-        entity_type,
-        in_entity,
-    };
-    Node { inner, span }
-}
-
 /// An operand with what stands after `is`.
 pub fn is_node<'t, 'src>(
     target: Node<Add<'src>>,
@@ -333,28 +265,14 @@ pub fn is_node<'t, 'src>(
     ensures passes { PassesOn read.entry result }
     ensures made { Makes (IsTypeTestOf target.entry) read.entry result }
 {
-    match read {
-        Ok(((entity_type, in_entity), rest)) => {
-            Ok((type_test(target, entity_type, in_entity), rest))
-        }
-        Err(refusal) => Err(refusal),
-    }
-}
-
-// This member behind these signs.
-fn signed_member<'src>(
-    start: usize,
-    op: Option<NegOp>,
-    item: Node<Member<'src>>,
-) -> Node<Unary<'src>>
-    ensures { IsUnaryOf start op item.entry result }
-{
-    let end = item.span.end;
-    let inner = Unary { op, item };
-    Node {
-        inner,
-        span: Span { start, end },
-    }
+    let ((target, (entity_type, in_entity)), rest) = beside(target, read)?;
+    let span = target.span.to(type_end(&entity_type, &in_entity));
+    let inner = Relation::IsIn {
+        target,
+        entity_type,
+        in_entity,
+    };
+    Ok((Node { inner, span }, rest))
 }
 
 /// A member behind its signs, from `start` on.
@@ -366,10 +284,11 @@ pub fn unary_node<'t, 'src>(
     ensures passes { PassesOn read.entry result }
     ensures made { Makes (IsUnaryOf start op) read.entry result }
 {
-    match read {
-        Ok((item, rest)) => Ok((signed_member(start, op, item), rest)),
-        Err(refusal) => Err(refusal),
-    }
+    let (item, rest) = read?;
+    let end = item.span.end;
+    let inner = Unary { op, item };
+    let span = Span { start, end };
+    Ok((Node { inner, span }, rest))
 }
 
 /// A primary that is not called.
@@ -380,43 +299,8 @@ pub fn lone_primary<'t, 'src>(
     ensures passes { PassesOn read.entry result }
     ensures made { Makes IsUncalled read.entry result }
 {
-    match read {
-        Ok((primary, rest)) => Ok(((primary, Vec::new(alloc)), rest)),
-        Err(refusal) => Err(refusal),
-    }
-}
-
-/// A primary with its call.
-pub fn called_primary<'t, 'src>(
-    alloc: Global,
-    primary: Node<Primary<'src>>,
-    read: Parsed<'t, 'src, Node<MemAccess<'src>>>,
-) -> Parsed<'t, 'src, (Node<Primary<'src>>, Vec<Node<MemAccess<'src>>>)>
-    ensures passes { PassesOn read.entry result }
-    ensures made { Makes (IsCalled primary.entry) read.entry result }
-{
-    match read {
-        Ok((call, rest)) => {
-            let mut access = Vec::new(alloc);
-            access.push(call)?;
-            Ok(((primary, access), rest))
-        }
-        Err(refusal) => Err(refusal),
-    }
-}
-
-// A call with these arguments.
-fn call_access<'src>(
-    start: usize,
-    arguments: Vec<Node<Expr<'src>>>,
-    end: usize,
-) -> Node<MemAccess<'src>>
-    ensures { IsCallOf start (arguments.entry, end) result }
-{
-    Node {
-        inner: MemAccess::Call(arguments),
-        span: Span { start, end },
-    }
+    let (primary, rest) = read?;
+    Ok(((primary, Vec::new(alloc)), rest))
 }
 
 /// A call from `start` on, with its arguments and the closing bracket's end.
@@ -427,24 +311,10 @@ pub fn call_node<'t, 'src>(
     ensures passes { PassesOn read.entry result }
     ensures made { Makes (IsCallOf start) read.entry result }
 {
-    match read {
-        Ok(((parts, end), rest)) => Ok((call_access(start, parts, end), rest)),
-        Err(refusal) => Err(refusal),
-    }
-}
-
-// A parenthesis around this expression.
-fn parens_primary<'src>(
-    start: usize,
-    expr: Box<Node<Expr<'src>>>,
-    end: usize,
-) -> Node<Primary<'src>>
-    ensures { IsParensOf start (box_value expr.entry, end) result }
-{
-    Node {
-        inner: Primary::Expr(expr),
-        span: Span { start, end },
-    }
+    let ((arguments, end), rest) = read?;
+    let inner = MemAccess::Call(arguments);
+    let span = Span { start, end };
+    Ok((Node { inner, span }, rest))
 }
 
 /// A parenthesis from `start` on, with the closing bracket's end.
@@ -456,23 +326,10 @@ pub fn parens_node<'t, 'src>(
     ensures passes { PassesOn read.entry result }
     ensures made { Makes (IsParensOf start) read.entry result }
 {
-    match read {
-        Ok(((expr, end), rest)) => {
-            let boxed = Box::new(alloc, expr)?;
-            Ok((parens_primary(start, boxed, end), rest))
-        }
-        Err(refusal) => Err(refusal),
-    }
-}
-
-// A list of these items.
-fn list_primary<'src>(start: usize, items: Vec<Node<Expr<'src>>>, end: usize) -> Node<Primary<'src>>
-    ensures { IsListOf start (items.entry, end) result }
-{
-    Node {
-        inner: Primary::EList(items),
-        span: Span { start, end },
-    }
+    let ((expr, end), rest) = read?;
+    let inner = Primary::Expr(Box::new(alloc, expr)?);
+    let span = Span { start, end };
+    Ok((Node { inner, span }, rest))
 }
 
 /// A list from `start` on, with the closing bracket's end.
@@ -483,24 +340,10 @@ pub fn list_node<'t, 'src>(
     ensures passes { PassesOn read.entry result }
     ensures made { Makes (IsListOf start) read.entry result }
 {
-    match read {
-        Ok(((parts, end), rest)) => Ok((list_primary(start, parts, end), rest)),
-        Err(refusal) => Err(refusal),
-    }
-}
-
-// A record of these entries.
-fn record_primary<'src>(
-    start: usize,
-    entries: Vec<Node<RecInit<'src>>>,
-    end: usize,
-) -> Node<Primary<'src>>
-    ensures { IsRecordOf start (entries.entry, end) result }
-{
-    Node {
-        inner: Primary::RInits(entries),
-        span: Span { start, end },
-    }
+    let ((items, end), rest) = read?;
+    let inner = Primary::EList(items);
+    let span = Span { start, end };
+    Ok((Node { inner, span }, rest))
 }
 
 /// A record from `start` on, with the closing brace's end.
@@ -511,22 +354,10 @@ pub fn record_node<'t, 'src>(
     ensures passes { PassesOn read.entry result }
     ensures made { Makes (IsRecordOf start) read.entry result }
 {
-    match read {
-        Ok(((parts, end), rest)) => Ok((record_primary(start, parts, end), rest)),
-        Err(refusal) => Err(refusal),
-    }
-}
-
-// This key with this value.
-fn record_init<'src>(key: Node<Primary<'src>>, value: Node<Expr<'src>>) -> Node<RecInit<'src>>
-    ensures { IsInitOf key.entry value.entry result }
-{
-    let span = Span {
-        start: key.span.start,
-        end: value.span.end,
-    };
-    let inner = RecInit { key, value };
-    Node { inner, span }
+    let ((entries, end), rest) = read?;
+    let inner = Primary::RInits(entries);
+    let span = Span { start, end };
+    Ok((Node { inner, span }, rest))
 }
 
 /// A key with its value.
@@ -537,8 +368,9 @@ pub fn init_node<'t, 'src>(
     ensures passes { PassesOn read.entry result }
     ensures made { Makes (IsInitOf key.entry) read.entry result }
 {
-    match read {
-        Ok((value, rest)) => Ok((record_init(key, value), rest)),
-        Err(refusal) => Err(refusal),
-    }
+    let (value, rest) = read?;
+    let end = value.span.end;
+    let span = key.span.to(end);
+    let inner = RecInit { key, value };
+    Ok((Node { inner, span }, rest))
 }

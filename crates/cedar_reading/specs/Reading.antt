@@ -85,6 +85,14 @@ pub record Stands (span : Span) (parts : Erased) (inside : Forest Label Lexeme) 
   pub same : AreRight inside → parts ≡ nodes_of inside
   pub place : span_of (λ (l : Lexeme). l.text.now) (λ (l : Lexeme). l.span) (yield (without_trailing kind inside)) ≡ Some span
 
+-- a node of these parts, with this span
+abbrev pub IsMade : {X : Type 0} → (X → Erased) → Erased → Span → Node X → Type 0
+IsMade parts trees span n = (parts n.inner ≡ trees) × (n.span ≡ span)
+
+-- from where this span starts to here
+abbrev pub span_to : Span → ℕ → Span
+span_to from end = record { start = from.start; end = end }
+
 -- the reader gives a tree of this label, and the node that was read stands for it; or the refusal is the reader's
 abbrev pub GivesNode : {X : Type 0} → Label → (X → Erased) → Result (Node X × Bor (List Lexeme)) Refusal → Answer Lexeme → Type 0
 GivesNode l parts (Ok x) a = (f : Forest Label Lexeme) × (a ≡ done (branch l f none) x.1.now) × Stands x.0.span (parts x.0.inner) f
@@ -132,13 +140,13 @@ FollowedBy k (Err f) (Err e) = e ≡ f
 
 -- an operand that a primary and what is accessed in it make
 abbrev pub IsOperandOf : Node Primary.Primary → List (Node MemAccess.MemAccess) → Span → Node Add.Add → Type 0
-IsOperandOf item access s n = (add_parts n.inner ≡ operand_parts s item access) × (n.span ≡ s)
+IsOperandOf item access s = IsMade add_parts (operand_parts s item access) s
 
 abbrev pub IsLiteralOf : Literal → Span → Node Primary.Primary → Type 0
-IsLiteralOf t s n = (primary_parts n.inner ≡ node (variant_label t) s (leaf (literal_text t) none) none) × (n.span ≡ s)
+IsLiteralOf t s = IsMade primary_parts (node (variant_label t) s (leaf (literal_text t) none) none) s
 
 abbrev pub IsNamePrimaryOf : Node Name → Node Primary.Primary → Type 0
-IsNamePrimaryOf name n = (primary_parts n.inner ≡ node Label.name name.span (name_parts name.inner) none) × (n.span ≡ name.span)
+IsNamePrimaryOf name = IsMade primary_parts (node Label.name name.span (name_parts name.inner) none) name.span
 
 -- the token of this kind and a tree of this label behind it, and the node that was read stands for that
 abbrev pub GivesBehind : {X : Type 0} → Kind → Label → (X → Erased) → Result (Node X × Bor (List Lexeme)) Refusal → Answer Lexeme → Type 0

@@ -27,7 +27,7 @@ use Rattle.cedar_tree.specs.declared.tree.Add as Add
 use Rattle.cedar_tree.specs.declared.tree.Expr as Expr
 use Rattle.cedar_tree.specs.declared.tree.Or as Or
 use Rattle.cedar_tree.specs.Erased.{Erased, node, ident_tree, name_tree, str_tree, primary_parts, slot_text, type_parts, operator_parts, add_parts, expr_parts, or_parts}
-use Rattle.cedar_reading.specs.Reading.{kind, Fails, Stands, str_parts, name_parts}
+use Rattle.cedar_reading.specs.Reading.{kind, Fails, Stands, IsMade, span_to, str_parts, name_parts}
 
 -- Literals.
 abbrev pub is_literal : Kind → Bool
@@ -91,9 +91,7 @@ GivesWords (Ok x) ts = (row : Forest Label Lexeme) × Gathers row × Stands x.0.
 GivesWords (Err e) ts = (Z : Reader Lexeme) → Fails e (words_then Z ts)
 
 abbrev pub IsEntityOf : Node Name → Node Str → Node Primary.Primary → Type 0
-IsEntityOf path eid n =
-    (primary_parts n.inner ≡ node Label.ref (record { start = path.span.start; end = eid.span.end }) (name_tree path (leaf (codes "::") (str_tree eid none))) none)
-    × (n.span ≡ record { start = path.span.start; end = eid.span.end })
+IsEntityOf path eid = let span = span_to path.span eid.span.end in IsMade primary_parts (node Label.ref span (name_tree path (leaf (codes "::") (str_tree eid none))) none) span
 
 -- whether the name, with which the tokens begin, is a variable alone
 abbrev pub TellsVariable : List Lexeme → Node Name → Bool → Type 0
@@ -106,7 +104,7 @@ slot_kind Slot.Principal = K.PrincipalSlot
 slot_kind Slot.Resource = K.ResourceSlot
 
 abbrev pub IsSlotOf : Slot → Span → Node Primary.Primary → Type 0
-IsSlotOf t s n = (primary_parts n.inner ≡ node Label.slot s (leaf (slot_text t) none) none) × (n.span ≡ s)
+IsSlotOf t s = IsMade primary_parts (node Label.slot s (leaf (slot_text t) none) none) s
 
 abbrev pub variable_kind : Slot → Kind
 variable_kind Slot.Principal = K.Principal
@@ -133,14 +131,14 @@ variable_end v (Some name) None = name.span.end
 variable_end v None None = v.span.end
 
 abbrev pub IsVariableOf : Node Ident → Option (Node Name) → Option (RelOp × Node Add.Add) → Node VariableDef → Type 0
-IsVariableOf v type operator n = (variable_parts n.inner ≡ ident_tree v (type_parts type (operator_parts operator))) × (n.span ≡ record { start = v.span.start; end = variable_end v type operator })
+IsVariableOf v type operator = IsMade variable_parts (ident_tree v (type_parts type (operator_parts operator))) (span_to v.span (variable_end v type operator))
 
 -- an operand without any operator
 abbrev pub IsLoneOrOf : Node Add.Add → Node Or.Or → Type 0
-IsLoneOrOf a n = (or_parts n.inner ≡ node Label.and a.span (node Label.relation a.span (node Label.add a.span (add_parts a.inner) none) none) none) × (n.span ≡ a.span)
+IsLoneOrOf a = IsMade or_parts (node Label.and a.span (node Label.relation a.span (node Label.add a.span (add_parts a.inner) none) none) none) a.span
 
 abbrev pub IsOrExprOf : Node Or.Or → Node Expr.Expr → Type 0
-IsOrExprOf o n = (expr_parts n.inner ≡ node Label.or o.span (or_parts o.inner) none) × (n.span ≡ o.span)
+IsOrExprOf o = IsMade expr_parts (node Label.or o.span (or_parts o.inner) none) o.span
 
 -- after a success what was made is as P says of what was read
 abbrev pub Makes : {X Y : Type 0} → (X → Y → Type 0) → Result (X × Bor (List Lexeme)) Refusal → Result (Y × Bor (List Lexeme)) Refusal → Type 0

@@ -9,4 +9,4 @@ use Rattle.cedar_nodes.proofs.nodes.mult_node.Goals as goal
 pub returns : goal.returns
 returns c =
     let first = c.args.initial in
-    (view_mult first c.args.extended, ap (λ z. record { start = first.span.start; end = z }) (c.signed_end-end.ensures ∙ ap (end_of_last (λ (x : MultOp × Node Unary.Unary). x.1) first.span.end) c.deref.ensures.value))
+    (view_mult first c.args.extended, c.to-span.ensures ∙ ap (λ z. record { start = first.span.start; end = z }) (c.signed_end-end.ensures ∙ ap (end_of_last (λ (x : MultOp × Node Unary.Unary). x.1) first.span.end) c.deref.ensures.value))

@@ -8,4 +8,4 @@ use Rattle.cedar_nodes.proofs.nodes.or_node.Goals as goal
 pub returns : goal.returns
 returns c =
     let first = c.args.initial in
-    (view_or first c.args.extended, ap (λ z. record { start = first.span.start; end = z }) (c.nodes_end-end.ensures ∙ ap (end_of_last (λ (n : Node And.And). n) first.span.end) c.deref.ensures.value))
+    (view_or first c.args.extended, c.to-span.ensures ∙ ap (λ z. record { start = first.span.start; end = z }) (c.nodes_end-end.ensures ∙ ap (end_of_last (λ (n : Node And.And). n) first.span.end) c.deref.ensures.value))
