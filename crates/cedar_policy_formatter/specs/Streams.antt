@@ -1,21 +1,23 @@
 -- What a run reads, writes and answers.
-use Rattle.std.specs.Prelude.{◌≡◌, ◌<◌, ◌↔◌, ◌++◌, ◌⊎◌, ℕ, ℤ, List, length, Bool, IsTrue, Option, Result, Ok, Err, ⊤}
+use Rattle.std.specs.Prelude.{◌↔◌, ◌⊎◌, ℕ, ℤ, List, Bool, IsTrue, Option, Result, Ok, Err, ⊤}
 use Rattle.std.specs.Str.{IsUtf8}
-use Rattle.std.specs.Io.KnownBytes.{Appends, Consumes, IsAtEnd, Keeps}
+use Rattle.std.specs.Io.KnownBytes.{Appends, Keeps}
+use Rattle.cedar_streams.specs.Texts.{GivesAll, GivesText, AppendsPart}
+use Rattle.cedar_streams.specs.declared.reading.ReadFault.{ReadFault}
+use Rattle.cedar_streams.specs.declared.reading.ReadFault.TheVariants as without
 use Rattle.cedar_grammar.specs.Texts.{Accepted}
 use Rattle.cedar_tree.specs.Refusals.{Refuses}
+use Rattle.cedar_tree.specs.declared.error.FormatError.TheVariants.{OutOfMemory}
 use Rattle.cedar_canonical.specs.Canonical.{IsOutputOf}
 use Rattle.cedar_policy_formatter.specs.Refused.{IsMemory}
 use Rattle.cedar_policy_formatter.specs.declared.fmt.stream.RunFault.{RunFault}
 use Rattle.cedar_policy_formatter.specs.declared.fmt.stream.RunFault.TheVariants.{Read, NotUtf8, Format, Write}
 
--- x is all that was left to read, and nothing is left
-abbrev pub GivesAll : Option (List ℕ) → Option (List ℕ) → List ℕ → Type 0
-GivesAll old new x = Consumes old new x × IsAtEnd new
-
--- and it is UTF-8
-abbrev pub GivesText : Option (List ℕ) → Option (List ℕ) → List ℕ → Type 0
-GivesText old new x = GivesAll old new x × IsUtf8 x
+-- the fault of a run that has no text
+abbrev pub run_fault : ReadFault → RunFault
+run_fault without.Read = Read
+run_fault without.NotUtf8 = NotUtf8
+run_fault without.OutOfMemory = Format OutOfMemory
 
 -- why there is nothing to write: a read failed; all was read, and isn't UTF-8; a text is refused, or memory is wanting
 abbrev pub FailsToRead : Option (List ℕ) → Option (List ℕ) → RunFault → Type 0
@@ -23,10 +25,6 @@ FailsToRead old new Read = ⊤
 FailsToRead old new NotUtf8 = (x : List ℕ) × GivesAll old new x × ¬ (IsUtf8 x)
 FailsToRead old new (Format e) = IsMemory e ⊎ ((x : List ℕ) × GivesText old new x × Refuses x e)
 FailsToRead old new Write = ⊥
-
--- a beginning of y was appended, and not all of y
-abbrev pub AppendsPart : Option (List ℕ) → Option (List ℕ) → List ℕ → Type 0
-AppendsPart held holds y = (front rest : List ℕ) × (y ≡ front ++ rest) × (0 < length rest) × Appends held holds front
 
 -- y is the output of an accepted text, which was read to its end
 abbrev pub IsOutputOfAll : ℕ → ℤ → Option (List ℕ) → Option (List ℕ) → List ℕ → Type 0

@@ -39,10 +39,9 @@ use cedar_tokens::token::{Comments, WrappedToken};
 use std::alloc::{AllocError, Global};
 
 mod stream;
-mod watched;
 
+pub use cedar_streams::{ReadFault, Watched, read_text};
 pub use stream::{RunFault, check_stream, format_stream};
-pub use watched::Watched;
 
 /// The policies `ps`, laid out.
 ///

@@ -13,7 +13,7 @@ pub use cedar_documents::{config, doc};
 pub use cedar_layout::{layout, utils};
 pub use cedar_tokens::{lexer, token};
 pub use fmt::{
-    RunFault, Watched, check_stream, every_layout_reads_back, format_stream, is_formatted,
-    kept_policies_have_the_same_tokens, outputs_keep_the_policies, policies_str_to_pretty,
-    same_layout, soundness_check,
+    ReadFault, RunFault, Watched, check_stream, every_layout_reads_back, format_stream,
+    is_formatted, kept_policies_have_the_same_tokens, outputs_keep_the_policies,
+    policies_str_to_pretty, read_text, same_layout, soundness_check,
 };

@@ -1,5 +1,6 @@
 //! What the program writes and which status it answers, for each line of its tables.
 use super::*;
+use crate::tell_unread_words;
 use std::alloc::AllocError;
 use std::io;
 use std::io::ErrorKind;
@@ -79,19 +80,19 @@ fn run_with<R: Files + AllocGlobal>(
         calls: 0,
         fails_at: fails_at.0,
     };
-    let writer = Sink {
+    let mut writer = Watched::new(Sink {
         taken: &mut output,
         most: 7,
         calls: 0,
         fails_at: fails_at.1,
-    };
-    let teller = Sink {
+    });
+    let mut teller = Sink {
         taken: &mut errors,
         most: 7,
         calls: 0,
         fails_at: fails_at.2,
     };
-    let status = run_words(rt, given, reader, writer, teller);
+    let status = run_words(rt, given.as_slice(), reader, &mut writer, &mut teller);
     Ok(Outcome {
         output,
         errors,
@@ -118,6 +119,18 @@ static TYPED: &str = "permit(principal == User::\"a\",action,resource);";
 static TYPED_AT_4: &str =
     "permit (\n    principal == User::\"a\",\n    action,\n    resource\n);\n";
 
+static TYPED_AT_2: &str = "permit (\n  principal == User::\"a\",\n  action,\n  resource\n);\n";
+
+// A line of 80 columns, and one of 81 before it is laid out, which then breaks.
+static EIGHTY: &str =
+    "permit (principal, action, resource); // xxxxxxxxxxxxxxxxxxxxxxxxxxxxxxxxxxxxxxx\n";
+
+static EIGHTY_ONE: &str =
+    "permit (principal, action, resource); // xxxxxxxxxxxxxxxxxxxxxxxxxxxxxxxxxxxxxxxx\n";
+
+static BROKEN: &str =
+    "permit\n(principal, action, resource); // xxxxxxxxxxxxxxxxxxxxxxxxxxxxxxxxxxxxxxxx\n";
+
 #[test]
 fn formats(rt: HostRuntime) -> Result<(), AllocError> {
     let not_whole = "permit (principal, action, resource)";
@@ -143,6 +156,14 @@ fn formats(rt: HostRuntime) -> Result<(), AllocError> {
             ["cedar", "format", "-i", "4"].as_slice(),
             TYPED,
             (TYPED_AT_4, "", 0),
+        ),
+        (["cedar", "format"].as_slice(), TYPED, (TYPED_AT_2, "", 0)),
+        (["cedar", "format"].as_slice(), EIGHTY, (EIGHTY, "", 0)),
+        (["cedar", "format"].as_slice(), EIGHTY_ONE, (BROKEN, "", 0)),
+        (
+            ["cedar", "--version"].as_slice(),
+            PACKED,
+            ("cedar 4.14.1\n", "", 0),
         ),
         (["cedar", "format"].as_slice(), "", ("\n", "", 0)),
         (["cedar", "format"].as_slice(), not_whole, ("", grammar, 1)),
@@ -270,4 +291,25 @@ fn reads_files(rt: HostRuntime) -> Result<(), io::Error> {
     let got = run_with(&rt, words.as_slice(), b"", (1, 0, 0))?;
     expect_outcome(&rt, &got, words.as_slice(), (NARROW, "", 0));
     fs::remove_file(&rt, "f.cedar")
+}
+
+#[test]
+fn tells_words_that_cannot_be_had(rt: HostRuntime) -> Result<(), AllocError> {
+    let utf8 = "cedar: a word of the command line is not UTF-8\n";
+    for (kind, want, status) in [
+        (ErrorKind::InvalidData, utf8, 2),
+        (ErrorKind::OutOfMemory, "cedar: out of memory\n", 1),
+    ] {
+        let mut errors = Vec::new(rt.alloc());
+        let mut teller = Sink {
+            taken: &mut errors,
+            most: 7,
+            calls: 0,
+            fails_at: 0,
+        };
+        let got = tell_unread_words(&io::Error::from(kind), &mut teller);
+        assert_eq!(rt; got, status, "{want}");
+        assert_eq!(rt; errors.as_slice(), want.as_bytes(), "{want}");
+    }
+    Ok(())
 }
