@@ -15,8 +15,8 @@ use Rattle.cedar_grammar.proofs.ReadingLaws.{both_done, both_fails, both_then_fa
 use Rattle.cedar_tree.specs.Erased.{Erased, variant, access_parts, primary_parts}
 use Rattle.cedar_reading.specs.Lexemes.{nodes_of}
 use Rattle.cedar_tree.specs.NodeTrees.{is_node, span_of}
-use Rattle.cedar_reading.specs.Reading.{kind, Fails, Stands, PassesOn, FollowedBy, GivesNode}
-use Rattle.cedar_nodes.specs.ReadingItems.{StandsItems, GivesItems}
+use Rattle.cedar_reading.specs.Reading.{kind, Fails, Stands, IsMade, PassesOn, FollowedBy, GivesNode}
+use Rattle.cedar_nodes.specs.ReadingItems.{StandsItems, GivesItems, bracketed, IsBracketsOf}
 use Rattle.cedar_tree.specs.NodeLists.{item_trees}
 use Rattle.cedar_reading.specs.ReadingParts.{Makes}
 use Rattle.cedar_reading.specs.declared.lexeme.Lexeme.{Lexeme}
@@ -73,7 +73,7 @@ pub record Encloses (a b : Kind) (x z : List ℕ) : Type 0 where
 
 module _ {X : Type 0} (l : Label) (parts : X → Erased) (x z : List ℕ) where
   abbrev pub enclosed_trees : Vec (Node X) Global → Erased
-  enclosed_trees v = leaf x (join (item_trees l parts v.items) (leaf z none))
+  enclosed_trees v = bracketed x (item_trees l parts v.items) z
 
   -- the items that were read stand with their brackets for the trees that the reader gives; or the refusal is the reader's
   abbrev pub GivesEnclosed : ℕ → Result ((Vec (Node X) Global × ℕ) × Bor (List Lexeme)) Refusal → Answer Lexeme → Type 0
@@ -102,7 +102,7 @@ module _ {X : Type 0} (l : Label) (parts : X → Erased) (x z : List ℕ) where
 
   -- what is in the brackets as a primary of its own variant
   abbrev pub IsEnclosedOf : Label → ℕ → Vec (Node X) Global × ℕ → Node Primary.Primary → Type 0
-  IsEnclosedOf v start y n = (primary_parts n.inner ≡ variant v (enclosed_trees y.0) none) × (n.span ≡ record { start = start; end = y.1 })
+  IsEnclosedOf v start y = IsBracketsOf v x (item_trees l parts y.0.items) z start y.1
 
   pub primary_gives : (v : Label) → is_node v ≡ false → (Q : Reader Lexeme) (start : ℕ) (closed : Result ((Vec (Node X) Global × ℕ) × Bor (List Lexeme)) Refusal) (result : Result (Node Primary.Primary × Bor (List Lexeme)) Refusal) (ts : List Lexeme) → GivesEnclosed start closed (Q ts)
       → PassesOn closed result → Makes (IsEnclosedOf v start) closed result → GivesNode Label.primary primary_parts result (tree Label.primary (tree v Q) ts)
@@ -117,7 +117,7 @@ module _ {X : Type 0} (l : Label) (parts : X → Erased) (x z : List ℕ) where
 
   -- what is in the brackets as an access
   abbrev pub IsAccessOf : ℕ → Vec (Node X) Global × ℕ → Node MemAccess.MemAccess → Type 0
-  IsAccessOf start y n = (access_parts n.inner ≡ enclosed_trees y.0) × (n.span ≡ record { start = start; end = y.1 })
+  IsAccessOf start y = IsMade access_parts (enclosed_trees y.0) (record { start = start; end = y.1 })
 
   pub access_gives : (Q : Reader Lexeme) (start : ℕ) (closed : Result ((Vec (Node X) Global × ℕ) × Bor (List Lexeme)) Refusal) (result : Result (Node MemAccess.MemAccess × Bor (List Lexeme)) Refusal) (ts : List Lexeme) → GivesEnclosed start closed (Q ts) → PassesOn closed result
       → Makes (IsAccessOf start) closed result → GivesNode Label.access access_parts result (tree Label.access Q ts)

@@ -13,7 +13,7 @@ use Rattle.cedar_tree.specs.Erased.{Erased, node, addop_text}
 use Rattle.cedar_tree.specs.NodeTrees.{is_node}
 use Rattle.cedar_reading.specs.Reading.{kind, Keeps, Fails, Stands, GivesNode, PassesOn, addop_kind}
 use Rattle.cedar_reading.specs.ReadingParts.{Makes}
-use Rattle.cedar_nodes.specs.ReadingExprs.{operands_end, IsChainOf, IsSigned}
+use Rattle.cedar_nodes.specs.ReadingExprs.{operands_end, IsChainOf, IsBeside}
 use Rattle.cedar_tree.specs.NodeLists.{operand_trees}
 use Rattle.cedar_reading.specs.declared.lexeme.Lexeme.{Lexeme}
 use Rattle.cedar_reading.specs.declared.reading.Refusal.{Refusal}
@@ -40,7 +40,7 @@ plain_operand l parts (Ok x) a g = (g.0, g.1, g.2, tt)
 plain_operand l parts (Err e) a g = g
 
 pub signed_operand : {S X : Type 0} (s : S) (l : Label) (parts : X → Erased) (read : Result (Node X × Bor (List Lexeme)) Refusal) (result : Result ((S × Node X) × Bor (List Lexeme)) Refusal) (a : Answer Lexeme) → GivesNode l parts read a → PassesOn read result
-    → Makes (IsSigned s) read result → GivesOperand (λ y. y.1) (λ y. y.0 ≡ s) l parts result a
+    → Makes (IsBeside s) read result → GivesOperand (λ y. y.1) (λ y. y.0 ≡ s) l parts result a
 signed_operand s l parts (Ok x) (Ok y) a g p m = (
   g.0,
   g.1 ∙ ap (λ (z : Bor (List Lexeme)). done (branch l g.0 none) z.now) (sym p),

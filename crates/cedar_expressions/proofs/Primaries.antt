@@ -14,7 +14,7 @@ use Rattle.cedar_grammar.proofs.ReadingLaws.{Takes, both_done, both_then_fails, 
 use Rattle.cedar_tree.specs.Erased.{Erased, or_parts, expr_parts, primary_parts}
 use Rattle.cedar_reading.specs.Reading.{kind, flat, PassesOn, GivesNode, first_place}
 use Rattle.cedar_reading.specs.ReadingParts.{Makes, IsOrExprOf}
-use Rattle.cedar_nodes.specs.ReadingExprs.{at_depth, GivesItem, GivesSigned, IsSigned, IsUncalled}
+use Rattle.cedar_nodes.specs.ReadingExprs.{at_depth, GivesItem, GivesSigned, IsBeside, IsUncalled}
 use Rattle.cedar_reading.specs.declared.lexeme.Lexeme.{Lexeme}
 use Rattle.cedar_reading.specs.declared.reading.Refusal.{Refusal}
 use Rattle.cedar_tree.specs.declared.tree.Node.{Node}
@@ -107,7 +107,7 @@ or_gives P (Err e) (Err q) ts g p m = rw p (passes e _ _ g (λ b r i. tree_fails
 
 -- An operand behind its sign.
 pub signed_gives : {S X : Type 0} (sign : S → Kind) (T A : Reader Lexeme) (l : Label) (parts : X → Erased) (s : S) (t : Lexeme) (ts rest : List Lexeme) (read : Result (Node X × Bor (List Lexeme)) Refusal) (result : Result ((S × Node X) × Bor (List Lexeme)) Refusal)
-    → T ts ≡ done (leaf t none) rest → t.kind ≡ sign s → GivesNode l parts read (A rest) → PassesOn read result → Makes (IsSigned s) read result → GivesSigned sign l parts result (both T A ts)
+    → T ts ≡ done (leaf t none) rest → t.kind ≡ sign s → GivesNode l parts read (A rest) → PassesOn read result → Makes (IsBeside s) read result → GivesSigned sign l parts result (both T A ts)
 signed_gives sign T A l parts s t ts rest (Ok x) (Ok y) e h g p m = (
   t,
   g.0,

@@ -13,9 +13,9 @@ ghost use Rattle.cedar_tree.specs.NodeLists.{and_parts, init_parts, member_parts
 
 use cedar_grammar::kind::Kind;
 use cedar_nodes::nodes::{
-    add_node, and_node, call_node, called_primary, compared_node, has_node, if_node, init_node,
+    add_node, and_node, beside, beside_one, call_node, compared_node, has_node, if_node, init_node,
     is_node, like_node, list_node, lone_primary, lone_relation, member_node, mult_node, or_expr,
-    or_node, parens_node, record_node, unary_node, with_sign, with_type,
+    or_node, parens_node, record_node, unary_node, with_type,
 };
 use cedar_reading::accesses::{
     begins_access, begins_call, parse_access, parse_has_field, parse_pattern,
@@ -180,7 +180,7 @@ fn parse_compared<'t, 'src>(
     ensures reads { GivesSigned relop_kind Label.add add_parts result (at_depth depth (leaf_of is_comparison ▸ add_rule) tokens.now) }
 {
     let (op, rest) = parse_comparison_sign(tokens)?;
-    with_sign(op, parse_add(alloc, rest, depth))
+    beside(op, parse_add(alloc, rest, depth))
 }
 
 // `is`, a type, and perhaps `in` and an operand.
@@ -214,11 +214,14 @@ fn parse_add<'t, 'src>(
     let (first, mut rest) = parse_mult(alloc, tokens, depth)?;
     let mut extended = Vec::new(alloc);
     'operands: while let Some((op, after)) = past_sum_sign(rest) {
-        keep(
-            with_sign(op, parse_mult(alloc, after, depth)),
-            &mut extended,
-            &mut rest,
-        )?;
+        let read = beside(op, parse_mult(alloc, after, depth));
+        match keep(read, &mut extended, &mut rest) {
+            Ok(()) => {}
+            Err(refusal) => {
+                drop(first);
+                return Err(refusal);
+            }
+        }
     }
     Ok((add_node(first, extended), rest))
 }
@@ -236,8 +239,14 @@ fn parse_mult<'t, 'src>(
     let (first, mut rest) = parse_unary(alloc, tokens, depth)?;
     let mut extended = Vec::new(alloc);
     'operands: while let Some(after) = past(rest, Kind::Mul) {
-        let read = with_sign(MultOp::Times, parse_unary(alloc, after, depth));
-        keep(read, &mut extended, &mut rest)?;
+        let read = beside(MultOp::Times, parse_unary(alloc, after, depth));
+        match keep(read, &mut extended, &mut rest) {
+            Ok(()) => {}
+            Err(refusal) => {
+                drop(first);
+                return Err(refusal);
+            }
+        }
     }
     Ok((mult_node(first, extended), rest))
 }
@@ -316,7 +325,7 @@ fn parse_reference<'t, 'src>(
     }
     if begins(rest, Kind::LParen) {
         let primary = name_primary(name);
-        return called_primary(alloc, primary, parse_call(alloc, rest, depth));
+        return beside_one(alloc, primary, parse_call(alloc, rest, depth));
     }
     if is_lone_variable(tokens, &name) {
         return Ok(((name_primary(name), Vec::new(alloc)), rest));

@@ -106,18 +106,17 @@ pub parse_mult-operands-preserved : goal.parse_mult-operands-preserved
 parse_mult-operands-preserved _ c =
     let i = c.operands.invariant in
     let d = c.in-Some.ensures.token in
-    let g = signed_operand MultOp.Times Label.unary unary_parts c.parse_unary-in-Some.result c.with_sign-read.result _ c.parse_unary-in-Some.ensures.reads c.with_sign-read.ensures.passes c.with_sign-read.ensures.made in
-    let y = operand_kept Label.unary unary_parts (λ _. codes "*") (λ x. x.1) (λ y. y.0 ≡ MultOp.Times) c.with_sign-read.result _ _ c.keep.new.rest c.in_ok-keep.field-0 _ g c.in_ok-keep.ensures in
-    let s = signed_shorter c.parse_unary-in-Some.result c.with_sign-read.result _ _ c.keep.new.rest c.in_ok-keep.field-0 _ c.parse_unary-in-Some.ensures.shorter c.with_sign-read.ensures.passes c.in_ok-keep.ensures in
+    let g = signed_operand MultOp.Times Label.unary unary_parts c.parse_unary-in-Some.result c.beside-read.result _ c.parse_unary-in-Some.ensures.reads c.beside-read.ensures.passes c.beside-read.ensures.made in
+    let y = operand_kept Label.unary unary_parts (λ _. codes "*") (λ x. x.1) (λ y. y.0 ≡ MultOp.Times) c.beside-read.result _ _ c.keep.new.rest c.in-Ok.field-0 _ g c.in-Ok.ensures in
+    let s = signed_shorter c.parse_unary-in-Some.result c.beside-read.result _ _ c.keep.new.rest c.in-Ok.field-0 _ c.parse_unary-in-Some.ensures.shorter c.beside-read.ensures.passes c.in-Ok.ensures in
     let b = c.in-Some.ensures.shorter in
     (omega (arith, s, b, i.0), operands_next Label.unary unary_parts (λ _. codes "*") (λ x. x.1) Label.mult (is K.Mul) (at_depth c.args.depth unary_rule) refl (depth_takes c.args.depth unary_rule refl refl) _ _ _ _ _ _ _ d.0 K.Mul y.0 y.1 i.1 d.1 d.2 refl (record { comma = refl; number = refl; closing = refl; shows = λ u. refl }) y.2 y.3 y.5)
 
-pub parse_mult-returns-in_err-keep-clause-reads : goal.parse_mult-returns-in_err-keep-clause-reads
-parse_mult-returns-in_err-keep-clause-reads _ c =
-    let p = err_from_is_err_and c.from_residual-in_err-keep.result c.from_residual-in_err-keep.ensures.1 in
+pub parse_mult-returns-in-Err-clause-reads : goal.parse_mult-returns-in-Err-clause-reads
+parse_mult-returns-in-Err-clause-reads _ c =
     let d = c.in-Some.ensures.token in
-    let g = signed_operand MultOp.Times Label.unary unary_parts c.parse_unary-in-Some.result c.with_sign-read.result _ c.parse_unary-in-Some.ensures.reads c.with_sign-read.ensures.passes c.with_sign-read.ensures.made in
-    rw (p.1, p.2) (passes _ _ _ (operand_fails Label.unary unary_parts (λ _. codes "*") (λ x. x.1) (λ y. y.0 ≡ MultOp.Times) c.with_sign-read.result _ _ _ _ _ g c.in_err-keep.ensures)
+    let g = signed_operand MultOp.Times Label.unary unary_parts c.parse_unary-in-Some.result c.beside-read.result _ c.parse_unary-in-Some.ensures.reads c.beside-read.ensures.passes c.beside-read.ensures.made in
+    (passes _ _ _ (operand_fails Label.unary unary_parts (λ _. codes "*") (λ x. x.1) (λ y. y.0 ≡ MultOp.Times) c.beside-read.result _ _ _ _ _ g c.in-Err.ensures)
     (λ x r e. operands_stuck Label.unary unary_parts (λ _. codes "*") (λ x. x.1) Label.mult (is K.Mul) (at_depth c.args.depth unary_rule) _ _ _ _ _ d.0 K.Mul x r c.operands.invariant.1 d.1 d.2 refl e))
 
 pub parse_mult-returns-clause-reads : goal.parse_mult-returns-clause-reads
@@ -137,18 +136,17 @@ pub parse_add-operands-preserved : goal.parse_add-operands-preserved
 parse_add-operands-preserved _ c =
     let i = c.operands.invariant in
     let d = c.in-Some.ensures.reads in
-    let g = signed_operand c.in-Some.op Label.mult mult_parts c.parse_mult-in-Some.result c.with_sign.result _ c.parse_mult-in-Some.ensures.reads c.with_sign.ensures.passes c.with_sign.ensures.made in
-    let y = operand_kept Label.mult mult_parts (λ x. addop_text x.0) (λ x. x.1) (λ y. y.0 ≡ c.in-Some.op) c.with_sign.result _ _ c.keep.new.rest c.in_ok-keep.field-0 _ g c.in_ok-keep.ensures in
-    let s = signed_shorter c.parse_mult-in-Some.result c.with_sign.result _ _ c.keep.new.rest c.in_ok-keep.field-0 _ c.parse_mult-in-Some.ensures.shorter c.with_sign.ensures.passes c.in_ok-keep.ensures in
+    let g = signed_operand c.in-Some.op Label.mult mult_parts c.parse_mult-in-Some.result c.beside-read.result _ c.parse_mult-in-Some.ensures.reads c.beside-read.ensures.passes c.beside-read.ensures.made in
+    let y = operand_kept Label.mult mult_parts (λ x. addop_text x.0) (λ x. x.1) (λ y. y.0 ≡ c.in-Some.op) c.beside-read.result _ _ c.keep.new.rest c.in-Ok.field-0 _ g c.in-Ok.ensures in
+    let s = signed_shorter c.parse_mult-in-Some.result c.beside-read.result _ _ c.keep.new.rest c.in-Ok.field-0 _ c.parse_mult-in-Some.ensures.shorter c.beside-read.ensures.passes c.in-Ok.ensures in
     let b = c.in-Some.ensures.shorter in
     (omega (arith, s, b, i.0), operands_next Label.mult mult_parts (λ x. addop_text x.0) (λ x. x.1) Label.add (λ x. is K.Add x || is K.Dash x) (at_depth c.args.depth mult_rule) refl (depth_takes c.args.depth mult_rule refl refl) _ _ _ _ _ _ _ d.0 (addop_kind c.in-Some.op) y.0 y.1 i.1 d.1 d.2 (addop_begins c.in-Some.op) (rw y.4 (addop_between c.in-Some.op)) y.2 y.3 y.5)
 
-pub parse_add-returns-in_err-keep-clause-reads : goal.parse_add-returns-in_err-keep-clause-reads
-parse_add-returns-in_err-keep-clause-reads _ c =
-    let p = err_from_is_err_and c.from_residual-in_err-keep.result c.from_residual-in_err-keep.ensures.1 in
+pub parse_add-returns-in-Err-clause-reads : goal.parse_add-returns-in-Err-clause-reads
+parse_add-returns-in-Err-clause-reads _ c =
     let d = c.in-Some.ensures.reads in
-    let g = signed_operand c.in-Some.op Label.mult mult_parts c.parse_mult-in-Some.result c.with_sign.result _ c.parse_mult-in-Some.ensures.reads c.with_sign.ensures.passes c.with_sign.ensures.made in
-    rw (p.1, p.2) (passes _ _ _ (operand_fails Label.mult mult_parts (λ x. addop_text x.0) (λ x. x.1) (λ y. y.0 ≡ c.in-Some.op) c.with_sign.result _ _ _ _ _ g c.in_err-keep.ensures)
+    let g = signed_operand c.in-Some.op Label.mult mult_parts c.parse_mult-in-Some.result c.beside-read.result _ c.parse_mult-in-Some.ensures.reads c.beside-read.ensures.passes c.beside-read.ensures.made in
+    (passes _ _ _ (operand_fails Label.mult mult_parts (λ x. addop_text x.0) (λ x. x.1) (λ y. y.0 ≡ c.in-Some.op) c.beside-read.result _ _ _ _ _ g c.in-Err.ensures)
     (λ x r e. operands_stuck Label.mult mult_parts (λ x. addop_text x.0) (λ x. x.1) Label.add (λ x. is K.Add x || is K.Dash x) (at_depth c.args.depth mult_rule) _ _ _ _ _ d.0 (addop_kind c.in-Some.op) x r c.operands.invariant.1 d.1 d.2 (addop_begins c.in-Some.op) e))
 
 pub parse_add-returns-clause-reads : goal.parse_add-returns-clause-reads
@@ -246,7 +244,7 @@ parse_compared-returns-in_err-op-clause-reads _ c =
 pub parse_compared-returns-clause-reads : goal.parse_compared-returns-clause-reads
 parse_compared-returns-clause-reads _ c =
     let h = c.in_ok-op.ensures.reads in
-    signed_gives relop_kind (token kind is_comparison) (add_at c.args.depth) Label.add add_parts c.in_ok-op.op h.0 _ _ c.parse_add.result c.with_sign.result h.1 h.2 c.parse_add.ensures.reads c.with_sign.ensures.passes c.with_sign.ensures.made
+    signed_gives relop_kind (token kind is_comparison) (add_at c.args.depth) Label.add add_parts c.in_ok-op.op h.0 _ _ c.parse_add.result c.beside.result h.1 h.2 c.parse_add.ensures.reads c.beside.ensures.passes c.beside.ensures.made
 
 pub parse_type_test-returns-in_err-rest-clause-reads : goal.parse_type_test-returns-in_err-rest-clause-reads
 parse_type_test-returns-in_err-rest-clause-reads _ c =
@@ -485,8 +483,8 @@ parse_reference-returns-in-Some-clause-reads _ c =
 
 pub parse_reference-returns-then-begins-clause-reads : goal.parse_reference-returns-then-begins-clause-reads
 parse_reference-returns-then-begins-clause-reads _ c =
-    reference_called (at_depth c.args.depth call) c.in_ok-name.name _ c.name_primary-primary.result c.in_ok-name.rest c.parse_call.result c.called_primary.result _ c.in_ok-name.ensures.reads c.in_default.is c.name_primary-primary.ensures
-    (sym c.begins.ensures ∙ c.if-begins.true) c.parse_call.ensures.reads c.called_primary.ensures.passes c.called_primary.ensures.made
+    reference_called (at_depth c.args.depth call) c.in_ok-name.name _ c.name_primary-primary.result c.in_ok-name.rest c.parse_call.result c.beside_one.result _ c.in_ok-name.ensures.reads c.in_default.is c.name_primary-primary.ensures
+    (sym c.begins.ensures ∙ c.if-begins.true) c.parse_call.ensures.reads c.beside_one.ensures.passes c.beside_one.ensures.made
 
 pub parse_reference-returns-then-is_lone_variable-clause-reads : goal.parse_reference-returns-then-is_lone_variable-clause-reads
 parse_reference-returns-then-is_lone_variable-clause-reads _ c =
