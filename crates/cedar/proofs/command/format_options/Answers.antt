@@ -1,6 +1,6 @@
-use Rattle.std.proofs.Common.{arith, w64, to_z, ◌≡◌, ◌<◌, ◌^◌, ◌∙◌, ℕ, ℤ, pos, sym, refl, ap, subst, codes, true, false, Some, Option, List}
+use Rattle.std.proofs.Common.{arith, w64, to_z, ◌≡◌, ◌<◌, ◌^◌, ◌∙◌, ℕ, ℤ, pos, sym, refl, ap, subst, codes, Option, List}
 use Rattle.std.proofs.lemmas.Int.{ints}
-use Rattle.clap.specs.Words.{found_of, one_of, one_text, rows_of}
+use Rattle.clap.specs.Words.{found_of, one_text}
 use Rattle.clap.proofs.WalkLemmas.{first_value-rows, one_text-rows}
 use Rattle.cedar.specs.CommandLine.{IsNumberOr}
 use Rattle.cedar_documents.specs.declared.config.Config.{Config}

@@ -1,6 +1,6 @@
-use Rattle.std.proofs.Common.{◌≡◌, ◌∙◌, ap, sym, subst, inl, refl, map, string_bytes, true, List, ℕ, Option, IfSome}
+use Rattle.std.proofs.Common.{◌≡◌, ◌∙◌, ap, sym, subst, inl, refl, map, string_bytes, true, List, Option, IfSome}
 use Rattle.std.proofs.lemmas.Result.{err_from_is_err_and}
-use Rattle.clap.specs.Words.{App, HasKind, Row, Text, app_of, fault_of, is_simple, is_simple_and_free, subcommand_of}
+use Rattle.clap.specs.Words.{App, HasKind, Row, Text, fault_of, is_simple, is_simple_and_free, subcommand_of}
 use Rattle.clap.proofs.OnLiterals.{clap_on_literals}
 use Rattle.cedar.specs.CommandLine.{HasOptions, cedar_app}
 use Rattle.cedar.proofs.command.read_options.Goals as goal
@@ -31,8 +31,7 @@ pub returns : goal.returns
 returns c =
     let app_is = c.in_ok-command.ensures in
     let words = map (λ w. string_bytes w) c.args.words.now in
-    let found_is = (c.in_ok-matches.ensures.matches (ap is_simple app_is ∙ is_plain)).1 ∙ ap (λ (a : App). subcommand_of a words) app_is in
-    (
+    let found_is = (c.in_ok-matches.ensures.matches (ap is_simple app_is ∙ is_plain)).1 ∙ ap (λ (a : App). subcommand_of a words) app_is in (
       ap (λ (a : App). fault_of a words) (sym app_is) ∙ c.in_ok-matches.ensures.kinds (ap is_simple_and_free app_is ∙ is_free),
       subst (λ (o : Option (Text × List Row)). IfSome o (λ found. HasOptions found.1 c.options_of.result)) found_is c.options_of.ensures,
     )
