@@ -1,4 +1,5 @@
 pub mod Conds
+pub mod LoneOrs
 pub mod Policies
 pub mod Sets
 pub mod Whole

@@ -5,6 +5,7 @@ ghost use Rattle.cedar_tree.specs.Refusals.{Refuses};
 ghost use Rattle.cedar_reading.specs.Reading.{place_of};
 
 mod policies;
+mod scopes;
 
 use crate::cst::policies::parse_set;
 use cedar_reading::lexeme::{Lexeme, read_lexemes};

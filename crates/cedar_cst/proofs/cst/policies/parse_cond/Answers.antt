@@ -1,4 +1,4 @@
-use Rattle.std.proofs.Common.{ap, sym}
+use Rattle.std.proofs.Common.{ap, sym, ◌∙◌}
 use Rattle.std.proofs.lemmas.Result.{err_from_is_err_and}
 use Rattle.cedar_grammar.specs.declared.kind.Kind.TheVariants as K
 use Rattle.cedar_grammar.specs.Texts.{greatest_depth}
@@ -41,4 +41,4 @@ returns-clause-reads c =
     let o = c.in_ok-rest.ensures.reads in
     let v = c.in_ok-expr in
     let q = followed_done Label.expr expr_parts K.RBrace E _ c.parse_expr.result ((v.expr, _), v.rest) c.parse_expr.ensures.reads v.ensures.reads in
-    (_, cond_done E _ _ _ _ _ _ _ h.1 o.0 q.2, row_span _ _ _ _ (ap (λ z. record { start = c.in_ok-cond.cond.span.start; end = z }) (sym q.5)) (cond_stands (record { cond = c.in_ok-cond.cond; expr = v.expr }) h.0 q.0 c.in_ok-rest.field-0-0 q.1 h.2 o.1 q.4 q.3))
+    (_, cond_done E _ _ _ _ _ _ _ h.1 o.0 q.2, row_span _ _ _ _ (ap (λ z. record { start = c.in_ok-cond.cond.span.start; end = z }) (sym q.5) ∙ sym c.to-span.ensures) (cond_stands (record { cond = c.in_ok-cond.cond; expr = v.expr }) h.0 q.0 c.in_ok-rest.field-0-0 q.1 h.2 o.1 q.4 q.3))

@@ -52,4 +52,4 @@ returns-clause-reads c =
     let q = many_followed_done Label.condition cond_parts K.SemiColon C _ c.parse_conds.result ((v.conds, _), v.rest) c.parse_conds.ensures.reads v.ensures.reads in
     let w = policy_done E _ _ _ _ _ _ _ _ _ a.1 e.1 s.2 q.4 in
     let t = policy_stands (record { annotations = c.in_ok-annotations.annotations; effect = c.in_ok-effect.effect; variables = c.in_ok-variables.variables; conds = v.conds }) s.1 a.0 e.0 s.0 q.0 q.1 a.2 e.2 s.3 q.6 (repeat_opens _ Label.condition _ _ _ _ q.3) q.5 in
-    (_, w, row_span _ _ _ _ (span_ends t.0 _ _ (c.start_of.ensures ∙ node_starts (suc greatest_depth) policy_rule refl refl refl Label.policy _ _ _ t.0 w t.2.place) (t.1 ∙ sym q.7)) t.2)
+    (_, w, row_span _ _ _ _ (span_ends t.0 _ _ (c.start_of-start.ensures ∙ node_starts (suc greatest_depth) policy_rule refl refl refl Label.policy _ _ _ t.0 w t.2.place) (t.1 ∙ sym q.7)) t.2)

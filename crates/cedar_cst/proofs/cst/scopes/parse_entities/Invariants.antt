@@ -5,7 +5,7 @@ use Rattle.cedar_grammar.specs.Reader.Lines.{entity_item}
 use Rattle.cedar_tree.specs.Erased.{expr_parts}
 use Rattle.cedar_reading.specs.Reading.{flat}
 use Rattle.cedar_expressions.proofs.Listed.{ItemsRead}
-use Rattle.cedar_cst.proofs.cst.policies.parse_entities.Given as goal
+use Rattle.cedar_cst.proofs.cst.scopes.parse_entities.Given as goal
 
 abbrev pub invariant-items : goal.invariant-items
 invariant-items l = (length l.rest ≤ length l.fn.tokens) × ItemsRead Label.expr expr_parts is_ident (flat entity_item) l.fn.tokens l.items.items l.rest

@@ -4,7 +4,7 @@ use Rattle.cedar_grammar.specs.Trees.{Label}
 use Rattle.cedar_reading.proofs.Steps.{passes}
 use Rattle.cedar_reading.proofs.Rows.{row_node}
 use Rattle.cedar_reading.proofs.Operands.{operand_done, operand_fails, operand_stands}
-use Rattle.cedar_cst.proofs.cst.policies.parse_slot_operand.Goals as goal
+use Rattle.cedar_cst.proofs.cst.scopes.parse_entity_operand.Goals as goal
 
 pub returns-in_err-entity-clause-reads : goal.returns-in_err-entity-clause-reads
 returns-in_err-entity-clause-reads c =

@@ -12,7 +12,7 @@ use Rattle.cedar_reading.proofs.Steps.{passes}
 use Rattle.cedar_reading.proofs.Manys.{flat_takes}
 use Rattle.cedar_reading.proofs.Operands.{keep_done, keep_fails, keep_shorter}
 use Rattle.cedar_expressions.proofs.Listed.{items_next, items_last_read, items_stuck, items_end, last_item}
-use Rattle.cedar_cst.proofs.cst.policies.parse_entities.Goals as goal
+use Rattle.cedar_cst.proofs.cst.scopes.parse_entities.Goals as goal
 
 pub returns-in_err-keep-clause-reads : goal.returns-in_err-keep-clause-reads
 returns-in_err-keep-clause-reads c =

@@ -9,7 +9,7 @@ use Rattle.cedar_tree.specs.Erased.{expr_parts}
 use Rattle.cedar_reading.specs.Reading.{flat}
 use Rattle.cedar_reading.proofs.Steps.{passes}
 use Rattle.cedar_expressions.proofs.Bracketed.{square, list_fails, enclosed_reader, enclosed_gives, primary_gives}
-use Rattle.cedar_cst.proofs.cst.policies.parse_entity_list.Goals as goal
+use Rattle.cedar_cst.proofs.cst.scopes.parse_entity_list.Goals as goal
 
 pub returns-in_err-open-clause-reads : goal.returns-in_err-open-clause-reads
 returns-in_err-open-clause-reads c =

@@ -8,7 +8,7 @@ use Rattle.cedar_reading.specs.Reading.{kind, Fails}
 use Rattle.cedar_reading.specs.ReadingParts.{variable_kind}
 use Rattle.cedar_reading.proofs.Steps.{passes, word_stands, is_itself}
 use Rattle.cedar_reading.proofs.Variables.{variables_apart}
-use Rattle.cedar_cst.proofs.cst.policies.parse_variable_word.Goals as goal
+use Rattle.cedar_cst.proofs.cst.scopes.parse_variable_word.Goals as goal
 
 pub returns-in_err-word-clause-reads : goal.returns-in_err-word-clause-reads
 returns-in_err-word-clause-reads c =

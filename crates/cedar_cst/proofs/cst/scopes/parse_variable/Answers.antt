@@ -12,7 +12,7 @@ use Rattle.cedar_reading.specs.declared.lexeme.Lexeme.{Lexeme}
 use Rattle.cedar_tree.specs.declared.tree.Slot.{Slot}
 use Rattle.cedar_reading.proofs.Steps.{passes}
 use Rattle.cedar_reading.proofs.Variables.{related, equal_reads, type_reads, typed_reads, member_reads, none_reads, in_reads, in_none, variable_done, variable_fails, variable_alone, variable_equal, variable_in, variable_is, variable_is_in}
-use Rattle.cedar_cst.proofs.cst.policies.parse_variable.Goals as goal
+use Rattle.cedar_cst.proofs.cst.scopes.parse_variable.Goals as goal
 
 abbrev W : Slot → Reader Lexeme
 W s = flat (word_of (is (variable_kind s)))

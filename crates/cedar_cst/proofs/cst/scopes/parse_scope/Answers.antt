@@ -10,7 +10,7 @@ use Rattle.cedar_reading.specs.declared.lexeme.Lexeme.{Lexeme}
 use Rattle.cedar_reading.proofs.Steps.{passes}
 use Rattle.cedar_reading.proofs.Followed.{followed_fails, followed_done}
 use Rattle.cedar_expressions.proofs.Scopes.{closing, first_fails, second_fails, action_fails, third_fails, scope_done, closed_scope, closing_stuck}
-use Rattle.cedar_cst.proofs.cst.policies.parse_scope.Goals as goal
+use Rattle.cedar_cst.proofs.cst.scopes.parse_scope.Goals as goal
 
 abbrev U : Reader Lexeme
 U = flat (scoped K.Principal K.PrincipalSlot)

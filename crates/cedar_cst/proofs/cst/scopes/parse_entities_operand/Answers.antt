@@ -6,7 +6,7 @@ use Rattle.cedar_tree.specs.Erased.{add_parts}
 use Rattle.cedar_reading.proofs.Steps.{passes, gives_as}
 use Rattle.cedar_reading.proofs.Rows.{row_node}
 use Rattle.cedar_reading.proofs.Operands.{operand_done, operand_fails, operand_stands}
-use Rattle.cedar_cst.proofs.cst.policies.parse_entities_operand.Goals as goal
+use Rattle.cedar_cst.proofs.cst.scopes.parse_entities_operand.Goals as goal
 
 pub returns-in_err-entities-clause-reads : goal.returns-in_err-entities-clause-reads
 returns-in_err-entities-clause-reads c =

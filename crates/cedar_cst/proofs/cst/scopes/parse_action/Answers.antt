@@ -12,7 +12,7 @@ use Rattle.cedar_reading.specs.ReadingParts.{entity_list}
 use Rattle.cedar_reading.specs.declared.lexeme.Lexeme.{Lexeme}
 use Rattle.cedar_reading.proofs.Steps.{passes}
 use Rattle.cedar_reading.proofs.Variables.{acted, acted_equal, acted_in, acted_none, variable_done, variable_fails, variable_alone, variable_equal, variable_in}
-use Rattle.cedar_cst.proofs.cst.policies.parse_action.Goals as goal
+use Rattle.cedar_cst.proofs.cst.scopes.parse_action.Goals as goal
 
 abbrev W : Reader Lexeme
 W = flat (word_of (is K.Action))

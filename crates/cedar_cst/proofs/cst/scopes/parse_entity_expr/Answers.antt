@@ -4,7 +4,7 @@ use Rattle.cedar_grammar.specs.Reader.Lines.{operand}
 use Rattle.cedar_reading.specs.Reading.{flat}
 use Rattle.cedar_reading.proofs.Steps.{passes}
 use Rattle.cedar_reading.proofs.LoneExprs.{lone_fails, lone_gives}
-use Rattle.cedar_cst.proofs.cst.policies.parse_entity_expr.Goals as goal
+use Rattle.cedar_cst.proofs.cst.scopes.parse_entity_expr.Goals as goal
 
 pub returns-in_err-entity-clause-reads : goal.returns-in_err-entity-clause-reads
 returns-in_err-entity-clause-reads c =
