@@ -5,8 +5,12 @@ use std::alloc::AllocError;
 
 type Built = Result<Document<'static>, AllocError>;
 
-fn seq(alloc: Global, docs: [Document<'static>; 3]) -> Built {
-    let [first, second, third] = docs;
+fn seq(
+    alloc: Global,
+    first: Document<'static>,
+    second: Document<'static>,
+    third: Document<'static>,
+) -> Built {
     Ok(Document::Seq(vec![in alloc; first, second, third]?))
 }
 
@@ -14,11 +18,9 @@ fn seq(alloc: Global, docs: [Document<'static>; 3]) -> Built {
 fn two(alloc: Global, first: &'static str, second: &'static str) -> Built {
     seq(
         alloc,
-        [
-            Document::Text(first),
-            Document::Line,
-            Document::Text(second),
-        ],
+        Document::Text(first),
+        Document::Line,
+        Document::Text(second),
     )?
     .group(alloc)
 }
@@ -28,22 +30,24 @@ fn two_and_text(alloc: Global) -> Built {
 }
 
 fn two_and_group(alloc: Global) -> Built {
-    let group = seq(alloc, [Document::Line, Document::Text("c"), Document::Nil])?.group(alloc)?;
+    let group = seq(alloc, Document::Line, Document::Text("c"), Document::Nil)?.group(alloc)?;
     two(alloc, "a", "b")?.append(alloc, group)
 }
 
 fn two_and_sequence(alloc: Global) -> Built {
-    let group = seq(alloc, [Document::Line, Document::Text("d"), Document::Nil])?.group(alloc)?;
-    let inner = seq(alloc, [Document::Text("c"), group, Document::Nil])?;
+    let group = seq(alloc, Document::Line, Document::Text("d"), Document::Nil)?.group(alloc)?;
+    let inner = seq(alloc, Document::Text("c"), group, Document::Nil)?;
     two(alloc, "a", "b")?.append(alloc, inner)
 }
 
 fn with_hard(alloc: Global) -> Built {
     let rest = seq(
         alloc,
-        [Document::Text("b"), Document::Hard, Document::Text("c")],
+        Document::Text("b"),
+        Document::Hard,
+        Document::Text("c"),
     )?;
-    seq(alloc, [Document::Text("a"), Document::Line, rest])?.group(alloc)
+    seq(alloc, Document::Text("a"), Document::Line, rest)?.group(alloc)
 }
 
 fn wide(alloc: Global) -> Built {
@@ -51,7 +55,7 @@ fn wide(alloc: Global) -> Built {
 }
 
 fn to_the_left(alloc: Global) -> Built {
-    seq(alloc, [Document::Hard, Document::Text("x"), Document::Nil])?.nest(alloc, -5)
+    seq(alloc, Document::Hard, Document::Text("x"), Document::Nil)?.nest(alloc, -5)
 }
 
 fn parted(alloc: Global) -> Built {
@@ -72,17 +76,17 @@ fn bare_policy(alloc: Global) -> Built {
     let comma = || Document::Text(", ");
     let first = seq(
         alloc,
-        [
-            Document::Text("principal"),
-            comma(),
-            Document::Text("action"),
-        ],
+        Document::Text("principal"),
+        comma(),
+        Document::Text("action"),
     )?;
-    let scope = seq(alloc, [first, comma(), Document::Text("resource")])?;
+    let scope = seq(alloc, first, comma(), Document::Text("resource"))?;
     let scope = scope.nest(alloc, 2)?.group(alloc)?;
     seq(
         alloc,
-        [two(alloc, "permit", "(")?, scope, Document::Text(");")],
+        two(alloc, "permit", "(")?,
+        scope,
+        Document::Text(");"),
     )
 }
 
@@ -130,7 +134,7 @@ fn grown(alloc: Global, growth: &Growth, doc: Document<'static>) -> Built {
     match growth {
         Growth::Nests => doc.nest(alloc, 1),
         Growth::NestsAndGroups => doc.nest(alloc, 1)?.group(alloc),
-        Growth::Sequences => seq(alloc, [doc, Document::Text("x"), Document::Nil]),
+        Growth::Sequences => seq(alloc, doc, Document::Text("x"), Document::Nil),
         Growth::Texts => doc.append(alloc, Document::Text("x")),
         Growth::Groups => doc.append(alloc, Document::Text("x").group(alloc)?),
     }
@@ -138,32 +142,32 @@ fn grown(alloc: Global, growth: &Growth, doc: Document<'static>) -> Built {
 
 // How often it grows, and what is laid out then. A renderer that measures anew what follows a group needs hours here; one
 // that calls itself for each level, or a drop that does, runs out of stack.
-static LARGE: [(Growth, usize, [(&str, usize); 3]); 5] = [
-    (Growth::Nests, 1_000, [("\n", 1), (" ", 1_000), ("x", 1)]),
+static LARGE: [(Growth, usize, &[(&str, usize)]); 5] = [
+    (Growth::Nests, 1_000, &[("\n", 1), (" ", 1_000), ("x", 1)]),
     (
         Growth::NestsAndGroups,
         100_000,
-        [("\n", 1), (" ", 100_000), ("x", 1)],
+        &[("\n", 1), (" ", 100_000), ("x", 1)],
     ),
     (
         Growth::Sequences,
         1_000_000,
-        [("\n", 1), ("x", 1_000_000), ("x", 1)],
+        &[("\n", 1), ("x", 1_000_000), ("x", 1)],
     ),
     (
         Growth::Texts,
         1_000_000,
-        [("\n", 1), ("x", 1_000_000), ("x", 1)],
+        &[("\n", 1), ("x", 1_000_000), ("x", 1)],
     ),
     (
         Growth::Groups,
         1_000_000,
-        [("\n", 1), ("x", 1_000_000), ("x", 1)],
+        &[("\n", 1), ("x", 1_000_000), ("x", 1)],
     ),
 ];
 
 fn expect_large(rt: &impl Abort, alloc: Global, growth: &Growth, times: usize, want: &str) {
-    let start = seq(alloc, [Document::Hard, Document::Text("x"), Document::Nil]);
+    let start = seq(alloc, Document::Hard, Document::Text("x"), Document::Nil);
     let mut doc = start.expect(rt, "memory");
     for _ in 0..times {
         doc = grown(alloc, growth, doc).expect(rt, "memory");
@@ -201,7 +205,7 @@ fn one_sequence(rt: HostRuntime) {
 #[test]
 fn no_memory_for_a_break(rt: HostRuntime) {
     let alloc = rt.alloc();
-    let doc = seq(alloc, [Document::Text("a"), Document::Hard, Document::Nil]);
+    let doc = seq(alloc, Document::Text("a"), Document::Hard, Document::Nil);
     let doc = doc
         .expect(&rt, "memory")
         .nest(alloc, isize::MAX)
