@@ -1,15 +1,11 @@
 -- Where the last of some operands ends.
-use Rattle.std.specs.Prelude.{◌≡◌, ℕ, zero, suc, List, [], ◌∷◌, length, ◌<◌, ◌≤◌, ◌-◌, Some}
+use Rattle.std.specs.Prelude.{◌≡◌, ℕ, zero, suc, List, [], ◌∷◌, length, ◌<◌, ◌-◌, Some}
 use Rattle.std.specs.List.{slice_get}
-use Rattle.std.proofs.Common.{refl, sym, ap, arith}
+use Rattle.std.proofs.Common.{sym, ap, arith}
 use Rattle.cedar_nodes.specs.ReadingExprs.{end_of_last}
 use Rattle.cedar_tree.specs.declared.tree.Node.{Node}
 
 module _ {X Y : Type 0} (operand : Y → Node X) where
-  pub ends_none : (e : ℕ) (ys : List Y) → length ys ≤ 0 → e ≡ end_of_last operand e ys
-  ends_none e [] h = refl
-  ends_none e (y ∷ ys) h = absurd (omega (arith, h))
-
   ends_at : (e : ℕ) (ys : List Y) (k : ℕ) (y : Y) → suc k ≡ length ys → slice_get ys k ≡ Some y → (operand y).span.end ≡ end_of_last operand e ys
   ends_at e [] k y l h = absurd (omega (arith, l))
   ends_at e (x ∷ []) zero y l h = let i : x ≡ y = cc in ap (λ z. (operand z).span.end) (sym i)
