@@ -31,7 +31,7 @@ bare_app = let a = new_app (codes "cedar") in record { top = record a.top { subc
 abbrev pub cedar_app : App
 cedar_app = with_subcommand bare_app format_app.top
 
--- the number that was given in decimal digits, or else this one
+-- this number where none is given; where one is, that one in decimal digits, or this one still
 abbrev pub IsNumberOr : ℕ → Option Text → ℕ → Type 0
 IsNumberOr n None m = m ≡ n
 IsNumberOr n (Some text) m = (m ≡ digits_value 10 (without_leading_plus text)) ⊎ (m ≡ n)
