@@ -14,6 +14,7 @@ mod lookups;
 mod memory;
 mod parts;
 mod places;
+mod program;
 mod rows;
 mod shapes;
 mod sweep;

@@ -6,11 +6,22 @@ use std::io::{ErrorKind, Read, Write};
 
 // A reader over memory that gives `most` bytes a call and fails at the call `fails_at`, counted from 1.
 #[derive(Drop)]
-struct Source<'a> {
+pub(super) struct Source<'a> {
     rest: &'a [u8],
     most: usize,
     calls: usize,
     fails_at: usize,
+}
+
+impl<'a> Source<'a> {
+    pub(super) fn new(rest: &'a [u8], most: usize, fails_at: usize) -> Source<'a> {
+        Source {
+            rest,
+            most,
+            calls: 0,
+            fails_at,
+        }
+    }
 }
 
 impl Read for Source<'_> {
@@ -29,11 +40,22 @@ impl Read for Source<'_> {
 
 // A writer over memory that takes `most` bytes a call and fails at the call `fails_at`, counted from 1.
 #[derive(Drop)]
-struct Sink<'a> {
+pub(super) struct Sink<'a> {
     taken: &'a mut Vec<u8>,
     most: usize,
     calls: usize,
     fails_at: usize,
+}
+
+impl<'a> Sink<'a> {
+    pub(super) fn new(taken: &'a mut Vec<u8>, most: usize, fails_at: usize) -> Sink<'a> {
+        Sink {
+            taken,
+            most,
+            calls: 0,
+            fails_at,
+        }
+    }
 }
 
 impl Write for Sink<'_> {
@@ -174,18 +196,8 @@ fn outcome(
     run: &Run<'_>,
     taken: &mut Vec<u8>,
 ) -> (Result<(), RunFault>, (bool, bool)) {
-    let mut input = Watched::new(Source {
-        rest: run.text,
-        most: run.reading.0,
-        calls: 0,
-        fails_at: run.reading.1,
-    });
-    let mut output = Watched::new(Sink {
-        taken,
-        most: run.writing.0,
-        calls: 0,
-        fails_at: run.writing.1,
-    });
+    let mut input = Watched::new(Source::new(run.text, run.reading.0, run.reading.1));
+    let mut output = Watched::new(Sink::new(taken, run.writing.0, run.writing.1));
     assert!(rt; !input.failed() && !output.failed());
     let got = format_stream(alloc, &mut input, &mut output, &Config::default());
     (got, (input.failed(), output.failed()))
@@ -269,12 +281,7 @@ static CHECKS: [Check<'static>; 7] = [
 ];
 
 fn expect_check(rt: &impl Abort, alloc: Global, check: &Check<'_>) {
-    let mut input = Watched::new(Source {
-        rest: check.text,
-        most: check.reading.0,
-        calls: 0,
-        fails_at: check.reading.1,
-    });
+    let mut input = Watched::new(Source::new(check.text, check.reading.0, check.reading.1));
     let got = check_stream(alloc, &mut input, &Config::default());
     assert_eq!(rt; got, check.answer, "{}", check.name);
     assert_eq!(rt; input.failed(), check.failed, "{}", check.name);

@@ -1,0 +1,39 @@
+-- The command line: which words are taken.
+use Rattle.std.specs.Prelude.{◌≡◌, ◌⊎◌, ℕ, pos, List, [], true, codes, Some}
+use Rattle.clap.specs.Words.{App, IsAmong, Rule, Text, fault_of, new_app, new_rule, subcommand_of, subcommand_rows_of, with_rule, with_subcommand}
+use Rattle.clap.specs.declared.builder.ArgAction.TheVariants.{SetTrue}
+use Rattle.clap.specs.declared.builder.value_parser.ValueParser.TheVariants as value
+use Rattle.clap.specs.declared.error.kind.ErrorKind.{ErrorKind}
+use Rattle.clap.specs.declared.error.kind.ErrorKind.TheVariants.{OutOfMemory}
+use Rattle.clap.specs.declared.parser.matches.ArgMatches.{ArgMatches}
+
+-- `-p FILE`
+abbrev pub file_rule : Rule
+file_rule = record (new_rule (codes "file")) { short = Some 112; value_names = 1 }
+
+-- a number of 16 bits behind a letter
+abbrev pub number_rule : Text → ℕ → Rule
+number_rule id letter = record (new_rule id) { short = Some letter; value_names = 1; parser = Some (value.Signed (pos 0) (pos 65535)) }
+
+-- `--check`
+abbrev pub check_rule : Rule
+check_rule = record (new_rule (codes "check")) { long = Some (codes "check"); action = Some SetTrue }
+
+-- `format [-p FILE] [-i N] [-l N] [--check]`
+abbrev pub format_app : App
+format_app = with_rule (with_rule (with_rule (with_rule (new_app (codes "format")) file_rule) (number_rule (codes "indent") 105)) (number_rule (codes "width") 108)) check_rule
+
+-- `cedar` with its version, without a subcommand `help`, which needs a subcommand
+abbrev pub bare_app : App
+bare_app = let a = new_app (codes "cedar") in record { top = record a.top { subcommand_required = true; disable_help_subcommand = true; has_version = true }; subs = a.subs }
+
+abbrev pub cedar_app : App
+cedar_app = with_subcommand bare_app format_app.top
+
+-- the words are taken, and these are the matches of `format` in them
+abbrev pub HasMatches : List Text → ArgMatches → Type 0
+HasMatches words m = (fault_of cedar_app words ≡ []) × (subcommand_rows_of m ≡ subcommand_of cedar_app words)
+
+-- the words are refused, or ask for help or the version; or memory is wanting
+abbrev pub HasFault : List Text → ErrorKind → Type 0
+HasFault words kind = (kind ≡ OutOfMemory) ⊎ IsAmong kind (fault_of cedar_app words)

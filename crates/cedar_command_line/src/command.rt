@@ -1,0 +1,92 @@
+//! The words that the program takes.
+ghost use Rattle.std.specs.Prelude.{◌≡◌, IfOk, MatchResult, false, map, string_bytes};
+ghost use Rattle.clap.specs.Words.{app_of, kind_of};
+ghost use Rattle.clap.specs.declared.builder.command.Command.TheViews.{out-Command as fields_of};
+ghost use Rattle.cedar_command_line.specs.CommandLine.{HasFault, HasMatches, cedar_app, format_app};
+
+use clap::{Arg, ArgAction, ArgMatches, Command, Error, value_parser};
+use std::alloc::{AllocError, Global};
+
+/// The texts of the help that name a default.
+#[derive(Drop)]
+pub struct HelpTexts {
+    indent: String,
+    width: String,
+}
+
+impl HelpTexts {
+    /// The texts that name these defaults, in columns: the width of a line, and the indentation of a level.
+    pub fn new(
+        alloc: Global,
+        line_width: usize,
+        indent_width: isize,
+    ) -> Result<HelpTexts, AllocError> {
+        let indent = format!(in alloc;
+            "The indentation of a level, in columns [default: {indent_width}]"
+        )?;
+        let width = format!(in alloc; "The width of a line, in columns [default: {line_width}]")?;
+        Ok(HelpTexts { indent, width })
+    }
+}
+
+static EXAMPLES: &str = "Examples:
+  cedar format < policies.cedar > formatted.cedar
+  cedar format --check -p policies.cedar";
+
+// The command line: `cedar format [-p FILE] [-i N] [-l N] [--check]`.
+fn command<'a>(alloc: Global, texts: &'a HelpTexts) -> Result<Command<'a>, AllocError>
+    ensures { IfOk result (λ c. app_of c ≡ cedar_app) }
+{
+    Command::new(alloc, "cedar")
+        .about("Formats Cedar policies")
+        .version("4.14.1")
+        .after_help(EXAMPLES)
+        .subcommand_required(true)
+        .disable_help_subcommand(true)
+        .subcommand(format_command(alloc, texts)?)
+}
+
+// The subcommand `format`.
+fn format_command<'a>(alloc: Global, texts: &'a HelpTexts) -> Result<Command<'a>, AllocError>
+    ensures { IfOk result (λ c. (app_of c ≡ format_app) × ((fields_of c).has_globals ≡ false)) }
+{
+    let file = Arg::new(alloc, "file")
+        .short('p')
+        .value_name("FILE")
+        .help("The policy file [default: standard input]");
+    let indent = Arg::new(alloc, "indent")
+        .short('i')
+        .value_name("N")
+        .value_parser(value_parser!(u16))
+        .help(texts.indent.as_str());
+    let width = Arg::new(alloc, "width")
+        .short('l')
+        .value_name("N")
+        .value_parser(value_parser!(u16))
+        .help(texts.width.as_str());
+    let check = Arg::new(alloc, "check")
+        .long("check")
+        .action(ArgAction::SetTrue)
+        .help(
+            "Only say whether the policies are formatted: status 0 if they are, 3 if they aren't",
+        );
+    Command::new(alloc, "format")
+        .about("Formats policies and writes them to standard output")
+        .after_help(EXAMPLES)
+        .arg(file)?
+        .arg(indent)?
+        .arg(width)?
+        .arg(check)
+}
+
+/// What stands behind `cedar format` in the words, which begin with the program's name; or why they are refused, or
+/// the help or the version that they ask for.
+pub fn match_words<'a>(
+    alloc: Global,
+    words: &'a [String],
+    texts: &'a HelpTexts,
+) -> Result<ArgMatches<'a>, Error>
+    ensures { MatchResult result (HasMatches (map string_bytes words.now)) (λ e. HasFault (map string_bytes words.now) (kind_of e)) }
+{
+    command(alloc, texts)?.try_get_matches_from(words)
+}
