@@ -6,6 +6,20 @@ use std::sync::ledger::{Blank, Book, Ledger, Share};
 
 /// How many steps were taken: a whole number without bound that contracts alone see. It takes no bytes, and only
 /// `tick` changes it.
+///
+/// A function that counts begins with none, from a blank page of a ledger that its caller chooses:
+///
+///     fn found<L: Ledger>(span: Span, tokens: &mut [WrappedToken<'_>], blank: Blank)
+///         requires order { AreInOrder tokens.old }
+///         requires name { blank.name ≡ L.name }
+///         requires parts { blank.parts ≡ L.parts }
+///         requires some { 0 < L.parts }
+///     {
+///         let mut steps: Steps<L> = Steps::new(blank);
+///         let comment = get_comment_at_start_counted(span, tokens, &mut steps);
+///
+/// and the caller writes `found::<Brand>(span, tokens, Blank::new(1))`. `cedar_tests/src/tests/lookups.rt` does so, with
+/// contracts that say how many steps a search among one, seven or eight tokens takes.
 #[derive(Drop)]
 pub struct Steps<L: Ledger> {
     book: Book<L>,

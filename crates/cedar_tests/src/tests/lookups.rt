@@ -1,11 +1,19 @@
 //! Lookups over the tokens of a text.
+ghost use Rattle.std.specs.Prelude.{◌≡◌, ◌+◌, ◌<◌, ◌≤◌, length};
+ghost use Rattle.cedar_layout.specs.Lookups.{AreInOrder, CountsSteps};
+
 use super::*;
+use cedar_policy_formatter::layout::Steps;
 use cedar_policy_formatter::lexer::get_token_stream;
 use cedar_policy_formatter::token::{Comment, Span, WrappedToken};
 use cedar_policy_formatter::utils::{
-    get_comment_after_end, get_comment_at_end, get_comment_at_start, get_comment_in_range,
-    get_leading_comment_at_start, in_order,
+    get_comment_after_end, get_comment_after_end_counted, get_comment_at_end,
+    get_comment_at_end_counted, get_comment_at_start, get_comment_at_start_counted,
+    get_comment_in_range, get_comment_in_range_counted, get_leading_comment_at_start,
+    get_leading_comment_at_start_counted, in_order,
 };
+use std::marker::Brand;
+use std::sync::ledger::{Blank, Ledger};
 
 enum Lookup {
     AtStart,
@@ -49,13 +57,97 @@ fn append_comment(rt: &impl Abort, out: &mut String, comment: &Comment<'_>) {
     append_text(rt, out, " ");
 }
 
+fn append_comments(rt: &impl Abort, out: &mut String, comments: &[Comment<'_>]) {
+    for comment in comments {
+        append_comment(rt, out, comment);
+    }
+}
+
 fn append_found(rt: &impl Abort, out: &mut String, comment: Option<Comment<'_>>) {
     if let Some(comment) = comment {
         append_comment(rt, out, &comment);
     }
 }
 
-// What a lookup answers; nothing where it names no token.
+// The comment that a lookup of one comment answers.
+fn comment_found<'src, L: Ledger>(
+    lookup: &Lookup,
+    span: Span,
+    tokens: &mut [WrappedToken<'src>],
+    steps: &mut Steps<L>,
+) -> Option<Comment<'src>>
+    requires { AreInOrder tokens.old }
+    ensures { CountsSteps (length tokens.old) steps.old steps.new }
+{
+    match lookup {
+        Lookup::AtStart => get_comment_at_start_counted(span, tokens, steps),
+        Lookup::AtEnd => get_comment_at_end_counted(span, tokens, steps),
+        _ => get_comment_after_end_counted(span, tokens, steps),
+    }
+}
+
+// What a lookup answers; nothing where it names no token. It counts its steps.
+fn counted_answer<L: Ledger>(
+    rt: &impl Abort,
+    alloc: Global,
+    lookup: &Lookup,
+    span: Span,
+    tokens: &mut [WrappedToken<'_>],
+    steps: &mut Steps<L>,
+) -> String
+    ensures { CountsSteps (length tokens.old) steps.old steps.new }
+{
+    assert!(rt; in_order(tokens));
+    let mut out = String::new(alloc);
+    match lookup {
+        Lookup::LinesAtStart => {
+            let lines = get_leading_comment_at_start_counted(span, tokens, steps);
+            append_lines(rt, &mut out, &lines.unwrap_or(Vec::new(alloc)));
+        }
+        Lookup::InRange => {
+            let comments = get_comment_in_range_counted(alloc, span, tokens, steps);
+            append_comments(rt, &mut out, &comments.expect(rt, "memory"));
+        }
+        _ => append_found(rt, &mut out, comment_found(lookup, span, tokens, steps)),
+    }
+    out
+}
+
+// A lookup among no tokens, one, seven or eight, and the steps that it may take.
+fn answer_among_few<L: Ledger>(
+    rt: &impl Abort,
+    alloc: Global,
+    lookup: &Lookup,
+    span: Span,
+    tokens: &mut [WrappedToken<'_>],
+    steps: &mut Steps<L>,
+) -> String
+    ensures none { length tokens.old ≡ 0 → steps.new ≡ steps.old }
+    ensures least { 0 < length tokens.old → steps.old < steps.new }
+    ensures one { length tokens.old ≡ 1 → steps.new ≤ steps.old + 2 }
+    ensures seven { length tokens.old ≡ 7 → steps.new ≤ steps.old + 4 }
+    ensures eight { length tokens.old ≡ 8 → steps.new ≤ steps.old + 5 }
+{
+    counted_answer(rt, alloc, lookup, span, tokens, steps)
+}
+
+// The same, from no steps on.
+fn answer_from<L: Ledger>(
+    rt: &impl Abort,
+    alloc: Global,
+    lookup: &Lookup,
+    span: Span,
+    tokens: &mut [WrappedToken<'_>],
+    blank: Blank,
+) -> String
+    requires name { blank.name ≡ L.name }
+    requires parts { blank.parts ≡ L.parts }
+    requires some { 0 < L.parts }
+{
+    let mut steps: Steps<L> = Steps::new(blank);
+    answer_among_few(rt, alloc, lookup, span, tokens, &mut steps)
+}
+
 fn answer(
     rt: &impl Abort,
     alloc: Global,
@@ -63,24 +155,7 @@ fn answer(
     span: Span,
     tokens: &mut [WrappedToken<'_>],
 ) -> String {
-    assert!(rt; in_order(tokens));
-    let mut out = String::new(alloc);
-    match lookup {
-        Lookup::AtStart => append_found(rt, &mut out, get_comment_at_start(span, tokens)),
-        Lookup::AtEnd => append_found(rt, &mut out, get_comment_at_end(span, tokens)),
-        Lookup::AfterEnd => append_found(rt, &mut out, get_comment_after_end(span, tokens)),
-        Lookup::LinesAtStart => {
-            if let Some(lines) = get_leading_comment_at_start(span, tokens) {
-                append_lines(rt, &mut out, &lines);
-            }
-        }
-        Lookup::InRange => {
-            for comment in &get_comment_in_range(alloc, span, tokens).expect(rt, "memory") {
-                append_comment(rt, &mut out, comment);
-            }
-        }
-    }
-    out
+    answer_from::<Brand>(rt, alloc, lookup, span, tokens, Blank::new(1))
 }
 
 // Lookups in turn over the tokens of `a // t`, `// l`, `b`, and what each answers.

@@ -1,6 +1,11 @@
 //! Want of memory: to be run with each allocation refused in turn. The answer is then want of memory or the row's.
 use super::*;
+use cedar_policy_formatter::Context;
+use cedar_policy_formatter::doc::Doc;
+use cedar_policy_formatter::layout::render;
 use cedar_policy_formatter::lexer::get_token_stream;
+use cedar_policy_formatter::token::Span;
+use cedar_policy_formatter::utils::{get_comment_in_range, in_order};
 use cedar_policy_formatter::{is_formatted, same_layout, soundness_check};
 
 // Texts and their layouts, in full, so that the test itself takes no memory for them.
@@ -99,5 +104,78 @@ fn answers_without_memory(rt: HostRuntime) {
         if got != Some(FormatError::OutOfMemory) {
             expect_refusal(&rt, got, *want, text);
         }
+    }
+}
+
+// Whether all of a text's comments are so many; or want of memory, after which they are where they were.
+fn takes_comments(
+    rt: &impl Abort,
+    alloc: Global,
+    text: &str,
+    count: usize,
+) -> Result<bool, FormatError> {
+    let Some((mut tokens, _)) = get_token_stream(alloc, text)? else {
+        return Ok(false);
+    };
+    let before = tokens.clone()?;
+    assert!(rt; in_order(&tokens));
+    let whole = Span {
+        start: 0,
+        end: text.len(),
+    };
+    match get_comment_in_range(alloc, whole, &mut tokens) {
+        Ok(found) => Ok(found.len() == count),
+        Err(error) if tokens == before => Err(FormatError::from(error)),
+        Err(_) => Ok(false),
+    }
+}
+
+#[test]
+fn lookups_without_memory(rt: HostRuntime) {
+    for (text, count) in [("a // 1\n.b // 2\n// 3\n.c", 5), ("a", 1), ("", 0)] {
+        expect_yes(&rt, takes_comments(&rt, rt.alloc(), text, count), text);
+    }
+}
+
+// Policies, and what their documents are rendered to.
+static RENDERED: [(&str, &str); 2] = [
+    (
+        "permit(principal,action,resource);",
+        "permit (principal, action, resource);",
+    ),
+    (
+        "permit(principal,action,resource)when{f(1 // x\n// y\n)};",
+        "permit (principal, action, resource)\nwhen\n{\n  f(\n      1 // x\n      \n    \n    // y\n    )\n};",
+    ),
+];
+
+// Whether a policy's document is rendered so; or want of memory, after which nothing was appended.
+fn renders(rt: &impl Abort, alloc: Global, text: &str, want: &str) -> Result<bool, FormatError> {
+    let tree = parse_policies(alloc, text)?;
+    let Some((tokens, _)) = get_token_stream(alloc, text)? else {
+        return Ok(false);
+    };
+    let config = Config::default();
+    let mut context = Context {
+        config: &config,
+        tokens,
+    };
+    assert!(rt; in_order(&context.tokens));
+    let policy = tree.policies.first().expect(rt, text);
+    let Some(doc) = policy.to_doc(alloc, &mut context)? else {
+        return Ok(false);
+    };
+    let mut out = String::new(alloc);
+    match render(alloc, &doc, config.line_width, &mut out) {
+        Ok(()) => Ok(out.as_str() == want),
+        Err(error) if out.as_str().is_empty() => Err(FormatError::from(error)),
+        Err(_) => Ok(false),
+    }
+}
+
+#[test]
+fn renderings_without_memory(rt: HostRuntime) {
+    for (text, want) in &RENDERED {
+        expect_yes(&rt, renders(&rt, rt.alloc(), text, want), text);
     }
 }
