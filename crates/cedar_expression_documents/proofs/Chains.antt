@@ -233,37 +233,18 @@ module _ (m k : NodeKind) (l : Label) (is : is_node l ≡ true) (sign : Shown �
       let r = finished k l is sign i before after (yield t) (inside t) place (d ∷ []) new others e (made_first {docs = d ∷ []} d v refl first t n before after st) in
       (sym (dot-nil (doc_of d)) ∙ r.0, r.1)
 
--- what tokens give, inside a document
-in_form : {P : List Shown → Type 0} {v d e : Doc} {old new : List Shown} (F : Doc → Doc) (ts : List Shown) → F d ≡ e → GivesIf P v d old new ts → GivesIf P (F v) e old new ts
-in_form F ts q h before after p s = let r = h before after p s in (ap F r.0 ∙ q, r.1)
-
 -- a document more
 pushed : (ds es : List Document) (d : Document) → es ≡ ds ++ d ∷ [] → docs_of es ≡ docs_of ds · doc_of d
 pushed ds es d e = ap docs_of e ∙ docs_of-push ds d
 
-module _ (m k : NodeKind) (l : Label) (is : is_node l ≡ true) (i : ℤ) (inside : Tree Shown m → Doc) (whole : Erased) (old : List Shown) {last place : Span} {text : List ℕ} {p left others : Erased} {now mid new : List Shown} where
-  -- a space, a sign with a line behind it, and an operand more
-  pub broken_more : {a b c e : List Document} (chain : (t : Tree Shown m) → IsChain k l breaking_sign i (yield t) (parts kind_of_shown t) (inside t)) (x s d : Document) → left ≡ leaf text (branch (l, Some place) p others)
-      → b ≡ a ++ x ∷ [] → c ≡ b ++ s ∷ [] → e ≡ c ++ d ∷ [] → doc_of x ≡ space
-      → ((o : Shown) → text ≡ token_value (text_of o) → GivesIf (Behind last) (doc_of s) (C (as_leaf o) (doc_of Line')) now mid (o ∷ [])) → ShowsEach k place p (document i) (doc_of d) mid new
-      → MadeSoFar m k l breaking_sign i inside whole old last a now left → MadeSoFar m k l breaking_sign i inside whole old place e new others
-  broken_more {a = a} {b = b} {c = c} {e = e} chain x s d v q r t is_space sign clause h =
-      made_more m k l is breaking_sign i inside chain whole old {place = place} {p = p} a e (doc_of x · doc_of s) (doc_of d) v
-      (pushed c e d t ∙ ap (λ z. z · doc_of d) (pushed b c s r ∙ ap (λ z. z · doc_of s) (pushed a b x q) ∙ dot_assoc (docs_of a) (doc_of x) (doc_of s)) ∙ dot_assoc (docs_of a) (doc_of x · doc_of s) (doc_of d))
-      (λ o f. in_form (λ z. doc_of x · z) (o ∷ []) (ap (λ z. z · C (as_leaf o) (doc_of Line')) is_space ∙ ap (λ z. space · C (as_leaf o) z) doc_of_line) (sign o f)) clause h
-
-  -- a space, a sign, a line and an operand more
-  pub lined_more : {a b c e f : List Document} (chain : (t : Tree Shown m) → IsChain k l sign_and_line i (yield t) (parts kind_of_shown t) (inside t)) (x s y d : Document) → left ≡ leaf text (branch (l, Some place) p others)
-      → b ≡ a ++ x ∷ [] → c ≡ b ++ s ∷ [] → e ≡ c ++ y ∷ [] → f ≡ e ++ d ∷ [] → doc_of x ≡ space → doc_of y ≡ line
-      → ((o : Shown) → text ≡ token_value (text_of o) → GivesIf (Behind last) (doc_of s) (C (as_leaf o) (doc_of Nil')) now mid (o ∷ [])) → ShowsEach k place p (document i) (doc_of d) mid new
-      → MadeSoFar m k l sign_and_line i inside whole old last a now left → MadeSoFar m k l sign_and_line i inside whole old place f new others
-  lined_more {a = a} {b = b} {c = c} {e = e} {f = f} chain x s y d v q r t u is_space is_line sign clause h =
-      made_more m k l is sign_and_line i inside chain whole old {place = place} {p = p} a f (doc_of x · doc_of s · doc_of y) (doc_of d) v
-      (pushed e f d u
-      ∙ ap (λ z. z · doc_of d)
-      (pushed c e y t ∙ ap (λ z. z · doc_of y) (pushed b c s r ∙ ap (λ z. z · doc_of s) (pushed a b x q)) ∙ dot_assoc (docs_of a · doc_of x) (doc_of s) (doc_of y) ∙ dot_assoc (docs_of a) (doc_of x) (doc_of s · doc_of y))
-      ∙ dot_assoc (docs_of a) (doc_of x · doc_of s · doc_of y) (doc_of d))
-      (λ o g. in_form (λ z. doc_of x · z · doc_of y) (o ∷ []) (ap (λ z. z · C (as_leaf o) (doc_of Nil') · doc_of y) is_space ∙ ap (λ z. space · z · doc_of y) (nothing_behind o) ∙ ap (λ z. space · table.leaf (as_leaf o) · z) is_line) (sign o g)) clause h
+module _ (m k : NodeKind) (l : Label) (is : is_node l ≡ true) (sign : Shown → Doc) (i : ℤ) (inside : Tree Shown m → Doc) (whole : Erased) (old : List Shown) {last place : Span} {text : List ℕ} {p left others : Erased} {now mid new : List Shown} where
+  -- a sign and an operand more
+  pub operand_more : {a b c : List Document} (chain : (t : Tree Shown m) → IsChain k l sign i (yield t) (parts kind_of_shown t) (inside t)) (s d : Document) → left ≡ leaf text (branch (l, Some place) p others)
+      → b ≡ a ++ s ∷ [] → c ≡ b ++ d ∷ []
+      → ((o : Shown) → text ≡ token_value (text_of o) → GivesIf (Behind last) (doc_of s) (sign o) now mid (o ∷ [])) → ShowsEach k place p (document i) (doc_of d) mid new
+      → MadeSoFar m k l sign i inside whole old last a now left → MadeSoFar m k l sign i inside whole old place c new others
+  operand_more {a = a} {b = b} {c = c} chain s d v q r given clause h =
+      made_more m k l is sign i inside chain whole old {place = place} {p = p} a c (doc_of s) (doc_of d) v (pushed b c d r ∙ ap (λ z. z · doc_of d) (pushed a b s q) ∙ dot_assoc (docs_of a) (doc_of s) (doc_of d)) given clause h
 
 -- ---- whose tokens are found
 

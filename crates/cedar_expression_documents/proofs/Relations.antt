@@ -205,17 +205,3 @@ pub found_behind : {D : Type 0} (r : Result D NoDocument) (old mid : List Wrappe
     → has_own (places old) l None (leaf w q) ≡ true → ((ps : List Span) → has_its_tokens ps q ≡ has ps) → has_its_tokens (places old) p ≡ true → map bare mid ≡ map bare old → Finds r (has (places mid)) → Finds r (has_its_tokens (places old) x)
 found_behind r old mid has {p = p} {q = q} {s = s} {l = l} {w = w} v o e h k f =
     subst (λ z. Finds r z) (sym (ap (has_its_tokens (places old)) v ∙ needs_rest (places old) s l w p q o h ∙ e (places old))) (finds_before has r old mid k f)
-
--- ---- rows
-
-pub row_of_five : {a x o y b : Document} {s t : Doc} (v : Vec Document Global) → v.items ≡ a ∷ (x ∷ (o ∷ (y ∷ (b ∷ [])))) → doc_of x ≡ s → doc_of y ≡ t → doc_of (Seq v) ≡ doc_of a · s · doc_of o · t · doc_of b
-row_of_five {a = a} {x = x} {o = o} {y = y} {b = b} {s = s} v e f g = flat v _ e ∙ ap (λ z. doc_of a · z · doc_of o · doc_of y · doc_of b) f ∙ ap (λ z. doc_of a · s · doc_of o · z · doc_of b) g
-
-pub row_of_nine : {a x o y n z p w b : Document} {s t u r : Doc} (v : Vec Document Global) → v.items ≡ a ∷ (x ∷ (o ∷ (y ∷ (n ∷ (z ∷ (p ∷ (w ∷ (b ∷ [])))))))) → doc_of x ≡ s → doc_of y ≡ t → doc_of z ≡ u → doc_of w ≡ r
-    → doc_of (Seq v) ≡ doc_of a · s · doc_of o · t · doc_of n · u · doc_of p · r · doc_of b
-row_of_nine {a = a} {o = o} {y = y} {n = n} {z = z} {p = p} {w = w} {b = b} {s = s} {t = t} {u = u} v e f g h k =
-    flat v _ e
-    ∙ ap (λ m. doc_of a · m · doc_of o · doc_of y · doc_of n · doc_of z · doc_of p · doc_of w · doc_of b) f
-    ∙ ap (λ m. doc_of a · s · doc_of o · m · doc_of n · doc_of z · doc_of p · doc_of w · doc_of b) g
-    ∙ ap (λ m. doc_of a · s · doc_of o · t · doc_of n · m · doc_of p · doc_of w · doc_of b) h
-    ∙ ap (λ m. doc_of a · s · doc_of o · t · doc_of n · u · doc_of p · m · doc_of b) k

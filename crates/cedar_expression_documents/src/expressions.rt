@@ -21,12 +21,17 @@ ghost use Rattle.cedar_leaf_documents.specs.NodeDocuments.{IsAt, IsNodeOf, Shows
 use crate::accesses::{field_doc, index_doc, push_break};
 use crate::signs::signs_doc;
 use cedar_layout::layout::Document;
-use cedar_layout::utils::add_brackets;
 use cedar_leaf_documents::made::Made;
 use cedar_leaf_documents::names::{
     add_op_text, leaf_doc, literal_text, name_doc, ref_doc, rel_op_text, slot_text,
 };
-use cedar_leaf_documents::tokens::{comma_before, mark_after, mark_at_end, mark_at_start};
+use cedar_leaf_documents::rows::{
+    below, call_row, comparison_row, is_in_row, is_row, keyword_row, list_row, parens_row,
+    record_row,
+};
+use cedar_leaf_documents::tokens::{
+    breaking_sign, comma_before, mark_after, mark_at_end, mark_at_start, sign_and_line,
+};
 use cedar_tokens::token::{Span, WrappedToken};
 use cedar_tree::tree::{
     Add, And, Expr, MemAccess, Member, Mult, Name, Node, Or, Primary, RecInit, RelOp, Relation,
@@ -73,17 +78,6 @@ pub fn expr_doc<'src>(
     }
 }
 
-// nest(i, line . doc)
-fn below<'src>(
-    alloc: Global,
-    doc: Document<'src>,
-    indent: isize,
-) -> Result<Document<'src>, AllocError>
-    ensures { IfOk result (λ d. doc_of d ≡ nest indent (line · doc_of doc.entry)) }
-{
-    Document::Seq(vec![in alloc; Document::Line, doc]?).nest(alloc, indent)
-}
-
 /// `e1 . space . C("||", line) . e2 . space . C("||", line) . e3 ..`
 #[cycle(documents)]
 pub fn or_doc<'src>(
@@ -104,8 +98,7 @@ pub fn or_doc<'src>(
     let mut docs = vec![in alloc; first]?;
     let mut last = or.initial.span;
     for operand in &or.extended {
-        docs.push(Document::Text(" "))?;
-        docs.push(mark_after(alloc, "||", last, Document::Line, tokens)?)?;
+        docs.push(breaking_sign(alloc, "||", last, tokens)?)?;
         docs.push(and_doc(alloc, &operand.inner, indent, tokens)?)?;
         last = operand.span;
     }
@@ -132,8 +125,7 @@ pub fn and_doc<'src>(
     let mut docs = vec![in alloc; first]?;
     let mut last = and.initial.span;
     for operand in &and.extended {
-        docs.push(Document::Text(" "))?;
-        docs.push(mark_after(alloc, "&&", last, Document::Line, tokens)?)?;
+        docs.push(breaking_sign(alloc, "&&", last, tokens)?)?;
         docs.push(relation_doc(alloc, &operand.inner, indent, tokens)?)?;
         last = operand.span;
     }
@@ -212,14 +204,7 @@ fn comparison_doc<'src>(
 {
     let sign = mark_after(alloc, rel_op_text(op), before, Document::Nil, tokens)?;
     let second = add_doc(alloc, &right.inner, indent, tokens)?;
-    let row = vec![in alloc;
-        left,
-        Document::Text(" "),
-        sign,
-        Document::Text(" "),
-        second,
-    ]?;
-    Ok(Document::Seq(row))
+    Ok(comparison_row(alloc, left, sign, second)?)
 }
 
 // group(left . line . C(op) . line . nest(i, b)), where the operator is `has` or `like`
@@ -240,9 +225,8 @@ fn keyword_doc<'src>(
         → ShowsBehind before.end result tokens.old tokens.new (o ∷ yield b) (group (doc_of left.entry · line · leaf_of (as_leaf o) · line · nest indent (document indent b))) }
 {
     let word = mark_after(alloc, keyword, before, Document::Nil, tokens)?;
-    let second = add_doc(alloc, &right.inner, indent, tokens)?.nest(alloc, indent)?;
-    let row = vec![in alloc; left, Document::Line, word, Document::Line, second]?;
-    Ok(Document::Seq(row).group(alloc)?)
+    let second = add_doc(alloc, &right.inner, indent, tokens)?;
+    Ok(keyword_row(alloc, left, word, second, indent)?)
 }
 
 // group(left . space . C("is") . space . nest(i, type))
@@ -261,15 +245,8 @@ fn is_doc<'src>(
         → ShowsBehind before.end result tokens.old tokens.new (o ∷ yield n) (group (doc_of left.entry · space · leaf_of (as_leaf o) · space · nest indent (document indent n))) }
 {
     let is_word = mark_after(alloc, "is", before, Document::Nil, tokens)?;
-    let type_name = name_doc(alloc, &entity_type.inner, tokens)?.nest(alloc, indent)?;
-    let row = vec![in alloc;
-        left,
-        Document::Text(" "),
-        is_word,
-        Document::Text(" "),
-        type_name,
-    ]?;
-    Ok(Document::Seq(row).group(alloc)?)
+    let type_name = name_doc(alloc, &entity_type.inner, tokens)?;
+    Ok(is_row(alloc, left, is_word, type_name, indent)?)
 }
 
 // group(left . space . C("is") . space . nest(i, type) . line . C("in") . space . nest(i, b))
@@ -292,21 +269,10 @@ fn is_in_doc<'src>(
         (group (doc_of left.entry · space · leaf_of (as_leaf o) · space · nest indent (document indent n) · line · leaf_of (as_leaf p) · space · nest indent (document indent b))) }
 {
     let is_word = mark_after(alloc, "is", before, Document::Nil, tokens)?;
-    let type_name = name_doc(alloc, &entity_type.inner, tokens)?.nest(alloc, indent)?;
+    let type_name = name_doc(alloc, &entity_type.inner, tokens)?;
     let in_word = mark_after(alloc, "in", entity_type.span, Document::Nil, tokens)?;
-    let container = add_doc(alloc, &entity.inner, indent, tokens)?.nest(alloc, indent)?;
-    let row = vec![in alloc;
-        left,
-        Document::Text(" "),
-        is_word,
-        Document::Text(" "),
-        type_name,
-        Document::Line,
-        in_word,
-        Document::Text(" "),
-        container,
-    ]?;
-    Ok(Document::Seq(row).group(alloc)?)
+    let second = add_doc(alloc, &entity.inner, indent, tokens)?;
+    Ok(is_in_row(alloc, left, is_word, type_name, in_word, second, indent)?)
 }
 
 /// `group(e1 . space . C(op) . line . e2 . space . C(op) . line . e3 ..)`
@@ -329,9 +295,7 @@ pub fn add_doc<'src>(
     let mut docs = vec![in alloc; first]?;
     let mut last = add.initial.span;
     for (op, operand) in &add.extended {
-        docs.push(Document::Text(" "))?;
-        docs.push(mark_after(alloc, add_op_text(*op), last, Document::Nil, tokens)?)?;
-        docs.push(Document::Line)?;
+        docs.push(sign_and_line(alloc, add_op_text(*op), last, tokens)?)?;
         docs.push(mult_doc(alloc, &operand.inner, indent, tokens)?)?;
         last = operand.span;
     }
@@ -364,9 +328,7 @@ pub fn mult_doc<'src>(
     let mut docs = vec![in alloc; first]?;
     let mut last = mult.initial.span;
     for (_, operand) in &mult.extended {
-        docs.push(Document::Text(" "))?;
-        docs.push(mark_after(alloc, "*", last, Document::Nil, tokens)?)?;
-        docs.push(Document::Line)?;
+        docs.push(sign_and_line(alloc, "*", last, tokens)?)?;
         docs.push(unary_doc(alloc, &operand.inner, operand.span, indent, tokens)?)?;
         last = operand.span;
     }
@@ -474,8 +436,7 @@ fn call_doc<'src>(
     if arguments.is_empty() {
         return Ok(Document::Seq(vec![in alloc; open, close]?));
     }
-    let inside = Document::Seq(vec![in alloc; Document::LineOrNil, items]?).nest(alloc, indent)?;
-    Ok(Document::Seq(vec![in alloc; open, inside, Document::LineOrNil, close]?))
+    Ok(call_row(alloc, open, items, close, indent)?)
 }
 
 /// A literal, an entity, a name, a slot, or what stands between brackets.
@@ -523,7 +484,7 @@ fn parens_doc<'src>(
     let open = mark_at_start(alloc, "(", span, Document::Nil, tokens)?;
     let doc = expr_doc(alloc, &inside.inner, inside.span, indent, tokens)?;
     let close = mark_at_end(alloc, ")", span, Document::Nil, tokens)?;
-    Ok(add_brackets(alloc, doc, open, close, 1)?.group(alloc)?)
+    Ok(parens_row(alloc, open, doc, close)?)
 }
 
 // C("[") . nest(1, items) . C("]")
@@ -543,7 +504,7 @@ fn list_doc<'src>(
     let open = mark_at_start(alloc, "[", span, Document::Nil, tokens)?;
     let doc = items_doc(alloc, items, indent, tokens)?;
     let close = mark_at_end(alloc, "]", span, Document::Nil, tokens)?;
-    Ok(add_brackets(alloc, doc, open, close, 1)?)
+    Ok(list_row(alloc, open, doc, close)?)
 }
 
 // C("{") . nest(i, group(line . inits . line)) . C("}"), and of no inits C("{") . C("}")
@@ -566,8 +527,7 @@ fn record_doc<'src>(
     if inits.is_empty() {
         return Ok(Document::Seq(vec![in alloc; open, close]?));
     }
-    let inside = Document::Seq(vec![in alloc; Document::Line, items, Document::Line]?);
-    Ok(add_brackets(alloc, inside.group(alloc)?, open, close, indent)?)
+    Ok(record_row(alloc, open, items, close, indent)?)
 }
 
 // Expressions joined by C(",") . line

@@ -10,7 +10,7 @@ ghost use Rattle.cedar_layout.specs.Lookups.{AreInOrder, Parts, Shown, comment_p
 ghost use Rattle.cedar_leaf_documents.specs.Found.{Finds, places, starts};
 ghost use Rattle.cedar_leaf_documents.specs.Kept.{KeepsTokens};
 ghost use Rattle.cedar_leaf_documents.specs.NodeDocuments.{Shows, ShowsBehind, as_leaf, text_of};
-ghost use Rattle.cedar_canonical.specs.Table.{C, leaf};
+ghost use Rattle.cedar_canonical.specs.Table.{C, leaf, space};
 
 use crate::made::NoDocument;
 use cedar_layout::layout::Document;
@@ -98,6 +98,36 @@ pub fn mark_after<'src>(
 {
     let comment = get_comment_after_end(span, tokens);
     commented(alloc, text, comment, next)
+}
+
+/// `space . C(t, line)` of an operator behind a part: a line breaks behind it, or its trailing text ends the line.
+pub fn breaking_sign<'src>(
+    alloc: Global,
+    text: &'src str,
+    span: Span,
+    tokens: &mut [WrappedToken<'src>],
+) -> Result<Document<'src>, AllocError>
+    requires { AreInOrder tokens.old }
+    ensures kept { KeepsTokens tokens.old tokens.new }
+    ensures shows { (t : Shown) → text.now ≡ token_value (text_of t) → ShowsBehind span.end result tokens.old tokens.new (t ∷ []) (space · C (as_leaf t) line) }
+{
+    let sign = mark_after(alloc, text, span, Document::Line, tokens)?;
+    Ok(Document::Seq(vec![in alloc; Document::Text(" "), sign]?))
+}
+
+/// `space . C(t) . line` of an operator behind a part.
+pub fn sign_and_line<'src>(
+    alloc: Global,
+    text: &'src str,
+    span: Span,
+    tokens: &mut [WrappedToken<'src>],
+) -> Result<Document<'src>, AllocError>
+    requires { AreInOrder tokens.old }
+    ensures kept { KeepsTokens tokens.old tokens.new }
+    ensures shows { (t : Shown) → text.now ≡ token_value (text_of t) → ShowsBehind span.end result tokens.old tokens.new (t ∷ []) (space · leaf (as_leaf t) · line) }
+{
+    let sign = mark_after(alloc, text, span, Document::Nil, tokens)?;
+    Ok(Document::Seq(vec![in alloc; Document::Text(" "), sign, Document::Line]?))
 }
 
 /// `C(",") . line` of the comma behind the item with this span; nothing where no item stands before.

@@ -15,9 +15,9 @@ use Rattle.cedar_leaf_documents.proofs.Found.{as_before, missed, and_false, and_
 use Rattle.cedar_tree.specs.NodeLists.{and_parts, member_parts, access_items, item_trees, init_parts}
 use Rattle.cedar_tree.specs.declared.tree.Expr.TheViews.{out-Or, out-Add, out-Mult, out-Unary}
 use Rattle.cedar_tree.proofs.Views.{and_items, relation_items, add_items, mult_items, view_call}
-use Rattle.cedar_expression_documents.proofs.Chains.{breaking_sign, or_chain, made_first, broken_more, made_all, made_alone, one_left, none_left, is_nil, first_found, first_missed, next_found, next_missed, and_chain, sign_and_line, inside_add, add_chain, add_group, lined_more, inside_mult, mult_chain, mult_group}
+use Rattle.cedar_expression_documents.proofs.Chains.{breaking_sign, or_chain, made_first, operand_more, made_all, made_alone, one_left, none_left, is_nil, first_found, first_missed, next_found, next_missed, and_chain, sign_and_line, inside_add, add_chain, add_group, inside_mult, mult_chain, mult_group}
 use Rattle.cedar_expression_documents.proofs.Operands.{or_view, and_view, add_view, mult_view}
-use Rattle.cedar_expression_documents.proofs.Relations.{alone, compared, placed, typed, worded, view_alone, view_compared, view_has, view_like, view_is, view_is_in, row_of_five, row_of_nine, found_behind, needs_both, needs_operand, needs_type}
+use Rattle.cedar_expression_documents.proofs.Relations.{alone, compared, placed, typed, worded, view_alone, view_compared, view_has, view_like, view_is, view_is_in, found_behind, needs_both, needs_operand, needs_type}
 use Rattle.cedar_layout.specs.Comments.{space}
 use Rattle.cedar_layout.specs.Value.{doc_of, docs_of}
 use Rattle.std.proofs.Math.Facts.{to_z-of_z}
@@ -186,17 +186,17 @@ comparison_doc-returns-clause-shows _ c o b f g =
     let sign = rewritten (o ∷ []) (nothing_behind o) (c.in_ok-sign.ensures.shows o (c.rel_op_text.ensures ∙ f)) in
     let second = rewritten (yield b) (ap (λ z. document z b) w) (freely (yield b) (c.in_ok-second.ensures.shows b g)) in
     let all = in_turn (λ x y. left · space · x · space · y) (Behind c.args.before) Always (o ∷ []) (yield b) sign (λ b h. tt) second in
-    λ before after at st. let r = all before after at st in (row_of_five _ c.in_ok-row.ensures.items (doc_of_text _) (doc_of_text _) ∙ r.0, r.1)
+    λ before after at st. let r = all before after at st in (c.in_ok-comparison_row.ensures ∙ r.0, r.1)
 
 -- keyword_doc
 
-pub keyword_doc-returns-in_err-add_doc-clause-found : goal.keyword_doc-returns-in_err-add_doc-clause-found
-keyword_doc-returns-in_err-add_doc-clause-found _ c =
-    missed c.from_residual-in_err-add_doc.result _ _ _ c.from_residual-in_err-add_doc.ensures.1 c.in_err-add_doc.ensures.found
+pub keyword_doc-returns-in_err-second-clause-found : goal.keyword_doc-returns-in_err-second-clause-found
+keyword_doc-returns-in_err-second-clause-found _ c =
+    missed c.from_residual-in_err-second.result _ _ _ c.from_residual-in_err-second.ensures.1 c.in_err-second.ensures.found
     (λ h. as_before (λ z. has_its_tokens z (add_parts c.args.right.now.inner)) false c.args.tokens.now c.mark_after.new.tokens c.in_ok-word.ensures.kept h)
 
 pub keyword_doc-returns-clause-found : goal.keyword_doc-returns-clause-found
-keyword_doc-returns-clause-found _ c = as_before (λ z. has_its_tokens z (add_parts c.args.right.now.inner)) true c.args.tokens.now c.mark_after.new.tokens c.in_ok-word.ensures.kept c.in_ok-add_doc.ensures.found
+keyword_doc-returns-clause-found _ c = as_before (λ z. has_its_tokens z (add_parts c.args.right.now.inner)) true c.args.tokens.now c.mark_after.new.tokens c.in_ok-word.ensures.kept c.in_ok-second.ensures.found
 
 pub keyword_doc-returns-clause-shows : goal.keyword_doc-returns-clause-shows
 keyword_doc-returns-clause-shows _ c o b f g =
@@ -204,31 +204,30 @@ keyword_doc-returns-clause-shows _ c o b f g =
     let w : i ≡ c.args.indent = omega (arith, ints) in
     let left = doc_of c.args.left in
     let word = rewritten (o ∷ []) (nothing_behind o) (c.in_ok-word.ensures.shows o f) in
-    let second = rewritten (yield b) (ap (λ z. document z b) w) (freely (yield b) (c.in_ok-add_doc.ensures.shows b g)) in
-    let all = in_turn (λ x y. group (left · line · x · line · nest c.args.indent y)) (Behind c.args.before) Always (o ∷ []) (yield b) word (λ b h. tt) second in
-    let inside = c.in_ok-second.ensures ∙ ap (λ z. nest z (doc_of c.in_ok-add_doc.field-0)) w in
-    let made = row_of_five _ c.in_ok-row.ensures.items doc_of_line doc_of_line ∙ ap (λ z. left · line · doc_of c.in_ok-word.word · line · z) inside in
-    λ before after at st. let r = all before after at st in (c.in_ok-group.ensures ∙ ap group made ∙ r.0, r.1)
+    let second = freely (yield b) (c.in_ok-second.ensures.shows b g) in
+    let all = in_turn (λ x y. group (left · line · x · line · nest i y)) (Behind c.args.before) Always (o ∷ []) (yield b) word (λ b h. tt) second in
+    λ before after at st. let r = all before after at st in
+    (c.in_ok-keyword_row.ensures ∙ r.0 ∙ ap (λ z. group (left · line · table.leaf (as_leaf o) · line · nest z (document z b))) w, r.1)
 
 -- is_in_doc
 
-pub is_in_doc-returns-in_err-name_doc-clause-found : goal.is_in_doc-returns-in_err-name_doc-clause-found
-is_in_doc-returns-in_err-name_doc-clause-found _ c =
-    missed c.from_residual-in_err-name_doc.result _ _ _ c.from_residual-in_err-name_doc.ensures.1 c.in_err-name_doc.ensures.found
+pub is_in_doc-returns-in_err-type_name-clause-found : goal.is_in_doc-returns-in_err-type_name-clause-found
+is_in_doc-returns-in_err-type_name-clause-found _ c =
+    missed c.from_residual-in_err-type_name.result _ _ _ c.from_residual-in_err-type_name.ensures.1 c.in_err-type_name.ensures.found
     (λ h. let e = as_before (λ z. has_its_tokens z (path_parts c.args.entity_type.now.inner.path.items c.args.entity_type.now.inner.name)) false c.args.tokens.now c.mark_after.new.tokens c.in_ok-is_word.ensures.kept h in rw e refl)
 
-pub is_in_doc-returns-in_err-add_doc-clause-found : goal.is_in_doc-returns-in_err-add_doc-clause-found
-is_in_doc-returns-in_err-add_doc-clause-found _ c =
+pub is_in_doc-returns-in_err-second-clause-found : goal.is_in_doc-returns-in_err-second-clause-found
+is_in_doc-returns-in_err-second-clause-found _ c =
     let kept = c.in_ok-is_word.ensures.kept in
-    let e = as_before (λ z. has_its_tokens z (path_parts c.args.entity_type.now.inner.path.items c.args.entity_type.now.inner.name)) true c.args.tokens.now c.mark_after.new.tokens kept c.in_ok-name_doc.ensures.found in
-    missed c.from_residual-in_err-add_doc.result _ _ _ c.from_residual-in_err-add_doc.ensures.1 c.in_err-add_doc.ensures.found
-    (λ h. let f = as_before (λ z. has_its_tokens z (add_parts c.args.entity.now.inner)) false c.args.tokens.now c.mark_after-2.new.tokens (c.in_ok-in_word.ensures.kept ∙ c.in_ok-name_doc.ensures.kept ∙ kept) h in rw (e, f) refl)
+    let e = as_before (λ z. has_its_tokens z (path_parts c.args.entity_type.now.inner.path.items c.args.entity_type.now.inner.name)) true c.args.tokens.now c.mark_after.new.tokens kept c.in_ok-type_name.ensures.found in
+    missed c.from_residual-in_err-second.result _ _ _ c.from_residual-in_err-second.ensures.1 c.in_err-second.ensures.found
+    (λ h. let f = as_before (λ z. has_its_tokens z (add_parts c.args.entity.now.inner)) false c.args.tokens.now c.mark_after-2.new.tokens (c.in_ok-in_word.ensures.kept ∙ c.in_ok-type_name.ensures.kept ∙ kept) h in rw (e, f) refl)
 
 pub is_in_doc-returns-clause-found : goal.is_in_doc-returns-clause-found
 is_in_doc-returns-clause-found _ c =
     let kept = c.in_ok-is_word.ensures.kept in
-    let e = as_before (λ z. has_its_tokens z (path_parts c.args.entity_type.now.inner.path.items c.args.entity_type.now.inner.name)) true c.args.tokens.now c.mark_after.new.tokens kept c.in_ok-name_doc.ensures.found in
-    let f = as_before (λ z. has_its_tokens z (add_parts c.args.entity.now.inner)) true c.args.tokens.now c.mark_after-2.new.tokens (c.in_ok-in_word.ensures.kept ∙ c.in_ok-name_doc.ensures.kept ∙ kept) c.in_ok-add_doc.ensures.found in
+    let e = as_before (λ z. has_its_tokens z (path_parts c.args.entity_type.now.inner.path.items c.args.entity_type.now.inner.name)) true c.args.tokens.now c.mark_after.new.tokens kept c.in_ok-type_name.ensures.found in
+    let f = as_before (λ z. has_its_tokens z (add_parts c.args.entity.now.inner)) true c.args.tokens.now c.mark_after-2.new.tokens (c.in_ok-in_word.ensures.kept ∙ c.in_ok-type_name.ensures.kept ∙ kept) c.in_ok-second.ensures.found in
     rw (e, f) refl
 
 pub is_in_doc-returns-clause-shows : goal.is_in_doc-returns-clause-shows
@@ -239,14 +238,11 @@ is_in_doc-returns-clause-shows _ c o n p b f at g h k =
     let type = c.args.entity_type.now.span in
     let is_word = rewritten (o ∷ []) (nothing_behind o) (c.in_ok-is_word.ensures.shows o f) in
     let in_word = rewritten (p ∷ []) (nothing_behind p) (c.in_ok-in_word.ensures.shows p h) in
-    let last = in_turn (λ x y. x · space · nest i y) (Behind type) Always (p ∷ []) (yield b) in_word (λ b h. tt) (freely (yield b) (c.in_ok-add_doc.ensures.shows b k)) in
-    let more = in_turn (λ x y. nest i x · line · y) Always (Behind type) (yield n) (p ∷ yield b) (freely (yield n) (c.in_ok-name_doc.ensures.shows i n g)) (λ b h. ends_here type (yield n) at b) last in
+    let last = in_turn (λ x y. x · space · nest i y) (Behind type) Always (p ∷ []) (yield b) in_word (λ b h. tt) (freely (yield b) (c.in_ok-second.ensures.shows b k)) in
+    let more = in_turn (λ x y. nest i x · line · y) Always (Behind type) (yield n) (p ∷ yield b) (freely (yield n) (c.in_ok-type_name.ensures.shows i n g)) (λ b h. ends_here type (yield n) at b) last in
     let all = in_turn (λ x y. group (left · space · x · space · y)) (Behind c.args.before) Always (o ∷ []) (yield n ++ (p ∷ yield b)) is_word (λ b h. tt) more in
-    let made = row_of_nine _ c.in_ok-row.ensures.items (doc_of_text _) (doc_of_text _) doc_of_line (doc_of_text _)
-    ∙ ap (λ z. left · space · doc_of c.in_ok-is_word.is_word · space · z · line · doc_of c.in_ok-in_word.in_word · space · doc_of c.in_ok-container.container) c.in_ok-type_name.ensures
-    ∙ ap (λ z. left · space · doc_of c.in_ok-is_word.is_word · space · nest i (doc_of c.in_ok-name_doc.field-0) · line · doc_of c.in_ok-in_word.in_word · space · z) c.in_ok-container.ensures in
     λ before after q st. let r = all before after q st in
-    (c.in_ok-group.ensures ∙ ap group made ∙ r.0 ∙ ap (λ z. group (left · space · table.leaf (as_leaf o) · space · nest z (document z n) · line · table.leaf (as_leaf p) · space · nest z (document z b))) w, r.1)
+    (c.in_ok-is_in_row.ensures ∙ r.0 ∙ ap (λ z. group (left · space · table.leaf (as_leaf o) · space · nest z (document z n) · line · table.leaf (as_leaf p) · space · nest z (document z b))) w, r.1)
 
 -- or_doc
 
@@ -278,18 +274,18 @@ pub or_doc-returns-in_err-and_doc-clause-found : goal.or_doc-returns-in_err-and_
 or_doc-returns-in_err-and_doc-clause-found _ c =
     let left = one_left Label.and and_parts (λ _. codes "||") (λ x. x) (out-Or c.args.or.now).extended.items _ c.deref-operand-items.ensures.value c.loop-operand.operand-index c.operand-item.result c.loop-operand-test.true c.operand-item.is in
     missed c.from_residual-in_err-and_doc.result _ _ _ c.from_residual-in_err-and_doc.ensures.1 c.in_err-and_doc.ensures.found
-    (λ h. c.loop-operand.invariant.found ∙ next_missed Label.and c.args.tokens.now c.mark_after.new.tokens (c.in_ok-mark_after.ensures.kept ∙ c.loop-operand.invariant.kept) left h)
+    (λ h. c.loop-operand.invariant.found ∙ next_missed Label.and c.args.tokens.now c.breaking_sign.new.tokens (c.in_ok-breaking_sign.ensures.kept ∙ c.loop-operand.invariant.kept) left h)
 
 pub or_doc-loop-operand-preserved : goal.or_doc-loop-operand-preserved
 or_doc-loop-operand-preserved _ c =
     let left = one_left Label.and and_parts (λ _. codes "||") (λ x. x) (out-Or c.args.or.now).extended.items _ c.deref-operand-items.ensures.value c.loop-operand.operand-index c.operand-item.result c.loop-operand-test.true c.operand-item.is in
     let i = to_z w64 (of_z w64 c.args.indent) in
-    let kept = c.in_ok-mark_after.ensures.kept ∙ c.loop-operand.invariant.kept in
+    let kept = c.in_ok-breaking_sign.ensures.kept ∙ c.loop-operand.invariant.kept in
     record {
       kept = c.in_ok-and_doc.ensures.kept ∙ kept;
-      found = c.loop-operand.invariant.found ∙ next_found Label.and c.args.tokens.now c.mark_after.new.tokens kept left c.in_ok-and_doc.ensures.found;
-      shown = broken_more kind.ors kind.ands Label.and refl i (document i) (or_parts c.args.or.now) _ (or_chain i) _ c.in_ok-mark_after.field-0 c.in_ok-and_doc.field-0 left
-          c.in_ok-push.ensures.items c.in_ok-push-2.ensures.items c.in_ok-push-3.ensures.items (doc_of_text _) c.in_ok-mark_after.ensures.shows (λ x at e. c.in_ok-and_doc.ensures.shows x e) c.loop-operand.invariant.shown;
+      found = c.loop-operand.invariant.found ∙ next_found Label.and c.args.tokens.now c.breaking_sign.new.tokens kept left c.in_ok-and_doc.ensures.found;
+      shown = operand_more kind.ors kind.ands Label.and refl breaking_sign i (document i) (or_parts c.args.or.now) _ (or_chain i) c.in_ok-breaking_sign.field-0 c.in_ok-and_doc.field-0 left
+          c.in_ok-push.ensures.items c.in_ok-push-2.ensures.items c.in_ok-breaking_sign.ensures.shows (λ x at e. c.in_ok-and_doc.ensures.shows x e) c.loop-operand.invariant.shown;
     }
 
 pub or_doc-returns-clause-shows : goal.or_doc-returns-clause-shows
@@ -330,18 +326,18 @@ pub and_doc-returns-in_err-relation_doc-clause-found : goal.and_doc-returns-in_e
 and_doc-returns-in_err-relation_doc-clause-found _ c =
     let left = one_left Label.relation relation_parts (λ _. codes "&&") (λ x. x) c.args.and.now.extended.items _ c.deref-operand-items.ensures.value c.loop-operand.operand-index c.operand-item.result c.loop-operand-test.true c.operand-item.is in
     missed c.from_residual-in_err-relation_doc.result _ _ _ c.from_residual-in_err-relation_doc.ensures.1 c.in_err-relation_doc.ensures.found
-    (λ h. c.loop-operand.invariant.found ∙ next_missed Label.relation c.args.tokens.now c.mark_after.new.tokens (c.in_ok-mark_after.ensures.kept ∙ c.loop-operand.invariant.kept) left h)
+    (λ h. c.loop-operand.invariant.found ∙ next_missed Label.relation c.args.tokens.now c.breaking_sign.new.tokens (c.in_ok-breaking_sign.ensures.kept ∙ c.loop-operand.invariant.kept) left h)
 
 pub and_doc-loop-operand-preserved : goal.and_doc-loop-operand-preserved
 and_doc-loop-operand-preserved _ c =
     let left = one_left Label.relation relation_parts (λ _. codes "&&") (λ x. x) c.args.and.now.extended.items _ c.deref-operand-items.ensures.value c.loop-operand.operand-index c.operand-item.result c.loop-operand-test.true c.operand-item.is in
     let i = to_z w64 (of_z w64 c.args.indent) in
-    let kept = c.in_ok-mark_after.ensures.kept ∙ c.loop-operand.invariant.kept in
+    let kept = c.in_ok-breaking_sign.ensures.kept ∙ c.loop-operand.invariant.kept in
     record {
       kept = c.in_ok-relation_doc.ensures.kept ∙ kept;
-      found = c.loop-operand.invariant.found ∙ next_found Label.relation c.args.tokens.now c.mark_after.new.tokens kept left c.in_ok-relation_doc.ensures.found;
-      shown = broken_more kind.ands kind.relation Label.relation refl i (document i) (and_parts c.args.and.now) _ (and_chain i) _ c.in_ok-mark_after.field-0 c.in_ok-relation_doc.field-0 left
-          c.in_ok-push.ensures.items c.in_ok-push-2.ensures.items c.in_ok-push-3.ensures.items (doc_of_text _) c.in_ok-mark_after.ensures.shows (λ x at e. c.in_ok-relation_doc.ensures.shows x e) c.loop-operand.invariant.shown;
+      found = c.loop-operand.invariant.found ∙ next_found Label.relation c.args.tokens.now c.breaking_sign.new.tokens kept left c.in_ok-relation_doc.ensures.found;
+      shown = operand_more kind.ands kind.relation Label.relation refl breaking_sign i (document i) (and_parts c.args.and.now) _ (and_chain i) c.in_ok-breaking_sign.field-0 c.in_ok-relation_doc.field-0 left
+          c.in_ok-push.ensures.items c.in_ok-push-2.ensures.items c.in_ok-breaking_sign.ensures.shows (λ x at e. c.in_ok-relation_doc.ensures.shows x e) c.loop-operand.invariant.shown;
     }
 
 pub and_doc-returns-clause-shows : goal.and_doc-returns-clause-shows
@@ -382,18 +378,18 @@ pub add_doc-returns-in_err-mult_doc-clause-found : goal.add_doc-returns-in_err-m
 add_doc-returns-in_err-mult_doc-clause-found _ c =
     let left = one_left Label.mult mult_parts (λ x. addop_text x.0) (λ x. x.1) (out-Add c.args.add.now).extended.items _ c.deref-op-items.ensures.value c.loop-op.op-index c.loop-op-item.result c.loop-op-test.true c.loop-op-item.is in
     missed c.from_residual-in_err-mult_doc.result _ _ _ c.from_residual-in_err-mult_doc.ensures.1 c.in_err-mult_doc.ensures.found
-    (λ h. c.loop-op.invariant.found ∙ next_missed Label.mult c.args.tokens.now c.mark_after.new.tokens (c.in_ok-mark_after.ensures.kept ∙ c.loop-op.invariant.kept) left h)
+    (λ h. c.loop-op.invariant.found ∙ next_missed Label.mult c.args.tokens.now c.sign_and_line.new.tokens (c.in_ok-sign_and_line.ensures.kept ∙ c.loop-op.invariant.kept) left h)
 
 pub add_doc-loop-op-preserved : goal.add_doc-loop-op-preserved
 add_doc-loop-op-preserved _ c =
     let left = one_left Label.mult mult_parts (λ x. addop_text x.0) (λ x. x.1) (out-Add c.args.add.now).extended.items _ c.deref-op-items.ensures.value c.loop-op.op-index c.loop-op-item.result c.loop-op-test.true c.loop-op-item.is in
     let i = to_z w64 (of_z w64 c.args.indent) in
-    let kept = c.in_ok-mark_after.ensures.kept ∙ c.loop-op.invariant.kept in
+    let kept = c.in_ok-sign_and_line.ensures.kept ∙ c.loop-op.invariant.kept in
     record {
       kept = c.in_ok-mult_doc.ensures.kept ∙ kept;
-      found = c.loop-op.invariant.found ∙ next_found Label.mult c.args.tokens.now c.mark_after.new.tokens kept left c.in_ok-mult_doc.ensures.found;
-      shown = lined_more kind.add kind.mult Label.mult refl i (inside_add i) (add_parts c.args.add.now) _ (add_chain i) _ c.in_ok-mark_after.field-0 _ c.in_ok-mult_doc.field-0 left
-          c.in_ok-push.ensures.items c.in_ok-push-2.ensures.items c.in_ok-push-3.ensures.items c.in_ok-push-4.ensures.items (doc_of_text _) doc_of_line (λ o g. c.in_ok-mark_after.ensures.shows o (c.add_op_text.ensures ∙ g)) (λ x at e. c.in_ok-mult_doc.ensures.shows x e) c.loop-op.invariant.shown;
+      found = c.loop-op.invariant.found ∙ next_found Label.mult c.args.tokens.now c.sign_and_line.new.tokens kept left c.in_ok-mult_doc.ensures.found;
+      shown = operand_more kind.add kind.mult Label.mult refl sign_and_line i (inside_add i) (add_parts c.args.add.now) _ (add_chain i) c.in_ok-sign_and_line.field-0 c.in_ok-mult_doc.field-0 left
+          c.in_ok-push.ensures.items c.in_ok-push-2.ensures.items (λ o g. c.in_ok-sign_and_line.ensures.shows o (c.add_op_text.ensures ∙ g)) (λ x at e. c.in_ok-mult_doc.ensures.shows x e) c.loop-op.invariant.shown;
     }
 
 pub add_doc-returns-clause-shows : goal.add_doc-returns-clause-shows
@@ -434,18 +430,18 @@ pub mult_doc-returns-in_err-unary_doc-clause-found : goal.mult_doc-returns-in_er
 mult_doc-returns-in_err-unary_doc-clause-found _ c =
     let left = one_left Label.unary unary_parts (λ _. codes "*") (λ x. x.1) (out-Mult c.args.mult.now).extended.items _ c.deref-operand-items.ensures.value c.loop-operand.operand-index c.loop-operand-item.result c.loop-operand-test.true c.loop-operand-item.is in
     missed c.from_residual-in_err-unary_doc.result _ _ _ c.from_residual-in_err-unary_doc.ensures.1 c.in_err-unary_doc.ensures.found
-    (λ h. c.loop-operand.invariant.found ∙ next_missed Label.unary c.args.tokens.now c.mark_after.new.tokens (c.in_ok-mark_after.ensures.kept ∙ c.loop-operand.invariant.kept) left h)
+    (λ h. c.loop-operand.invariant.found ∙ next_missed Label.unary c.args.tokens.now c.sign_and_line.new.tokens (c.in_ok-sign_and_line.ensures.kept ∙ c.loop-operand.invariant.kept) left h)
 
 pub mult_doc-loop-operand-preserved : goal.mult_doc-loop-operand-preserved
 mult_doc-loop-operand-preserved _ c =
     let left = one_left Label.unary unary_parts (λ _. codes "*") (λ x. x.1) (out-Mult c.args.mult.now).extended.items _ c.deref-operand-items.ensures.value c.loop-operand.operand-index c.loop-operand-item.result c.loop-operand-test.true c.loop-operand-item.is in
     let i = to_z w64 (of_z w64 c.args.indent) in
-    let kept = c.in_ok-mark_after.ensures.kept ∙ c.loop-operand.invariant.kept in
+    let kept = c.in_ok-sign_and_line.ensures.kept ∙ c.loop-operand.invariant.kept in
     record {
       kept = c.in_ok-unary_doc.ensures.kept ∙ kept;
-      found = c.loop-operand.invariant.found ∙ next_found Label.unary c.args.tokens.now c.mark_after.new.tokens kept left c.in_ok-unary_doc.ensures.found;
-      shown = lined_more kind.mult kind.unary Label.unary refl i (inside_mult i) (mult_parts c.args.mult.now) _ (mult_chain i) _ c.in_ok-mark_after.field-0 _ c.in_ok-unary_doc.field-0 left
-          c.in_ok-push.ensures.items c.in_ok-push-2.ensures.items c.in_ok-push-3.ensures.items c.in_ok-push-4.ensures.items (doc_of_text _) doc_of_line c.in_ok-mark_after.ensures.shows (λ x at e. c.in_ok-unary_doc.ensures.shows x at e) c.loop-operand.invariant.shown;
+      found = c.loop-operand.invariant.found ∙ next_found Label.unary c.args.tokens.now c.sign_and_line.new.tokens kept left c.in_ok-unary_doc.ensures.found;
+      shown = operand_more kind.mult kind.unary Label.unary refl sign_and_line i (inside_mult i) (mult_parts c.args.mult.now) _ (mult_chain i) c.in_ok-sign_and_line.field-0 c.in_ok-unary_doc.field-0 left
+          c.in_ok-push.ensures.items c.in_ok-push-2.ensures.items c.in_ok-sign_and_line.ensures.shows (λ x at e. c.in_ok-unary_doc.ensures.shows x at e) c.loop-operand.invariant.shown;
     }
 
 pub mult_doc-returns-clause-shows : goal.mult_doc-returns-clause-shows
@@ -590,13 +586,9 @@ call_doc-returns-then-is_empty-clause-shows _ c = λ t e.
 pub call_doc-returns-clause-shows : goal.call_doc-returns-clause-shows
 call_doc-returns-clause-shows _ c = λ t e.
     let i = to_z w64 (of_z w64 c.args.indent) in
-    let left = doc_of c.in_ok-open.open in
-    let right = doc_of c.in_ok-close.close in
     at_indent i c.args.indent t (to_z-of_z c.ranges.indent)
     (call_shown i t c.args.span c.args.arguments.now _ _ _ _ _ _ _ _ false e c.in_ok-open.ensures.shows c.in_ok-items.ensures.none c.in_ok-items.ensures.shows c.in_ok-close.ensures.shows
-    (sym c.if-is_empty.false ∙ c.is_empty.ensures)
-    (flat _ _ c.in_ok-vec-3.ensures.items ∙ ap (λ z. left · z · doc_of LineOrNil' · right) (c.in_ok-inside.ensures ∙ ap (nest i) (flat _ _ c.in_ok-vec-2.ensures.items))
-    ∙ ap (λ z. left · nest i (z · doc_of c.in_ok-items.items) · z · right) doc_of_line_or_nil))
+    (sym c.if-is_empty.false ∙ c.is_empty.ensures) c.in_ok-call_row.ensures)
 
 -- primary_doc
 
@@ -659,7 +651,7 @@ parens_doc-returns-clause-shows _ c l x r at left place e right =
     let first = rewritten (l ∷ []) (nothing_behind l) (freely (l ∷ []) (c.in_ok-open.ensures.shows l (starts_here c.args.span l (yield x ++ (r ∷ [])) at) left)) in
     let inside = rewritten (yield x) (ap (λ j. document j x) fits) (freely (yield x) (c.in_ok-doc.ensures.shows x place e)) in
     let last = rewritten (r ∷ []) (nothing_behind r) (freely (r ∷ []) (c.in_ok-close.ensures.shows r (ends_with c.args.span l (yield x) r at) right)) in
-    λ before after st. let k = in_brackets (λ a b d. group (a · nest (pos 1) b · d)) l (yield x) r first inside last before after tt st in (c.in_ok-group.ensures ∙ ap group c.in_ok-add_brackets.ensures ∙ k.0, k.1)
+    λ before after st. let k = in_brackets (λ a b d. group (a · nest (pos 1) b · d)) l (yield x) r first inside last before after tt st in (c.in_ok-parens_row.ensures ∙ k.0, k.1)
 
 -- list_doc
 
@@ -677,7 +669,7 @@ list_doc-returns-clause-shows _ c (list_empty l r) at e =
     let first = rewritten (l ∷ []) (nothing_behind l) (freely (l ∷ []) (c.in_ok-open.ensures.shows l (starts_here c.args.span l (r ∷ []) at) p.0)) in
     let inside = freely [] (c.in_ok-doc.ensures.none (no_items Label.expr expr_parts c.args.items.now q.0)) in
     let last = rewritten (r ∷ []) (nothing_behind r) (freely (r ∷ []) (c.in_ok-close.ensures.shows r (ends_with c.args.span l [] r at) q.1)) in
-    λ before after st. let k = in_brackets (λ a b d. a · nest (pos 1) b · d) l [] r first inside last before after tt st in (c.in_ok-add_brackets.ensures ∙ k.0, k.1)
+    λ before after st. let k = in_brackets (λ a b d. a · nest (pos 1) b · d) l [] r first inside last before after tt st in (c.in_ok-list_row.ensures ∙ k.0, k.1)
 list_doc-returns-clause-shows _ c (list_of l x r) at e =
     let fits : to_z w64 (of_z w64 c.args.indent) ≡ c.args.indent = omega (arith, ints) in
     let v = opened_variant Label.list _ none (leaf l (join (parts kind_of_shown x) (leaf r none))) none e in
@@ -686,7 +678,7 @@ list_doc-returns-clause-shows _ c (list_of l x r) at e =
     let first = rewritten (l ∷ []) (nothing_behind l) (freely (l ∷ []) (c.in_ok-open.ensures.shows l (starts_here c.args.span l (yield x ++ (r ∷ [])) at) p.0)) in
     let inside = rewritten (yield x) (ap (λ j. document j x) fits) (freely (yield x) (c.in_ok-doc.ensures.shows x q.0)) in
     let last = rewritten (r ∷ []) (nothing_behind r) (freely (r ∷ []) (c.in_ok-close.ensures.shows r (ends_with c.args.span l (yield x) r at) q.1)) in
-    λ before after st. let k = in_brackets (λ a b d. a · nest (pos 1) b · d) l (yield x) r first inside last before after tt st in (c.in_ok-add_brackets.ensures ∙ k.0, k.1)
+    λ before after st. let k = in_brackets (λ a b d. a · nest (pos 1) b · d) l (yield x) r first inside last before after tt st in (c.in_ok-list_row.ensures ∙ k.0, k.1)
 list_doc-returns-clause-shows _ c t at e = absurd (only lists _ t refl e)
 
 -- record_doc
@@ -726,10 +718,9 @@ record_doc-returns-clause-shows _ c (record_of l x r) at e =
     let first = rewritten (l ∷ []) (nothing_behind l) (freely (l ∷ []) (c.in_ok-open.ensures.shows l (starts_here c.args.span l (yield x ++ (r ∷ [])) at) p.0)) in
     let inside = freely (yield x) (c.in_ok-items.ensures.shows x q.0) in
     let closing = rewritten (r ∷ []) (nothing_behind r) (freely (r ∷ []) (c.in_ok-close.ensures.shows r (ends_with c.args.span l (yield x) r at) q.1)) in
-    let made = laid c.in_ok-vec-2.field-0 c.in_ok-vec-2.ensures.items (also doc_of_line (same c.in_ok-items.items (also doc_of_line refl))) in
     λ before after st.
     let k = in_brackets (λ a b d. a · nest w (group (line · b · line)) · d) l (yield x) r first inside closing before after tt st in
-    (c.in_ok-add_brackets.ensures ∙ ap (λ z. doc_of c.in_ok-open.open · nest w z · doc_of c.in_ok-close.close) (c.in_ok-group.ensures ∙ ap group made) ∙ k.0 ∙ ap (λ z. document z (record_of l x r)) fits, k.1)
+    (c.in_ok-record_row.ensures ∙ k.0 ∙ ap (λ z. document z (record_of l x r)) fits, k.1)
 record_doc-returns-clause-shows _ c t at e = absurd (only records _ t refl e)
 
 -- items_doc
@@ -837,16 +828,16 @@ pub accesses_doc-access_doc-requires : goal.accesses_doc-access_doc-requires
 accesses_doc-access_doc-requires _ c = (search (rules, Or.the_lemmas), order_kept _ _ (c.loop-access.invariant.kept) c.requires)
 
 pub add_doc-mult_doc-requires-in-loop-op : goal.add_doc-mult_doc-requires-in-loop-op
-add_doc-mult_doc-requires-in-loop-op _ c = (search (rules, Or.the_lemmas), order_kept _ _ (c.in_ok-mark_after.ensures.kept ∙ c.loop-op.invariant.kept) c.requires)
+add_doc-mult_doc-requires-in-loop-op _ c = (search (rules, Or.the_lemmas), order_kept _ _ (c.in_ok-sign_and_line.ensures.kept ∙ c.loop-op.invariant.kept) c.requires)
 
 pub mult_doc-unary_doc-requires-in-loop-operand : goal.mult_doc-unary_doc-requires-in-loop-operand
-mult_doc-unary_doc-requires-in-loop-operand _ c = (search (rules, Or.the_lemmas), order_kept _ _ (c.in_ok-mark_after.ensures.kept ∙ c.loop-operand.invariant.kept) c.requires)
+mult_doc-unary_doc-requires-in-loop-operand _ c = (search (rules, Or.the_lemmas), order_kept _ _ (c.in_ok-sign_and_line.ensures.kept ∙ c.loop-operand.invariant.kept) c.requires)
 
 pub and_doc-relation_doc-requires-in-loop-operand : goal.and_doc-relation_doc-requires-in-loop-operand
-and_doc-relation_doc-requires-in-loop-operand _ c = (search (rules, Or.the_lemmas), order_kept _ _ (c.in_ok-mark_after.ensures.kept ∙ c.loop-operand.invariant.kept) c.requires)
+and_doc-relation_doc-requires-in-loop-operand _ c = (search (rules, Or.the_lemmas), order_kept _ _ (c.in_ok-breaking_sign.ensures.kept ∙ c.loop-operand.invariant.kept) c.requires)
 
 pub or_doc-and_doc-requires-in-loop-operand : goal.or_doc-and_doc-requires-in-loop-operand
-or_doc-and_doc-requires-in-loop-operand _ c = (search (rules, Or.the_lemmas), order_kept _ _ (c.in_ok-mark_after.ensures.kept ∙ c.loop-operand.invariant.kept) c.requires)
+or_doc-and_doc-requires-in-loop-operand _ c = (search (rules, Or.the_lemmas), order_kept _ _ (c.in_ok-breaking_sign.ensures.kept ∙ c.loop-operand.invariant.kept) c.requires)
 
 pub member_doc-accesses_doc-requires : goal.member_doc-accesses_doc-requires
 member_doc-accesses_doc-requires _ c = (search (rules, Or.the_lemmas), order_kept _ _ (c.in_ok-item.ensures.kept) c.requires)

@@ -1,24 +1,23 @@
 use Rattle.std.proofs.Common.{◌≡◌, ◌∷◌, [], to_z, of_z, w64, arith, ap, ◌∙◌, true, false}
 use Rattle.std.proofs.lemmas.Int.{ints}
 use Rattle.cedar_grammar.specs.TypedTrees.{yield}
-use Rattle.cedar_layout.specs.Comments.{space}
+use Rattle.cedar_canonical.specs.Table.{leaf, space}
 use Rattle.cedar_layout.specs.Layout.{◌·◌, nest, group}
 use Rattle.cedar_layout.specs.Value.{doc_of}
-use Rattle.cedar_layout.proofs.Values.{doc_of_text}
 use Rattle.cedar_tree.specs.Erased.{path_parts}
 use Rattle.cedar_leaf_documents.specs.Found.{has_its_tokens}
+use Rattle.cedar_leaf_documents.specs.NodeDocuments.{as_leaf, document}
 use Rattle.cedar_leaf_documents.proofs.Found.{as_before, missed}
 use Rattle.cedar_leaf_documents.proofs.Opened.{in_turn, freely, rewritten, nothing_behind, Always, Behind}
-use Rattle.cedar_expression_documents.proofs.Relations.{row_of_five}
 use Rattle.cedar_expression_documents.proofs.expressions.is_doc.Goals as goal
 
-pub returns-in_err-name_doc-clause-found : goal.returns-in_err-name_doc-clause-found
-returns-in_err-name_doc-clause-found c =
-    missed c.from_residual-in_err-name_doc.result _ _ _ c.from_residual-in_err-name_doc.ensures.1 c.in_err-name_doc.ensures.found
+pub returns-in_err-type_name-clause-found : goal.returns-in_err-type_name-clause-found
+returns-in_err-type_name-clause-found c =
+    missed c.from_residual-in_err-type_name.result _ _ _ c.from_residual-in_err-type_name.ensures.1 c.in_err-type_name.ensures.found
     (λ h. as_before (λ z. has_its_tokens z (path_parts c.args.entity_type.now.inner.path.items c.args.entity_type.now.inner.name)) false c.args.tokens.now c.mark_after.new.tokens c.in_ok-is_word.ensures.kept h)
 
 pub returns-clause-found : goal.returns-clause-found
-returns-clause-found c = as_before (λ z. has_its_tokens z (path_parts c.args.entity_type.now.inner.path.items c.args.entity_type.now.inner.name)) true c.args.tokens.now c.mark_after.new.tokens c.in_ok-is_word.ensures.kept c.in_ok-name_doc.ensures.found
+returns-clause-found c = as_before (λ z. has_its_tokens z (path_parts c.args.entity_type.now.inner.path.items c.args.entity_type.now.inner.name)) true c.args.tokens.now c.mark_after.new.tokens c.in_ok-is_word.ensures.kept c.in_ok-type_name.ensures.found
 
 pub returns-clause-shows : goal.returns-clause-shows
 returns-clause-shows c o n f g =
@@ -26,8 +25,7 @@ returns-clause-shows c o n f g =
     let w : i ≡ c.args.indent = omega (arith, ints) in
     let left = doc_of c.args.left in
     let word = rewritten (o ∷ []) (nothing_behind o) (c.in_ok-is_word.ensures.shows o f) in
-    let second = freely (yield n) (c.in_ok-name_doc.ensures.shows c.args.indent n g) in
-    let all = in_turn (λ x y. group (left · space · x · space · nest c.args.indent y)) (Behind c.args.before) Always (o ∷ []) (yield n) word (λ b h. tt) second in
-    let inside = c.in_ok-type_name.ensures ∙ ap (λ z. nest z (doc_of c.in_ok-name_doc.field-0)) w in
-    let made = row_of_five _ c.in_ok-row.ensures.items (doc_of_text _) (doc_of_text _) ∙ ap (λ z. left · space · doc_of c.in_ok-is_word.is_word · space · z) inside in
-    λ before after at st. let r = all before after at st in (c.in_ok-group.ensures ∙ ap group made ∙ r.0, r.1)
+    let second = freely (yield n) (c.in_ok-type_name.ensures.shows c.args.indent n g) in
+    let all = in_turn (λ x y. group (left · space · x · space · nest i y)) (Behind c.args.before) Always (o ∷ []) (yield n) word (λ b h. tt) second in
+    λ before after at st. let r = all before after at st in
+    (c.in_ok-is_row.ensures ∙ r.0 ∙ ap (λ z. group (left · space · leaf (as_leaf o) · space · nest z (document c.args.indent n))) w, r.1)

@@ -2,7 +2,7 @@ use Rattle.std.proofs.Common.{◌≡◌, arith, of_z, to_z, w64}
 use Rattle.std.proofs.lemmas.Int.{ints}
 use Rattle.cedar_layout.proofs.Values.{doc_of_line}
 use Rattle.cedar_leaf_documents.proofs.Flat.{flat}
-use Rattle.cedar_expression_documents.proofs.expressions.below.Goals as goal
+use Rattle.cedar_leaf_documents.proofs.rows.below.Goals as goal
 
 pub returns : goal.returns
 returns c =
