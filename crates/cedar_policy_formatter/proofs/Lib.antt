@@ -3,3 +3,4 @@ pub mod Outputs
 pub mod Comparisons
 pub mod SamePolicies
 pub mod OutputPolicies
+pub mod Runs

@@ -1,12 +1,11 @@
 //! Want of memory: to be run with each allocation refused in turn. The answer is then want of memory or the row's.
 use super::*;
-use cedar_policy_formatter::Context;
 use cedar_policy_formatter::doc::Doc;
 use cedar_policy_formatter::layout::render;
 use cedar_policy_formatter::lexer::get_token_stream;
 use cedar_policy_formatter::token::Span;
 use cedar_policy_formatter::utils::{get_comment_in_range, in_order};
-use cedar_policy_formatter::{is_formatted, same_layout, soundness_check};
+use cedar_policy_formatter::{Context, is_formatted, same_layout, soundness_check};
 
 // Texts and their layouts, in full, so that the test itself takes no memory for them.
 static FULL: [(&str, &str); 7] = [

@@ -1,0 +1,25 @@
+-- What a run of a stream tells, by how it ends.
+use Rattle.std.proofs.Common.{◌≡◌, ◌⊎◌, ℕ, ℤ, List, Bool, Option, Result, Ok, Err, inl, inr, refl}
+use Rattle.std.specs.Prelude.{◌↔◌, IsTrue}
+use Rattle.std.specs.Io.KnownBytes.{Appends, Keeps}
+use Rattle.cedar_streams.specs.Texts.{AppendsPart, FailsToGive, GivesText}
+use Rattle.cedar_streams.specs.declared.reading.ReadFault.{ReadFault}
+use Rattle.cedar_streams.specs.declared.reading.ReadFault.TheVariants.{Read, NotUtf8, OutOfMemory}
+use Rattle.cedar_grammar.specs.Texts.{Accepted}
+use Rattle.cedar_tree.specs.Refusals.{Refuses}
+use Rattle.cedar_tree.specs.declared.error.FormatError.{FormatError}
+use Rattle.cedar_canonical.specs.Canonical.{IsOutputOf}
+use Rattle.cedar_policy_formatter.specs.Streams.{FailsToRead, TellsCheck, TellsRun, run_fault}
+use Rattle.cedar_policy_formatter.specs.declared.fmt.stream.RunFault.TheVariants.{Format, Write}
+
+-- no text was had
+pub unread : (old new : Option (List ℕ)) (f : ReadFault) → FailsToGive old new f → FailsToRead old new (run_fault f)
+unread old new Read h = tt
+unread old new NotUtf8 h = h
+unread old new OutOfMemory h = inl refl
+
+module _ (width : ℕ) (indent : ℤ) (old new held holds : Option (List ℕ)) where
+  pub without_text : (f : ReadFault) → FailsToGive old new f → Keeps held holds → TellsRun width indent old new held holds (Err (run_fault f))
+  without_text Read h k = (tt, k)
+  without_text NotUtf8 h k = (h, k)
+  without_text OutOfMemory h k = (inl refl, k)
