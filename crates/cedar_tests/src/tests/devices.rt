@@ -38,22 +38,29 @@ impl Read for Source<'_> {
     }
 }
 
-// A writer over memory that takes `most` bytes a call and fails at the call `fails_at`, counted from 1.
+// A writer over memory that takes `most` bytes a call and fails so at the call `fails_at`, counted from 1.
 #[derive(Drop)]
 pub(super) struct Sink<'a> {
     taken: &'a mut Vec<u8>,
     most: usize,
     calls: usize,
     fails_at: usize,
+    kind: ErrorKind,
 }
 
 impl<'a> Sink<'a> {
-    pub(super) fn new(taken: &'a mut Vec<u8>, most: usize, fails_at: usize) -> Sink<'a> {
+    pub(super) fn new(
+        taken: &'a mut Vec<u8>,
+        most: usize,
+        fails_at: usize,
+        kind: ErrorKind,
+    ) -> Sink<'a> {
         Sink {
             taken,
             most,
             calls: 0,
             fails_at,
+            kind,
         }
     }
 }
@@ -62,7 +69,7 @@ impl Write for Sink<'_> {
     fn write(&mut self, buf: &[u8]) -> io::Result<usize> {
         self.calls = self.calls.saturating_add(1);
         if self.calls == self.fails_at {
-            return Err(io::Error::from(ErrorKind::Interrupted));
+            return Err(io::Error::from(self.kind));
         }
         let count = buf.len().min(self.most);
         self.taken.extend_from_slice(&buf[..count])?;
@@ -197,7 +204,8 @@ fn outcome(
     taken: &mut Vec<u8>,
 ) -> (Result<(), RunFault>, (bool, bool)) {
     let mut input = Watched::new(Source::new(run.text, run.reading.0, run.reading.1));
-    let mut output = Watched::new(Sink::new(taken, run.writing.0, run.writing.1));
+    let (most, fails_at) = run.writing;
+    let mut output = Watched::new(Sink::new(taken, most, fails_at, ErrorKind::Interrupted));
     assert!(rt; !input.failed() && !output.failed());
     let got = format_stream(alloc, &mut input, &mut output, &Config::default());
     (got, (input.failed(), output.failed()))

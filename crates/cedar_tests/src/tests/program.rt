@@ -31,8 +31,8 @@ fn run_with<R: Files + AllocGlobal>(
     let mut output = Vec::new(alloc);
     let mut errors = Vec::new(alloc);
     let reader = Source::new(input, usize::MAX, fails_at.0);
-    let mut writer = Watched::new(Sink::new(&mut output, 7, fails_at.1));
-    let mut teller = Sink::new(&mut errors, 7, fails_at.2);
+    let mut writer = Watched::new(Sink::new(&mut output, 7, fails_at.1, ErrorKind::Other));
+    let mut teller = Sink::new(&mut errors, 7, fails_at.2, ErrorKind::Other);
     let status = run_words(rt, given.as_slice(), reader, &mut writer, &mut teller);
     Ok(Outcome {
         output,
@@ -242,7 +242,7 @@ fn tells_words_that_cannot_be_had(rt: HostRuntime) -> Result<(), AllocError> {
         (ErrorKind::OutOfMemory, "cedar: out of memory\n", 1),
     ] {
         let mut errors = Vec::new(rt.alloc());
-        let mut teller = Sink::new(&mut errors, 7, 0);
+        let mut teller = Sink::new(&mut errors, 7, 0, ErrorKind::Other);
         let got = tell_unread_words(&io::Error::from(kind), &mut teller);
         assert_eq!(rt; got, status, "{want}");
         assert_eq!(rt; errors.as_slice(), want.as_bytes(), "{want}");
