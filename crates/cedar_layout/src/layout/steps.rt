@@ -18,8 +18,14 @@ use std::sync::ledger::{Blank, Book, Ledger, Share};
 ///         let mut steps: Steps<L> = Steps::new(blank);
 ///         let comment = get_comment_at_start_counted(span, tokens, &mut steps);
 ///
-/// and the caller writes `found::<Brand>(span, tokens, Blank::new(1))`. `cedar_tests/src/tests/lookups.rt` does so, with
-/// contracts that say how many steps a search among one, seven or eight tokens takes.
+/// and the caller writes `found::<Brand>(span, tokens, Blank::new(1))`. Which ledger that is, the caller's
+/// `Invariants.antt` says, since the prover can't guess it:
+///
+///     abbrev pub ghosts-found : goal.ghosts-found
+///     ghosts-found g a = record { name = a.blank.name; parts = a.blank.parts }
+///
+/// `answer_from` in `cedar_tests/src/tests/lookups.rt` is such a function, `answer` its caller; the contract of
+/// `answer_among_few` says how many steps a search among one, seven or eight tokens takes.
 #[derive(Drop)]
 pub struct Steps<L: Ledger> {
     book: Book<L>,
