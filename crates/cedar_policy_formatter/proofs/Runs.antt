@@ -1,16 +1,10 @@
 -- What a run of a stream tells, by how it ends.
-use Rattle.std.proofs.Common.{◌≡◌, ◌⊎◌, ℕ, ℤ, List, Bool, Option, Result, Ok, Err, inl, inr, refl}
-use Rattle.std.specs.Prelude.{◌↔◌, IsTrue}
-use Rattle.std.specs.Io.KnownBytes.{Appends, Keeps}
-use Rattle.cedar_streams.specs.Texts.{AppendsPart, FailsToGive, GivesText}
+use Rattle.std.proofs.Common.{ℕ, ℤ, List, Option, Err, inl, refl}
+use Rattle.std.specs.Io.KnownBytes.{Keeps}
+use Rattle.cedar_streams.specs.Texts.{FailsToGive}
 use Rattle.cedar_streams.specs.declared.reading.ReadFault.{ReadFault}
 use Rattle.cedar_streams.specs.declared.reading.ReadFault.TheVariants.{Read, NotUtf8, OutOfMemory}
-use Rattle.cedar_grammar.specs.Texts.{Accepted}
-use Rattle.cedar_tree.specs.Refusals.{Refuses}
-use Rattle.cedar_tree.specs.declared.error.FormatError.{FormatError}
-use Rattle.cedar_canonical.specs.Canonical.{IsOutputOf}
-use Rattle.cedar_policy_formatter.specs.Streams.{FailsToRead, TellsCheck, TellsRun, run_fault}
-use Rattle.cedar_policy_formatter.specs.declared.fmt.stream.RunFault.TheVariants.{Format, Write}
+use Rattle.cedar_policy_formatter.specs.Streams.{FailsToRead, TellsRun, run_fault}
 
 -- no text was had
 pub unread : (old new : Option (List ℕ)) (f : ReadFault) → FailsToGive old new f → FailsToRead old new (run_fault f)

@@ -204,15 +204,17 @@ fn faults_of_the_command_line(rt: HostRuntime) -> Result<(), AllocError> {
 
 #[test]
 fn shows_help(rt: HostRuntime) -> Result<(), AllocError> {
-    for words in [
-        ["cedar", "-h"].as_slice(),
-        ["cedar", "--help"].as_slice(),
-        ["cedar", "format", "-h"].as_slice(),
-        ["cedar", "format", "--help"].as_slice(),
+    let example = "cedar format --check -p policies.cedar";
+    for (words, piece) in [
+        (["cedar", "-h"].as_slice(), example),
+        (["cedar", "--help"].as_slice(), example),
+        (["cedar", "format", "-h"].as_slice(), "[default: 80]"),
+        (["cedar", "format", "--help"].as_slice(), "[default: 2]"),
     ] {
         let got = run_with(&rt, words, PACKED.as_bytes(), (1, 0, 0))?;
         assert_eq!(rt; got.status, 0, "{words:?}");
-        assert!(rt; !got.output.is_empty(), "{words:?}");
+        let help = String::from_utf8_lossy(rt.alloc(), got.output.as_slice())?;
+        assert!(rt; help.as_str().contains(piece), "{words:?}");
         assert!(rt; got.errors.is_empty(), "{words:?}");
     }
     Ok(())
