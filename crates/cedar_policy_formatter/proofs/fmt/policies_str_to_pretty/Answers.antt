@@ -1,8 +1,26 @@
 use Rattle.std.proofs.Common.{sym, subst}
 use Rattle.std.proofs.lemmas.Result.{err_from_is_err_and}
 use Rattle.cedar_canonical.specs.Canonical.{IsOutputOf}
+use Rattle.cedar_tree.specs.Refusals.{Refuses}
 use Rattle.cedar_policy_formatter.proofs.SamePolicies.{never_fails}
 use Rattle.cedar_policy_formatter.proofs.fmt.policies_str_to_pretty.Goals as goal
+
+pub returns-clause-answer : goal.returns-clause-answer
+returns-clause-answer c = c.tree_is_of_accepted.ensures c.args.ps.now c.in_ok-tree.tree c.in_ok-tree.ensures.tree
+
+pub returns-clause-output : goal.returns-clause-output
+returns-clause-output c = c.in_ok-text.ensures c.in_ok-tree.ensures.tree
+
+pub returns-in_err-tree-clause-answer : goal.returns-in_err-tree-clause-answer
+returns-in_err-tree-clause-answer c =
+    let p = err_from_is_err_and c.from_residual.result c.from_residual.ensures.1 in
+    rw (p.1, p.2) c.in_err-tree.ensures.refusal
+
+pub returns-in_err-text-clause-answer : goal.returns-in_err-text-clause-answer
+returns-in_err-text-clause-answer c =
+    let p = err_from_is_err_and c.from_residual-in_err-text.result c.from_residual-in_err-text.ensures.1 in
+    let memory = c.in_err-text.ensures c.in_ok-tree.ensures.tree in
+    rw (p.1, p.2) (subst (λ e. Refuses c.args.ps.now e) (sym memory) tt)
 
 pub returns-clause-kept : goal.returns-clause-kept
 returns-clause-kept c =
