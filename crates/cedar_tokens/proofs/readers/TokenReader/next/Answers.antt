@@ -1,0 +1,13 @@
+use Rattle.std.proofs.Common.{refl}
+use Rattle.cedar_tokens.proofs.Reading.{none_has, gives_first}
+use Rattle.cedar_tokens.proofs.readers.TokenReader.next.Goals as goal
+
+pub returns-in_default-clause-next : goal.returns-in_default-clause-next
+returns-in_default-clause-next c = λ text l spans h. none_has text _ l spans c.in_default.ensures.token h
+
+pub returns-clause-next : goal.returns-clause-next
+returns-clause-next c = λ text l spans h.
+    let made = c.new-2.ensures in
+    let parts = c.in_ok-comment.ensures.parts in
+    gives_first text _ _ c.in-Some.first _ l spans c.in-Some.ensures.token h refl refl refl
+    (rw made c.in_ok-token.ensures.text) (rw made c.in_ok-token.ensures.proper) (rw made parts.0) (rw made parts.1) (rw made refl)
