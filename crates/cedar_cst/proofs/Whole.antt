@@ -59,13 +59,11 @@ place_end : (text : List ℕ) (ls : List Lexeme) → place_of text ls 0 ≡ leng
 place_end text ls = ap (start_or (length text)) (slice_get_past ls (length ls - 0) (omega arith))
 
 module _ (text : List ℕ) (ls : List Lexeme) (are : AreLexemes text ls) where
-  are_right : (f : Forest Label Lexeme) (r : List Lexeme) → set_to kind greatest_depth ls ≡ done f r → AreRight f
+  -- a tree of the text's lexemes has right leaves
+  pub are_right : (f : Forest Label Lexeme) (r : List Lexeme) → set_to kind greatest_depth ls ≡ done f r → AreRight f
   are_right f r e =
       let all = all_right ls are.kinds (all_tokens are.units ls are.texts) in
       right_leaves f (split_right (yield f) r (subst (AllByRecursion IsRight) (set_sound kind greatest_depth ls f r e).tokens all)).0
-
-  pub whole_tree : (p : Policies) → GivesSet (Ok p) (set_to kind greatest_depth ls) → IsTreeOf text p
-  whole_tree p h = parsed text ls are (done h.0 []) h.1 p (h.2 (are_right h.0 [] h.1))
 
   never_beyond : (a : Answer Lexeme) → Beyond a 0 → ⊥
   never_beyond (done f s) h = omega (arith, h)

@@ -2,14 +2,12 @@
 ghost use Rattle.std.specs.Prelude.{◌≡◌, IfOk, IfErr};
 ghost use Rattle.cedar_tree.specs.NodeTrees.{IsTreeOf};
 ghost use Rattle.cedar_tree.specs.Refusals.{Refuses};
-ghost use Rattle.cedar_reading.specs.Reading.{place_of};
 
 mod policies;
+mod reader;
 mod scopes;
 
-use crate::cst::policies::parse_set;
-use cedar_reading::lexeme::{Lexeme, read_lexemes};
-use cedar_reading::reading::Refusal;
+pub use crate::cst::reader::{PolicyReader, answered_come_first, tree_has_the_policies};
 pub use cedar_same_tree::compare::same_tree;
 pub use cedar_tree::error::FormatError;
 pub use cedar_tree::laws;
@@ -31,25 +29,11 @@ pub fn parse_policies<'src>(alloc: Global, text: &'src str) -> Result<Policies<'
     ensures tree { IfOk result (λ p. IsTreeOf text.now p) }
     ensures refusal { IfErr result (λ e. Refuses text.now e) }
 {
-    let lexemes = read_lexemes(alloc, text)?;
-    match parse_set(alloc, &lexemes) {
-        Ok(policies) => Ok(policies),
-        Err(Refusal::Grammar { left }) => Err(FormatError::Grammar {
-            at: place(text, &lexemes, left),
-        }),
-        Err(Refusal::TooDeep { left }) => Err(FormatError::TooDeep {
-            at: place(text, &lexemes, left),
-        }),
-        Err(Refusal::OutOfMemory) => Err(FormatError::OutOfMemory),
+    tree_has_the_policies();
+    let mut reader = PolicyReader::new(text)?;
+    let mut policies = Vec::new(alloc);
+    'policies: while let Some(policy) = reader.next(alloc)? {
+        policies.push(policy)?;
     }
-}
-
-// Where the token starts from which on so many are left; the text's length where none is left.
-fn place(text: &str, lexemes: &[Lexeme], left: usize) -> usize
-    ensures { result ≡ place_of text.now lexemes.now left }
-{
-    match lexemes.get(lexemes.len().saturating_sub(left)) {
-        Some(lexeme) => lexeme.span.start,
-        None => text.len(),
-    }
+    Ok(Policies { policies })
 }

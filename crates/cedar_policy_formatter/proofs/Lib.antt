@@ -4,3 +4,5 @@ pub mod Comparisons
 pub mod SamePolicies
 pub mod OutputPolicies
 pub mod Runs
+pub mod PieceOutputs
+pub mod Piecewise

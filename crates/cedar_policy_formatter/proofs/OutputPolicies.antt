@@ -1,14 +1,14 @@
 -- An output is a text of its text's policies: their nodes with the spans that they have in the output are its tree.
-use Rattle.std.proofs.Common.{◌≡◌, ℕ, Bool, true, false, List, [], ◌∷◌, map, refl, ap, sym, ◌∙◌, subst, append-nil}
+use Rattle.std.proofs.Common.{◌≡◌, ℕ, ℤ, Bool, true, false, List, [], ◌∷◌, map, refl, ap, sym, ◌∙◌, subst, append-nil}
 use Rattle.std.specs.Prelude.{if◌then◌else◌, Option, Some, None}
-use Rattle.cedar_tokens.specs.Listing.{Decorated, IsListing, listing, token_value}
+use Rattle.cedar_tokens.specs.Listing.{Decorated, Listing, IsListing, listing, token_value}
 use Rattle.cedar_tokens.specs.PlainList.{plain_list}
 use Rattle.cedar_tokens.specs.declared.token.Span.{Span}
 use Rattle.cedar_tokens.proofs.Scanning.{listing_unique}
 use Rattle.cedar_grammar.specs.Trees.{Label, Forest, none, leaf, branch, yield}
 use Rattle.cedar_grammar.specs.Grammar.{G}
 use Rattle.cedar_grammar.specs.TokenKinds.{kind_of}
-use Rattle.cedar_grammar.specs.Texts.{greatest_depth, tokens}
+use Rattle.cedar_grammar.specs.Texts.{Accepted, greatest_depth, tokens}
 use Rattle.cedar_grammar.specs.Placed.{Placed, placed, kind_of_placed}
 use Rattle.cedar_grammar.specs.TrailingCommas.{plain, without_trailing}
 use Rattle.cedar_grammar.specs.Reader.Reading.{Answer, done, stuck}
@@ -20,14 +20,15 @@ use Rattle.cedar_grammar.proofs.PlainGrammar.{plain_is_in_the_grammar}
 use Rattle.cedar_grammar.proofs.TextKinds.{plain_texts_agree}
 use Rattle.cedar_grammar.proofs.Relabelling.{relabelled, relabel_yield, plain_each, each_map, map_map}
 use Rattle.cedar_grammar.proofs.ListingTexts.{listing_texts}
-use Rattle.cedar_tree.specs.Erased.{Erased}
+use Rattle.cedar_tree.specs.Erased.{Erased, without_spans}
 use Rattle.cedar_tree.specs.NodeTrees.{IsTreeOf, is_node, span_of, spanned}
 use Rattle.cedar_tree.specs.Laws.{NodesHaveThePlainTexts, TreeIsOfAccepted}
-use Rattle.cedar_canonical.specs.Canonical.{OutputHasTheList, OutputIsAccepted}
+use Rattle.std.specs.Str.{IsUtf8}
+use Rattle.cedar_canonical.specs.Canonical.{IsOutputOf, OutputHasTheList, OutputIsAccepted}
 use Rattle.cedar_canonical.proofs.Grammatical.{value_kind}
-use Rattle.cedar_policy_formatter.specs.Texts.{plain_values}
+use Rattle.cedar_policy_formatter.specs.Texts.{HasNodes, KeepsPolicies, KeptPoliciesHaveTheSameTokens, plain_values}
 use Rattle.cedar_policy_formatter.specs.OutputPolicies.{OutputsKeepThePolicies}
-use Rattle.cedar_policy_formatter.proofs.SamePolicies.{value_of, same_values, same_policies}
+use Rattle.cedar_policy_formatter.proofs.SamePolicies.{value_of, spanless, same_values, same_policies}
 use Rattle.cedar_tree.proofs.NodeLaws.{placed_texts}
 use Rattle.cedar_tree.proofs.Respanned.{Alike, no_trees, a_leaf, a_node, a_variant, respanned}
 
@@ -120,10 +121,49 @@ outputs_keep_the_policies is_accepted texts accepted has_list w i x y p u o t =
     let fy = without_trailing kind_of_placed f.0 in
     let ly : IsListing y (listing units) = record { units = units; split = (a.1).split; value = refl } in
     let lx : IsListing x (listing t.units) = record { units = t.units; split = t.split; value = refl } in
-    let same : plain_values (listing units) ≡ plain_values (listing t.units) = same_values texts has_list w i x y u o (listing units) ly ∙ ap plain_values (listing_unique x o.list (listing t.units) o.is_list lx) in
+    let same : plain_values (listing units) ≡ plain_values (listing t.units) = same_values has_list w i x y u o (listing units) ly ∙ ap plain_values (listing_unique x o.list (listing t.units) o.is_list lx) in
     let e : relabel value_of fy ≡ relabel value_of fx =
     list_has_one_tree kind_of greatest_depth greatest_depth (plain_values (listing t.units)) (relabel value_of fy) (relabel value_of fx)
     (subst (λ z. G kind_of greatest_depth (relabel value_of fy) z) same (values_tree units f.0 f.1)) (values_tree t.units t.tree t.grammar) in
     let q = respanned p (subst (λ z. Alike (spanned text_of place_of fy) z) (sym t.nodes) (spanned_alike fy fx e)) in
     let s : IsTreeOf y q.0 = record { units = units; split = (a.1).split; fitting = (a.1).fitting; tree = f.0; grammar = f.1; nodes = q.1 } in
     (q.0, s, same_policies texts has_list w i x y u o p q.0 t s)
+
+-- ---- of texts without policies in memory
+
+-- the tree of nodes of an accepted text
+nodes_of_accepted : (text : List ℕ) → Accepted text → (f : Erased) × HasNodes text f
+nodes_of_accepted text a =
+    let units = (a.1).units in
+    let f = placed_tree units a.0 (a.1).grammar in
+    (spanned text_of place_of (without_trailing kind_of_placed f.0), record { units = units; split = (a.1).split; fitting = (a.1).fitting; tree = f.0; grammar = f.1; value = refl })
+
+-- the tree by value, and its leaves
+abbrev by_value : {text : List ℕ} {f : Erased} → HasNodes text f → Forest Label (List ℕ)
+by_value x = relabel value_of (without_trailing kind_of_placed x.tree)
+
+by_value_is : {text : List ℕ} (f : Erased) (x : HasNodes text f) → without_spans f ≡ by_value x
+by_value_is f x = ap without_spans x.value ∙ spanless (without_trailing kind_of_placed x.tree)
+
+values_are : (text : List ℕ) (f : Erased) (l : Listing) (x : HasNodes text f) → IsListing text l → plain_values l ≡ yield (by_value x)
+values_are text f l x is_list =
+    let lx : IsListing text (listing x.units) = record { units = x.units; split = x.split; value = refl } in
+    ap plain_values (listing_unique text l (listing x.units) is_list lx) ∙ sym (values_tree x.units x.tree x.grammar).leaves
+
+-- an output has the policies of its text
+pub output_keeps_policies : OutputIsAccepted → OutputHasTheList → (w : ℕ) (i : ℤ) (x y : List ℕ) → IsUtf8 x → Accepted x → IsOutputOf w i x y → KeepsPolicies x y
+output_keeps_policies accepted has_list w i x y u a o =
+    let f = nodes_of_accepted x a in
+    let g = nodes_of_accepted y (accepted w i x y u a o) in
+    let ly : IsListing y (listing g.1.units) = record { units = g.1.units; split = g.1.split; value = refl } in
+    let lx : IsListing x (listing f.1.units) = record { units = f.1.units; split = f.1.split; value = refl } in
+    let same : plain_values (listing f.1.units) ≡ plain_values (listing g.1.units) =
+    ap plain_values (listing_unique x (listing f.1.units) o.list lx o.is_list) ∙ sym (same_values has_list w i x y u o (listing g.1.units) ly) in
+    let e : by_value f.1 ≡ by_value g.1 =
+    list_has_one_tree kind_of greatest_depth greatest_depth (plain_values (listing g.1.units)) (by_value f.1) (by_value g.1)
+    (subst (λ z. G kind_of greatest_depth (by_value f.1) z) same (values_tree f.1.units f.1.tree f.1.grammar)) (values_tree g.1.units g.1.tree g.1.grammar) in
+    (f.0, g.0, f.1, g.1, by_value_is f.0 f.1 ∙ e ∙ sym (by_value_is g.0 g.1))
+
+pub kept_policies_have_the_same_tokens : KeptPoliciesHaveTheSameTokens
+kept_policies_have_the_same_tokens a b l m (f, g, x, y, same) i j =
+    values_are a f l x i ∙ ap yield (sym (by_value_is f x) ∙ same ∙ by_value_is g y) ∙ sym (values_are b g m y j)

@@ -30,7 +30,8 @@ use Rattle.cedar_policy_formatter.proofs.Checked.{leaves_without_spans}
 abbrev pub value_of : Placed → List ℕ
 value_of t = token_value t.text
 
-spanless : (f : Forest Label Placed) → without_spans (spanned (λ (t : Placed). t.text) (λ t. t.span) f) ≡ relabel value_of f
+-- trees with spans, without them, are the trees of the tokens' values
+pub spanless : (f : Forest Label Placed) → without_spans (spanned (λ (t : Placed). t.text) (λ t. t.span) f) ≡ relabel value_of f
 spanless none = refl
 spanless (leaf t f) = ap (leaf (value_of t)) (spanless f)
 spanless (branch l f g) = ap (λ z. branch l z (without_spans (spanned (λ (t : Placed). t.text) (λ t. t.span) g))) (spanless f) ∙ ap (branch l (relabel value_of f)) (spanless g)
@@ -44,17 +45,17 @@ values_tree texts text p l t is_list =
     let e : without_spans (erase p) ≡ relabel value_of f = ap without_spans t.nodes ∙ spanless f in
     record { shape = subst (λ z. PolicySet kind_of greatest_depth z) (sym e) r.shape; leaves = leaves_without_spans (erase p) ∙ texts text p l t is_list }
 
-module _ (texts : NodesHaveThePlainTexts) (has_list : OutputHasTheList) (w : ℕ) (i : ℤ) (x y : List ℕ) (utf8 : IsUtf8 x) (o : IsOutputOf w i x y) where
-  -- the output has the values of the text's plain list
-  pub same_values : (m : Listing) → IsListing y m → plain_values m ≡ plain_values o.list
-  same_values m is_m =
-      let h = has_list w i x y m utf8 o is_m in
-      let by : Decorated → Decorated = λ d. record { text = token_value d.text; leading = d.leading; trailing = d.trailing } in
-      ap (λ z. map (λ (d : Decorated). token_value d.text) z.tokens) h.1
-      ∙ sym (map_map (λ (d : Decorated). d.text) by m.tokens)
-      ∙ ap (λ z. map (λ (d : Decorated). d.text) z.tokens) h.0
-      ∙ map_map (λ (d : Decorated). d.text) by (plain_list o.list.tokens)
+-- the output has the values of the text's plain list
+pub same_values : OutputHasTheList → (w : ℕ) (i : ℤ) (x y : List ℕ) → IsUtf8 x → (o : IsOutputOf w i x y) (m : Listing) → IsListing y m → plain_values m ≡ plain_values o.list
+same_values has_list w i x y utf8 o m is_m =
+    let h = has_list w i x y m utf8 o is_m in
+    let by : Decorated → Decorated = λ d. record { text = token_value d.text; leading = d.leading; trailing = d.trailing } in
+    ap (λ z. map (λ (d : Decorated). token_value d.text) z.tokens) h.1
+    ∙ sym (map_map (λ (d : Decorated). d.text) by m.tokens)
+    ∙ ap (λ z. map (λ (d : Decorated). d.text) z.tokens) h.0
+    ∙ map_map (λ (d : Decorated). d.text) by (plain_list o.list.tokens)
 
+module _ (texts : NodesHaveThePlainTexts) (has_list : OutputHasTheList) (w : ℕ) (i : ℤ) (x y : List ℕ) (utf8 : IsUtf8 x) (o : IsOutputOf w i x y) where
   -- so it has the text's policies
   pub same_policies : (t p : Policies) → IsTreeOf x t → IsTreeOf y p → SameTree p t
   same_policies t p a b =
@@ -62,7 +63,7 @@ module _ (texts : NodesHaveThePlainTexts) (has_list : OutputHasTheList) (w : ℕ
       let is_m : IsListing y m = record { units = b.units; split = b.split; value = refl } in
       let g = values_tree texts y p m b is_m in
       list_has_one_tree kind_of greatest_depth greatest_depth (plain_values o.list) (without_spans (erase p)) (without_spans (erase t))
-      (subst (λ z. G kind_of greatest_depth (without_spans (erase p)) z) (same_values m is_m) g) (values_tree texts x t o.list a o.is_list)
+      (subst (λ z. G kind_of greatest_depth (without_spans (erase p)) z) (same_values has_list w i x y utf8 o m is_m) g) (values_tree texts x t o.list a o.is_list)
 
   -- a check of it can only want memory
   pub never_fails : OutputIsAccepted → Accepted x → (t : Policies) (e : FormatError) → IsTreeOf x t → FailsCheck y t e → Refuses x e

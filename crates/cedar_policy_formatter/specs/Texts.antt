@@ -1,21 +1,37 @@
 -- Texts of given policies.
-use Rattle.std.specs.Prelude.{◌≡◌, ◌⊎◌, ℕ, List, map, ⊤}
-use Rattle.cedar_grammar.specs.Texts.{Accepted}
+use Rattle.std.specs.Prelude.{◌≡◌, ◌⊎◌, ℕ, false, List, map, ⊤}
+use Rattle.std.specs.List.{list_any}
+use Rattle.cedar_tokens.specs.Split.{SplitsInto}
+use Rattle.cedar_grammar.specs.Grammar.{G}
+use Rattle.cedar_grammar.specs.Numbers.{is_too_large}
+use Rattle.cedar_grammar.specs.Placed.{Placed, placed, kind_of_placed}
+use Rattle.cedar_grammar.specs.Texts.{Accepted, greatest_depth}
+use Rattle.cedar_grammar.specs.TrailingCommas.{without_trailing}
+use Rattle.cedar_grammar.specs.Trees.{Label, Forest}
 use Rattle.cedar_tokens.specs.Listing.{IsListing, Listing, token_value}
 use Rattle.cedar_tokens.specs.PlainList.{plain_list}
 use Rattle.cedar_tree.specs.declared.error.FormatError.{FormatError}
 use Rattle.cedar_tree.specs.declared.error.FormatError.TheVariants.{Unsound, OutOfMemory}
 use Rattle.cedar_tree.specs.declared.tree.Policies.{Policies}
-use Rattle.cedar_tree.specs.Erased.{SameTree}
-use Rattle.cedar_tree.specs.NodeTrees.{IsTreeOf}
+use Rattle.cedar_tree.specs.Erased.{Erased, SameTree, without_spans}
+use Rattle.cedar_tree.specs.NodeTrees.{IsTreeOf, spanned}
 
 -- the text is accepted, and its tree of nodes is this one but for spans
 abbrev pub IsTextOf : List ℕ → Policies → Type 0
 IsTextOf text tree = (p : Policies) × IsTreeOf text p × SameTree p tree
 
+-- the text is accepted, and this is its tree of nodes, with all spans (`IsTreeOf` says the same of policies in memory)
+pub record HasNodes (text : List ℕ) (nodes : Erased) : Type 0 where
+  pub units : List (List ℕ)
+  pub split : SplitsInto text units
+  pub fitting : list_any is_too_large units ≡ false
+  pub tree : Forest Label Placed
+  pub grammar : G kind_of_placed greatest_depth tree (placed units)
+  pub value : nodes ≡ spanned (λ t. t.text) (λ t. t.span) (without_trailing kind_of_placed tree)
+
 -- both texts are accepted, and their trees of nodes are equal but for spans
 abbrev pub KeepsPolicies : List ℕ → List ℕ → Type 0
-KeepsPolicies old new = (p : Policies) × IsTreeOf old p × IsTextOf new p
+KeepsPolicies old new = (f : Erased) × (g : Erased) × HasNodes old f × HasNodes new g × (without_spans f ≡ without_spans g)
 
 -- why a check fails: `Unsound` only where the text is not accepted, or its tree of nodes is another one
 abbrev pub FailsCheck : List ℕ → Policies → FormatError → Type 0

@@ -37,3 +37,8 @@ pub record IsPlainStream (text : List ℕ) (tokens : List WrappedToken) (closing
   pub plain : map decorated tokens ≡ plain_list (map decorated all)
   pub kept : map bare tokens ≡ map bare (kept_tokens all)
   pub closed : list.closing ≡ closing
+
+-- a text behind a line feed, where one is wanted
+abbrev pub behind_feed : Bool → List ℕ → List ℕ
+behind_feed true text = 10 ∷ text
+behind_feed false text = text

@@ -1,5 +1,5 @@
 //! Formatting of whole texts.
-ghost use Rattle.std.specs.Prelude.{◌≡◌, ◌↔◌, IsTrue, ◌++◌, ◌∷◌, List, map, IfOk, IfErr, OnOk, MatchResult, string_bytes};
+ghost use Rattle.std.specs.Prelude.{◌≡◌, ◌≤◌, ◌-◌, ◌↔◌, IsTrue, ◌++◌, List, map, IfOk, IfErr, OnOk, MatchResult, string_bytes};
 ghost use Rattle.std.specs.List.{flat_map};
 ghost use Rattle.cedar_tokens.specs.Split.{Splits};
 ghost use Rattle.cedar_tokens.specs.Tokens.{comments_left};
@@ -14,10 +14,10 @@ ghost use Rattle.cedar_leaf_documents.specs.NodeDocuments.{IsAt, kind_of_shown, 
 ghost use Rattle.cedar_policy_documents.specs.PartDocuments.{IsPartOf};
 ghost use Rattle.cedar_canonical.specs.Output.{closing_text};
 ghost use Rattle.cedar_policy_formatter.specs.Compared.{HaveEqualLists};
-ghost use Rattle.cedar_policy_formatter.specs.Written.{IsPolicyText, AreJoined, IsParted, IsPlainStream};
+ghost use Rattle.cedar_policy_formatter.specs.Written.{IsPolicyText, AreJoined, IsParted, IsPlainStream, behind_feed};
 ghost use Rattle.cedar_leaf_documents.specs.Kept.{KeepsTokens};
 ghost use Rattle.cedar_policy_formatter.specs.OutputPolicies.{OutputsKeepThePolicies};
-ghost use Rattle.cedar_policy_formatter.specs.Refused.{IsMemory, RefusesOne};
+ghost use Rattle.cedar_policy_formatter.specs.Refused.{IsMemory, IsPlacedWithin, RefusesOne, moved};
 ghost use Rattle.cedar_tree.specs.Refusals.{Refuses};
 ghost use Rattle.cedar_policy_formatter.specs.Texts.{IsTextOf, KeepsPolicies, FailsCheck, KeptPoliciesHaveTheSameTokens};
 
@@ -34,8 +34,10 @@ pub use cedar_documents::laws::{
 };
 use cedar_layout::layout::render;
 use cedar_layout::utils::remove_empty_lines;
+use cedar_pieces::pieces::first_piece;
+use cedar_reading::lexeme::check_tokens;
 use cedar_tokens::lexer::{drop_trailing_commas, get_token_stream, listing_is_unique};
-use cedar_tokens::token::{Comments, WrappedToken};
+use cedar_tokens::token::{Comments, WrappedToken, get_comment};
 use std::alloc::{AllocError, Global};
 
 mod stream;
@@ -59,13 +61,62 @@ pub fn policies_str_to_pretty(
     ensures output { IfOk result (λ out. IsOutputOf config.now.line_width config.now.indent_width ps.now (string_bytes out)) }
 {
     tree_is_of_accepted();
+    outputs_are_canonical();
+    check_tokens(ps)?;
+    let mut text = String::new(alloc);
+    let mut at = 0;
+    'pieces: while let Some(len) = first_piece(&ps[at..]) {
+        let end = at + len;
+        let layout = match format_piece(alloc, &ps[at..end], config) {
+            Ok(layout) => layout,
+            Err(refusal) => return Err(behind(at, end, refusal)),
+        };
+        push_layout(at > 0, layout.as_str(), &mut text)?;
+        at = end;
+    }
+    let rest = &ps[at..];
+    if let Err(refusal) = parse_policies(alloc, rest) {
+        return Err(behind(at, ps.len(), refusal));
+    }
+    push_closing(at == 0, get_comment(rest), &mut text)?;
+    Ok(text)
+}
+
+// The policies `ps`, laid out: all of them at once.
+fn format_piece(alloc: Global, ps: &str, config: &Config) -> Result<String, FormatError>
+    ensures answer { MatchResult result (λ _. Accepted ps.now) (Refuses ps.now) }
+    ensures output { IfOk result (λ out. IsOutputOf config.now.line_width config.now.indent_width ps.now (string_bytes out)) }
+{
+    tree_is_of_accepted();
     nodes_have_the_plain_texts();
     outputs_are_canonical();
-    outputs_keep_the_policies();
     let tree = parse_policies(alloc, ps)?;
     let text = lay_out(alloc, ps, &tree, config)?;
     soundness_check(alloc, text.as_str(), &tree)?;
     Ok(text)
+}
+
+// The refusal of a text that stands from the byte `at` to the byte `end`, behind an accepted one.
+fn behind(at: usize, end: usize, refusal: FormatError) -> FormatError
+    requires order { at ≤ end }
+    requires place { IsPlacedWithin (end - at) refusal }
+    ensures { result ≡ moved at refusal }
+{
+    match refusal {
+        FormatError::Grammar { at: place } => FormatError::Grammar { at: at + place },
+        FormatError::TooDeep { at: place } => FormatError::TooDeep { at: at + place },
+        other => other,
+    }
+}
+
+// A layout behind others, with an empty line between them.
+fn push_layout(is_more: bool, layout: &str, text: &mut String) -> Result<(), AllocError>
+    ensures { OnOk result (string_bytes text.new ≡ string_bytes text.old ++ behind_feed is_more layout.now) }
+{
+    if is_more {
+        text.push('\n')?;
+    }
+    text.push_str(layout)
 }
 
 /// Whether `ps` is a text of these policies: it is accepted, and its tree is this one but for spans. `Unsound` is answered
@@ -116,9 +167,7 @@ pub fn same_layout(alloc: Global, a: &str, b: &str, config: &Config) -> Result<b
 /// does nothing.
 pub fn kept_policies_have_the_same_tokens()
     ensures { KeptPoliciesHaveTheSameTokens }
-{
-    nodes_have_the_plain_texts();
-}
+{}
 
 /// An output of a text is a text of its policies: it is accepted, and its tree is that of the text but for spans. A law: its
 /// body does nothing.
@@ -142,7 +191,7 @@ fn lay_out<'src>(
     let (tokens, closing) = plain_stream(alloc, ps)?;
     let mut context = Context { config, tokens };
     let mut text = joined_policies(alloc, tree, &mut context)?;
-    append_closing(closing, &mut text)?;
+    push_closing(true, closing, &mut text)?;
     Ok(text)
 }
 
@@ -218,11 +267,13 @@ fn policy_text<'src>(
     Ok(remove_empty_lines(alloc, layout.as_str())?)
 }
 
-// A line feed, and each closing comment with a line feed.
-fn append_closing(closing: Comments<'_>, text: &mut String) -> Result<(), AllocError>
-    ensures { OnOk result (string_bytes text.new ≡ string_bytes text.old ++ (10 ∷ closing_text (comments_left closing.entry))) }
+// Each closing comment with a line feed, behind one where they stand first.
+fn push_closing(is_first: bool, closing: Comments<'_>, text: &mut String) -> Result<(), AllocError>
+    ensures { OnOk result (string_bytes text.new ≡ string_bytes text.old ++ behind_feed is_first (closing_text (comments_left closing.entry))) }
 {
-    text.push('\n')?;
+    if is_first {
+        text.push('\n')?;
+    }
     for comment in closing {
         text.push_str(comment)?;
         text.push('\n')?;

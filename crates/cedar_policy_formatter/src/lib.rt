@@ -11,6 +11,7 @@ pub use cedar_cst::cst::FormatError;
 pub use cedar_documents::config::{Config, Context};
 pub use cedar_documents::{config, doc};
 pub use cedar_layout::{layout, utils};
+pub use cedar_places::{Place, place};
 pub use cedar_tokens::{lexer, token};
 pub use fmt::{
     ReadFault, RunFault, Watched, check_stream, every_layout_reads_back, format_stream,

@@ -1,5 +1,5 @@
 -- What the reader's answer on the lexemes of a text says of the text: the tree of its nodes, or the exact place and kind of its refusal.
-use Rattle.std.specs.Prelude.{◌≡◌, ℕ, suc, ◌+◌, ◌&&◌, Bool, true, false, List, [], ◌∷◌, ◌++◌, ◌⊎◌, length, Some, None, if◌then◌else◌}
+use Rattle.std.specs.Prelude.{◌≡◌, ℕ, suc, ◌+◌, ◌&&◌, Bool, true, false, List, [], ◌∷◌, ◌++◌, ◌⊎◌, length, map, Some, None, if◌then◌else◌}
 use Rattle.std.specs.List.{list_any, sum_by, AllByRecursion}
 use Rattle.std.proofs.Common.{refl, sym, ap, ◌∙◌, inl, inr, arith, length-append, append-nil, subst}
 use Rattle.std.proofs.lemmas.List.Sums.{sum_by-cons}
@@ -95,7 +95,7 @@ same_head x y a b r s e n = go (cuts x y a b r s e)
     go (inr (inl (d, i))) = let k = ap length i in let l = length-append x (a ∷ d) in absurd (omega (arith, n, k, l))
     go (inr (inr (d, i))) = let k = ap length i in let l = length-append y (b ∷ d) in absurd (omega (arith, n, k, l))
 
-spans_length : (p : ℕ) (units : List (List ℕ)) → length (token_spans p units) ≡ length (tokens units)
+pub spans_length : (p : ℕ) (units : List (List ℕ)) → length (token_spans p units) ≡ length (tokens units)
 unfolding token_spans
 spans_length p [] = refl
 spans_length p (u ∷ us) = go (spans_length (p + length u) us) (is_token u)
@@ -151,22 +151,64 @@ Outcome text (done f (l ∷ r)) = IsRefused text l.span.start false
 Outcome text (stuck b []) = IsRefused text (length text) false
 Outcome text (stuck b (l ∷ r)) = IsRefused text l.span.start b
 
-module _ (text : List ℕ) (ls : List Lexeme) (are : AreLexemes text ls) (d : ℕ) (deep : d ≡ greatest_depth) where
-  abbrev cs : List Checked
-  cs = checked ls are.kinds
+-- Lexemes that are the tokens of these units, which begin at the byte from.
+module _ (from : ℕ) (units : List (List ℕ)) (ls : List Lexeme) (kinds : AllByRecursion (λ l. l.kind ≡ kind_of l.text.now) ls) (texts : map (λ l. l.text.now) ls ≡ tokens units) (places : map (λ l. l.span) ls ≡ token_spans from units) where
+  abbrev cs_of : List Checked
+  cs_of = checked ls kinds
 
-  cs_texts : each text_of cs ≡ tokens are.units
-  cs_texts = sym (each_each (λ (l : Lexeme). l.text.now) (λ (c : Checked). c.0) cs) ∙ ap (each (λ (l : Lexeme). l.text.now)) (checked_back ls are.kinds) ∙ each_map (λ (l : Lexeme). l.text.now) ls ∙ are.texts
+  texts_of : each text_of cs_of ≡ tokens units
+  texts_of = sym (each_each (λ (l : Lexeme). l.text.now) (λ (c : Checked). c.0) cs_of) ∙ ap (each (λ (l : Lexeme). l.text.now)) (checked_back ls kinds) ∙ each_map (λ (l : Lexeme). l.text.now) ls ∙ texts
 
-  cs_places : each place_of cs ≡ token_spans 0 are.units
-  cs_places = sym (each_each (λ (l : Lexeme). l.span) (λ (c : Checked). c.0) cs) ∙ ap (each (λ (l : Lexeme). l.span)) (checked_back ls are.kinds) ∙ each_map (λ (l : Lexeme). l.span) ls ∙ are.places
+  places_of : each place_of cs_of ≡ token_spans from units
+  places_of = sym (each_each (λ (l : Lexeme). l.span) (λ (c : Checked). c.0) cs_of) ∙ ap (each (λ (l : Lexeme). l.span)) (checked_back ls kinds) ∙ each_map (λ (l : Lexeme). l.span) ls ∙ places
 
   both_lists : (xs : List Checked) → with_places (each text_of xs) (each place_of xs) ≡ each as_placed xs
   both_lists [] = refl
   both_lists (x ∷ xs) = ap (λ z. as_placed x ∷ z) (both_lists xs)
 
-  cs_placed : each as_placed cs ≡ placed are.units
-  cs_placed = sym (both_lists cs) ∙ ap (λ z. with_places z (each place_of cs)) cs_texts ∙ ap (with_places (tokens are.units)) cs_places
+  placed_of : each as_placed cs_of ≡ with_places (tokens units) (token_spans from units)
+  placed_of = sym (both_lists cs_of) ∙ ap (λ z. with_places z (each place_of cs_of)) texts_of ∙ ap (with_places (tokens units)) places_of
+
+  checked_tree : (d : ℕ) (f : Forest Label Checked) → set_to kind_at d cs_of ≡ done f []
+      → G kind_of_placed d (relabel as_placed f) (with_places (tokens units) (token_spans from units))
+      × (nodes_of (relabel (λ (c : Checked). c.0) f) ≡ spanned (λ (t : Placed). t.text) (λ (t : Placed). t.span) (without_trailing kind_of_placed (relabel as_placed f)))
+  checked_tree d f e =
+      let k = set_sound kind_at d cs_of f [] e in
+      let g : G kind_at d f cs_of = record { shape = k.among; leaves = sym (k.tokens ∙ append-nil (yield f)) } in
+      let left : nodes_of (relabel (λ (c : Checked). c.0) f) ≡ spanned text_of place_of (without_trailing kind_at f) =
+      ap (spanned (λ (l : Lexeme). l.text.now) (λ (l : Lexeme). l.span)) (without_relabel (λ (c : Checked). c.0) kind_at (λ l. l.kind) (λ c. refl) f)
+      ∙ spanned_relabel (λ (c : Checked). c.0) (λ (l : Lexeme). l.text.now) (λ (l : Lexeme). l.span) (without_trailing kind_at f) in
+      let right : spanned (λ (t : Placed). t.text) (λ (t : Placed). t.span) (without_trailing kind_of_placed (relabel as_placed f)) ≡ spanned text_of place_of (without_trailing kind_at f) =
+      ap (spanned (λ (t : Placed). t.text) (λ (t : Placed). t.span)) (without_relabel as_placed kind_at kind_of_placed (λ c. sym c.1) f)
+      ∙ spanned_relabel as_placed (λ (t : Placed). t.text) (λ (t : Placed). t.span) (without_trailing kind_at f) in
+      (subst (λ z. G kind_of_placed d (relabel as_placed f) z) placed_of (relabelled as_placed kind_at kind_of_placed (λ c. sym c.1) d f cs_of g), left ∙ sym right)
+
+  -- a tree of the lexemes is one of the tokens with their places
+  pub placed_tree : (d : ℕ) (f : Forest Label Lexeme) → set_to (λ l. l.kind) d ls ≡ done f []
+      → (tree : Forest Label Placed) × G kind_of_placed d tree (with_places (tokens units) (token_spans from units)) × (nodes_of f ≡ spanned (λ (t : Placed). t.text) (λ (t : Placed). t.span) (without_trailing kind_of_placed tree))
+  placed_tree d f e = go (set_to kind_at d cs_of) refl
+    where
+      back : set_to (λ l. l.kind) d ls ≡ answer_of (λ (c : Checked). c.0) (set_to kind_at d cs_of)
+      back = ap (set_to (λ l. l.kind) d) (sym (checked_back ls kinds)) ∙ set_agrees (λ (c : Checked). c.0) kind_at (λ l. l.kind) (λ c. refl) d cs_of
+
+      go : (x : Answer Checked) → set_to kind_at d cs_of ≡ x → (tree : Forest Label Placed) × G kind_of_placed d tree (with_places (tokens units) (token_spans from units)) × (nodes_of f ≡ spanned (λ (t : Placed). t.text) (λ (t : Placed). t.span) (without_trailing kind_of_placed tree))
+      go (stuck b r) i = let w : done f [] ≡ stuck b (each (λ (c : Checked). c.0) r) = sym e ∙ back ∙ ap (answer_of (λ (c : Checked). c.0)) i in absurd cc
+      go (done g (c ∷ r)) i = let w : done f [] ≡ done (relabel (λ (c : Checked). c.0) g) (each (λ (c : Checked). c.0) (c ∷ r)) = sym e ∙ back ∙ ap (answer_of (λ (c : Checked). c.0)) i in absurd cc
+      go (done g []) i =
+          let w : done f [] ≡ done (relabel (λ (c : Checked). c.0) g) [] = sym e ∙ back ∙ ap (answer_of (λ (c : Checked). c.0)) i in
+          let same : f ≡ relabel (λ (c : Checked). c.0) g = cc in
+          let t = checked_tree d g i in
+          (relabel as_placed g, t.0, ap nodes_of same ∙ t.1)
+
+module _ (text : List ℕ) (ls : List Lexeme) (are : AreLexemes text ls) (d : ℕ) (deep : d ≡ greatest_depth) where
+  abbrev cs : List Checked
+  cs = checked ls are.kinds
+
+  cs_texts : each text_of cs ≡ tokens are.units
+  cs_texts = texts_of 0 are.units ls are.kinds are.texts are.places
+
+  cs_places : each place_of cs ≡ token_spans 0 are.units
+  cs_places = places_of 0 are.units ls are.kinds are.texts are.places
 
   refused_at : (before : List Checked) (c : Checked) (r : List Checked) (b : Bool) → cs ≡ before ++ (c ∷ r)
       → (front : List (List ℕ)) → Hopeless kind_of d (each text_of cs) front (text_of c) (each text_of r) b → IsRefused text (place_of c).start b
@@ -200,22 +242,14 @@ module _ (text : List ℕ) (ls : List Lexeme) (are : AreLexemes text ls) (d : �
 
   whole_tree : (f : Forest Label Checked) → set_to kind_at d cs ≡ done f [] → (p : Policies) → erase p ≡ nodes_of (relabel (λ (c : Checked). c.0) f) → IsTreeOf text p
   whole_tree f e p same =
-      let k = set_sound kind_at d cs f [] e in
-      let g : G kind_at d f cs = record { shape = k.among; leaves = sym (k.tokens ∙ append-nil (yield f)) } in
-      let left : nodes_of (relabel (λ (c : Checked). c.0) f) ≡ spanned text_of place_of (without_trailing kind_at f) =
-      ap (spanned (λ (l : Lexeme). l.text.now) (λ (l : Lexeme). l.span)) (without_relabel (λ (c : Checked). c.0) kind_at (λ l. l.kind) (λ c. refl) f)
-      ∙ spanned_relabel (λ (c : Checked). c.0) (λ (l : Lexeme). l.text.now) (λ (l : Lexeme). l.span) (without_trailing kind_at f) in
-      let right : spanned (λ (t : Placed). t.text) (λ (t : Placed). t.span) (without_trailing kind_of_placed (relabel as_placed f)) ≡ spanned text_of place_of (without_trailing kind_at f) =
-      ap (spanned (λ (t : Placed). t.text) (λ (t : Placed). t.span)) (without_relabel as_placed kind_at kind_of_placed (λ c. sym c.1) f)
-      ∙ spanned_relabel as_placed (λ (t : Placed). t.text) (λ (t : Placed). t.span) (without_trailing kind_at f) in
+      let t = checked_tree 0 are.units ls are.kinds are.texts are.places d f e in
       record {
         units = are.units;
         split = are.split;
         fitting = are.fitting;
         tree = relabel as_placed f;
-        grammar = subst (λ z. G kind_of_placed greatest_depth (relabel as_placed f) z) cs_placed
-            (subst (λ z. G kind_of_placed z (relabel as_placed f) (each as_placed cs)) deep (relabelled as_placed kind_at kind_of_placed (λ c. sym c.1) d f cs g));
-        nodes = same ∙ left ∙ sym right;
+        grammar = subst (λ z. G kind_of_placed z (relabel as_placed f) (placed are.units)) deep t.0;
+        nodes = same ∙ t.1;
       }
 
   answered : (x : Answer Checked) → set_to kind_at d cs ≡ x → Says kind_of d (each text_of cs) (answer_of text_of x) → Outcome text (answer_of (λ (c : Checked). c.0) x)

@@ -25,6 +25,7 @@ use Rattle.cedar_grammar.specs.Numbers.{is_too_large, IsFirstTooLarge}
 use Rattle.cedar_grammar.specs.TokenKinds.{kind_of}
 use Rattle.cedar_grammar.specs.Texts.{tokens}
 use Rattle.cedar_reading.specs.Lexemes.{AreLexemes}
+use Rattle.cedar_reading.specs.Tokens.{HasTokens}
 use Rattle.cedar_reading.specs.declared.lexeme.Lexeme.{Lexeme}
 
 -- where the first number above the limit begins, if one of the units is
@@ -39,15 +40,19 @@ pub record Lexed (units : List (List ℕ)) (lexemes : List Lexeme) (at : ℕ) : 
   pub places : Placed units (map (λ l. l.span) lexemes) at
   pub kinds : AllByRecursion (λ l. l.kind ≡ kind_of l.text.now) lexemes
 
--- the units before at are read
-pub record Walked (text : List ℕ) (lexemes : List Lexeme) (found : Option ℕ) (at : ℕ) : Type 0 where
+-- the units before at are walked over
+pub record Walked (text : List ℕ) (found : Option ℕ) (at : ℕ) : Type 0 where
   pub inside : at ≤ length text
   pub boundary : IsCharBoundary text at
   pub units : List (List ℕ)
   pub scans : Scans units text (drop at text)
   pub place : at ≡ sum_by length units
   pub numbers : FindsLarge units found
-  pub lexed : Lexed units lexemes at
+
+-- and the lexemes among them are read
+pub record Lexing (text : List ℕ) (lexemes : List Lexeme) (found : Option ℕ) (at : ℕ) : Type 0 where
+  pub walked : Walked text found at
+  pub lexed : Lexed walked.units lexemes at
 
 abbrev pub next_large : Option ℕ → List ℕ → ℕ → Option ℕ
 next_large found unit at = cond (is_some found) found (cond (is_too_large unit) (Some at) None)
@@ -60,14 +65,20 @@ finds_more : (units : List (List ℕ)) (unit : List ℕ) (found : Option ℕ) �
 finds_more units unit None h = large_cases units unit (is_too_large unit) refl h
 finds_more units unit (Some at) h = (h.0, h.1, h.2 ++ unit ∷ [], rw h.3 (append_assoc h.0 (h.1 ∷ h.2) (unit ∷ [])), h.4, h.5, h.6)
 
-pub walked_start : (text : List ℕ) (lexemes : List Lexeme) → lexemes ≡ [] → IsCharBoundary text 0 → Walked text lexemes None 0
-walked_start text lexemes e b = record {
+pub walked_start : (text : List ℕ) → IsCharBoundary text 0 → Walked text None 0
+walked_start text b = record {
   inside = omega arith;
   boundary = b;
   units = [];
   scans = refl;
   place = refl;
   numbers = refl;
+}
+
+pub lexing_start : (text : List ℕ) (lexemes : List Lexeme) → lexemes ≡ [] → IsCharBoundary text 0 → Lexing text lexemes None 0
+unfolding walked_start
+lexing_start text lexemes e b = record {
+  walked = walked_start text b;
   lexed = rw e (record { texts = refl; places = λ vs. refl; kinds = tt });
 }
 
@@ -92,11 +103,10 @@ lexed_token units lexemes at n u x h t e same place kind = record {
   kinds = all_push lexemes x h.kinds (kind ∙ ap kind_of (sym same));
 }
 
--- one more unit, which changes the lexemes so
-walked_more : (text rest : List ℕ) (lexemes more : List Lexeme) (found : Option ℕ) (at n : ℕ) → Walked text lexemes found at → rest ≡ drop at text → FindsLongest IsUnit rest (Some n) → IsCharBoundary rest n
-    → ((units : List (List ℕ)) → Lexed units lexemes at → length (take n (drop at text)) ≡ n → Lexed (units ++ take n (drop at text) ∷ []) more (at + n))
-    → Walked text more (next_large found (take n (drop at text)) at) (at + n)
-walked_more text rest lexemes more found at n w e f b grow =
+-- one more unit
+pub walked_more : (text rest unit : List ℕ) (found : Option ℕ) (at n : ℕ) → Walked text found at → rest ≡ drop at text → FindsLongest IsUnit rest (Some n) → IsCharBoundary rest n
+    → unit ≡ take n (drop at text) → Walked text (next_large found unit at) (at + n)
+walked_more text rest unit found at n w e f b u =
     let g : FindsLongest IsUnit (drop at text) (Some n) = rw e at f in
     let long : length (take n (drop at text)) ≡ n = length-take-le n (drop at text) g.0 in
     record {
@@ -105,39 +115,50 @@ walked_more text rest lexemes more found at n w e f b grow =
       units = w.units ++ take n (drop at text) ∷ [];
       scans = rw (sym (drop-drop n at text)) (rw long at (scan_more w.units text (drop at text) (take n (drop at text)) w.scans g.1));
       place = omega (arith, sum_by-append length w.units (take n (drop at text) ∷ []), w.place, long);
-      numbers = subst (λ z. FindsLarge (w.units ++ take n (drop at text) ∷ []) (next_large found (take n (drop at text)) z)) (sym w.place) (finds_more w.units (take n (drop at text)) found w.numbers);
-      lexed = grow w.units w.lexed long;
+      numbers = subst (λ z. FindsLarge (w.units ++ take n (drop at text) ∷ []) (next_large found unit z)) (sym w.place)
+          (rw u (finds_more w.units (take n (drop at text)) found w.numbers));
     }
 
+whole_unit : (text rest : List ℕ) (at n : ℕ) → rest ≡ drop at text → FindsLongest IsUnit rest (Some n) → length (take n (drop at text)) ≡ n
+whole_unit text rest at n e f = let g : FindsLongest IsUnit (drop at text) (Some n) = rw e at f in length-take-le n (drop at text) g.0
+
 -- one more blank or comment
-pub walked_skip : (text rest unit : List ℕ) (lexemes : List Lexeme) (found : Option ℕ) (at n : ℕ) (kind : UnitKind) → Walked text lexemes found at → rest ≡ drop at text → FindsLongest IsUnit rest (Some n) → IsCharBoundary rest n
-    → unit ≡ take n (drop at text) → HasKind kind (take n rest) → kind ≢ Token → Walked text lexemes (next_large found unit at) (at + n)
-walked_skip text rest unit lexemes found at n kind w e f b u k m =
-    rw u (walked_more text rest lexemes lexemes found at n w e f b (λ units h l. lexed_skip units lexemes at n (take n (drop at text)) h (no_token kind (take n (drop at text)) (rw e at k) m) l))
+pub lexing_skip : (text rest unit : List ℕ) (lexemes : List Lexeme) (found : Option ℕ) (at n : ℕ) (kind : UnitKind) → Lexing text lexemes found at → rest ≡ drop at text → FindsLongest IsUnit rest (Some n) → IsCharBoundary rest n
+    → unit ≡ take n (drop at text) → HasKind kind (take n rest) → kind ≢ Token → Lexing text lexemes (next_large found unit at) (at + n)
+unfolding walked_more
+lexing_skip text rest unit lexemes found at n kind w e f b u k m = record {
+  walked = walked_more text rest unit found at n w.walked e f b u;
+  lexed = lexed_skip w.walked.units lexemes at n (take n (drop at text)) w.lexed (no_token kind (take n (drop at text)) (rw e at k) m) (whole_unit text rest at n e f);
+}
 
 -- one more token
-pub walked_token : (text rest unit : List ℕ) (lexemes more : List Lexeme) (x : Lexeme) (found : Option ℕ) (at n : ℕ) → Walked text lexemes found at → rest ≡ drop at text → FindsLongest IsUnit rest (Some n) → IsCharBoundary rest n
+pub lexing_token : (text rest unit : List ℕ) (lexemes more : List Lexeme) (x : Lexeme) (found : Option ℕ) (at n : ℕ) → Lexing text lexemes found at → rest ≡ drop at text → FindsLongest IsUnit rest (Some n) → IsCharBoundary rest n
     → unit ≡ take n (drop at text) → IsToken (take n rest) → more ≡ lexemes ++ x ∷ [] → x.text.now ≡ unit → x.span ≡ record { start = at; end = at + n } → x.kind ≡ kind_of unit
-    → Walked text more (next_large found unit at) (at + n)
-walked_token text rest unit lexemes more x found at n w e f b u t m same place kind =
-    rw (u, m) (walked_more text rest lexemes (lexemes ++ x ∷ []) found at n w e f b
-    (λ units h l. lexed_token units lexemes at n (take n (drop at text)) x h (rw e at t) l (same ∙ u) place (kind ∙ ap kind_of u)))
+    → Lexing text more (next_large found unit at) (at + n)
+unfolding walked_more
+lexing_token text rest unit lexemes more x found at n w e f b u t m same place kind = record {
+  walked = walked_more text rest unit found at n w.walked e f b u;
+  lexed = rw m (lexed_token w.walked.units lexemes at n (take n (drop at text)) x w.lexed (rw e at t) (whole_unit text rest at n e f) (same ∙ u) place (kind ∙ ap kind_of u));
+}
 
-pub walked_fault : (text rest : List ℕ) (lexemes : List Lexeme) (found : Option ℕ) (at : ℕ) → Walked text lexemes found at → rest ≡ drop at text → at < length text → BeginsNoUnit rest → IsFirstFault text at
-walked_fault text rest lexemes found at w e l none = record { inside = l; reached = (w.units, w.scans); stuck = rw e at none }
+pub walked_fault : (text rest : List ℕ) (found : Option ℕ) (at : ℕ) → Walked text found at → rest ≡ drop at text → at < length text → BeginsNoUnit rest → IsFirstFault text at
+walked_fault text rest found at w e l none = record { inside = l; reached = (w.units, w.scans); stuck = rw e at none }
 
-pub walked_large : (text : List ℕ) (lexemes : List Lexeme) (p at : ℕ) → Walked text lexemes (Some p) at → length text ≤ at → IsFirstTooLarge text p
-walked_large text lexemes p at w l =
+pub walked_large : (text : List ℕ) (p at : ℕ) → Walked text (Some p) at → length text ≤ at → IsFirstTooLarge text p
+walked_large text p at w l =
     let f = w.numbers in
     record { before = f.0; number = f.1; after = f.2; split = rw f.3 at (rw (drop_all at text l) at w.scans); place = f.4; large = f.5; first = f.6 }
 
-pub walked_all : (text : List ℕ) (lexemes : List Lexeme) (at : ℕ) → Walked text lexemes None at → length text ≤ at → AreLexemes text lexemes
-walked_all text lexemes at w l = record {
-  units = w.units;
-  split = rw (drop_all at text l) at w.scans;
-  fitting = w.numbers;
+pub walked_all : (text : List ℕ) (at : ℕ) → Walked text None at → length text ≤ at → HasTokens text
+walked_all text at w l = record { units = w.units; split = rw (drop_all at text l) at w.scans; fitting = w.numbers }
+
+pub lexing_all : (text : List ℕ) (lexemes : List Lexeme) (at : ℕ) → Lexing text lexemes None at → length text ≤ at → AreLexemes text lexemes
+lexing_all text lexemes at w l = record {
+  units = w.walked.units;
+  split = rw (drop_all at text l) at w.walked.scans;
+  fitting = w.walked.numbers;
   texts = w.lexed.texts;
-  places = placed_all w.units (map (λ x. x.span) lexemes) at w.lexed.places;
+  places = placed_all w.walked.units (map (λ x. x.span) lexemes) at w.lexed.places;
   kinds = w.lexed.kinds;
 }
 

@@ -1,4 +1,5 @@
 pub mod Lexemes
+pub mod Tokens
 pub mod Reading
 pub mod ReadingParts
 pub mod ReadingSigns

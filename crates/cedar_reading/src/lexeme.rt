@@ -1,12 +1,14 @@
 //! The tokens as the parser reads them: slices of the text, with their kinds and places.
-ghost use Rattle.std.specs.Prelude.{◌≡◌, MatchResult, if◌then◌else◌, is_some};
+ghost use Rattle.std.specs.Prelude.{◌≡◌, ◌≢◌, MatchResult, IfErr, if◌then◌else◌, is_some};
 ghost use Rattle.std.specs.List.{list_all};
 ghost use Rattle.std.specs.Char.{is_ascii_digit};
 ghost use Rattle.cedar_tokens.specs.Units.{is_number};
 ghost use Rattle.cedar_tokens.specs.Split.{IsFirstFault};
 ghost use Rattle.cedar_grammar.specs.Numbers.{is_too_large};
 ghost use Rattle.cedar_tree.specs.Refusals.{RefusesTokens};
+ghost use Rattle.cedar_tree.specs.declared.error.FormatError.TheVariants.{OutOfMemory};
 ghost use Rattle.cedar_reading.specs.Lexemes.{AreLexemes};
+ghost use Rattle.cedar_reading.specs.Tokens.{HasTokens};
 
 use cedar_grammar::kind::{Kind, kind_of};
 use cedar_tokens::lexer::{UnitKind, first_unit};
@@ -60,12 +62,35 @@ fn first_too_large(found: Option<usize>, unit: &str, at: usize) -> Option<usize>
 // Why no unit begins at the place `at`.
 fn fault_at(text: &str, at: usize) -> FormatError
     requires { IsFirstFault text.now at }
-    ensures { RefusesTokens text.now result }
+    ensures fault { RefusesTokens text.now result }
+    ensures memory { result ≢ OutOfMemory }
 {
     if text.as_bytes()[at] == b'"' {
         FormatError::UnfinishedString { at }
     } else {
         FormatError::UnknownCharacter { at }
+    }
+}
+
+/// Whether `text` has tokens that can be parsed, which takes no memory. Refuses the first place where no unit begins; and
+/// where there is none, the first number above 18446744073709551615.
+pub fn check_tokens(text: &str) -> Result<(), FormatError>
+    ensures tokens { MatchResult result (λ _. HasTokens text.now) (RefusesTokens text.now) }
+    ensures memory { IfErr result (λ e. e ≢ OutOfMemory) }
+{
+    let mut too_large = None;
+    let mut at = 0;
+    'units: while at < text.len() {
+        let Some((_, len)) = first_unit(&text[at..]) else {
+            return Err(fault_at(text, at));
+        };
+        let end = at + len;
+        too_large = first_too_large(too_large, &text[at..end], at);
+        at = end;
+    }
+    match too_large {
+        Some(at) => Err(FormatError::NumberTooLarge { at }),
+        None => Ok(()),
     }
 }
 

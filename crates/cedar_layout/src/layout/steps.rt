@@ -24,7 +24,7 @@ use std::sync::ledger::{Blank, Book, Ledger, Share};
 ///     abbrev pub ghosts-found : goal.ghosts-found
 ///     ghosts-found g a = record { name = a.blank.name; parts = a.blank.parts }
 ///
-/// `answer_from` in `cedar_tests/src/tests/lookups.rt` is such a function, `answer` its caller; the contract of
+/// `answer_from` in `cedar_part_tests/src/tests/lookups.rt` is such a function, `answer` its caller; the contract of
 /// `answer_among_few` says how many steps a search among one, seven or eight tokens takes.
 #[derive(Drop)]
 pub struct Steps<L: Ledger> {

@@ -1,27 +1,32 @@
-use Rattle.std.specs.Prelude.{true, false, Ok, Err}
-use Rattle.std.proofs.Common.{sym, ap, ◌∙◌, subst}
-use Rattle.cedar_grammar.specs.Texts.{greatest_depth, IsRefused}
-use Rattle.cedar_grammar.specs.Reader.Lines.{set_to}
-use Rattle.cedar_reading.specs.Reading.{kind, place_of}
-use Rattle.cedar_cst.specs.ReadingSet.{GivesSet}
-use Rattle.cedar_cst.proofs.Whole.{whole_tree, whole_grammar, whole_deep}
+use Rattle.std.proofs.Common.{◌≡◌, ◌<◌, ◌≤◌, ◌-◌, ◌++◌, length, arith, sym, ap, ◌∙◌, subst}
+use Rattle.std.specs.Prelude.{[], ◌∷◌}
+use Rattle.cedar_cst.specs.PolicyReaders.{EndsPiece, HasPolicies, HasRead}
+use Rattle.cedar_cst.proofs.Readers.{ends_inside}
 use Rattle.cedar_cst.proofs.cst.parse_policies.Goals as goal
 
-pub returns-in-Ok-clause-tree : goal.returns-in-Ok-clause-tree
-returns-in-Ok-clause-tree c =
-    let l = c.in_ok-lexemes in
-    whole_tree _ _ l.ensures c.in-Ok.policies (subst (λ z. GivesSet (Ok c.in-Ok.policies) (set_to kind greatest_depth z)) c.deref.ensures.value c.in-Ok.ensures)
+pub policies-preserved : goal.policies-preserved
+policies-preserved c =
+    let text = c.args.text.now in
+    let items = c.policies.policies.items in
+    let answer = c.in_ok-policy.ensures.answer text items c.policies.invariant in
+    let more : HasRead c.next.new.self text (items ++ c.in-Some.policy ∷ []) = rw c.in-Some.is at answer in
+    subst (HasRead c.next.new.self text) (sym c.in_ok-push.ensures.items) more
 
-pub returns-in-Err-Grammar-clause-refusal : goal.returns-in-Err-Grammar-clause-refusal
-returns-in-Err-Grammar-clause-refusal c =
-    let l = c.in_ok-lexemes in
-    let e = c.in-Err-Grammar in
-    subst (λ z. IsRefused c.args.text.now z false) (sym (c.place.ensures ∙ ap (λ z. place_of c.args.text.now z e.left) c.deref-in-Err-Grammar.ensures.value))
-    (whole_grammar _ _ l.ensures e.left (subst (λ z. GivesSet (Err z) (set_to kind greatest_depth l.lexemes.items)) e.field-0-is (subst (λ z. GivesSet (Err e.field-0) (set_to kind greatest_depth z)) c.deref.ensures.value e.ensures)))
+pub policies-smaller : goal.policies-smaller
+policies-smaller c =
+    let text = c.args.text.now in
+    let old = c.policies.reader in
+    let new = c.next.new.self in
+    let items = c.policies.policies.items in
+    let answer = c.in_ok-policy.ensures.answer text items c.policies.invariant in
+    let more : HasRead new text (items ++ c.in-Some.policy ∷ []) = rw c.in-Some.is at answer in
+    let place = c.in_ok-policy.ensures.place in
+    let further : old.at < new.at = rw c.in-Some.is at place in
+    omega (arith, further, ends_inside text new.at more.ends, ap length more.of_text, ap length c.policies.invariant.of_text)
 
-pub returns-in-Err-TooDeep-clause-refusal : goal.returns-in-Err-TooDeep-clause-refusal
-returns-in-Err-TooDeep-clause-refusal c =
-    let l = c.in_ok-lexemes in
-    let e = c.in-Err-TooDeep in
-    subst (λ z. IsRefused c.args.text.now z true) (sym (c.place-in-Err-TooDeep.ensures ∙ ap (λ z. place_of c.args.text.now z e.left) c.deref-in-Err-TooDeep.ensures.value))
-    (whole_deep _ _ l.ensures e.left (subst (λ z. GivesSet (Err z) (set_to kind greatest_depth l.lexemes.items)) e.field-0-is (subst (λ z. GivesSet (Err e.field-0) (set_to kind greatest_depth z)) c.deref.ensures.value e.ensures)))
+pub returns-clause-tree : goal.returns-clause-tree
+returns-clause-tree c =
+    let text = c.args.text.now in
+    let answer = c.in_ok-policy.ensures.answer text c.policies.policies.items c.policies.invariant in
+    let has : HasPolicies text c.policies.policies.items = rw c.in_default.is at answer in
+    (c.tree_has_the_policies.ensures text (record { policies = c.policies.policies })).0 has

@@ -8,7 +8,7 @@ use Rattle.cedar_policy_formatter.proofs.fmt.lay_out.Goals as goal
 
 pub returns : goal.returns
 returns c = λ t. output_of c.args.config.now.line_width c.args.config.now.indent_width c.args.ps.now c.args.tree.now c.in_ok-tokens.tokens.items (comments_left c.in_ok-tokens.closing) (string_bytes c.in_ok-text.text) _ c.utf8.ps t
-    c.in_ok-tokens.ensures.stream c.in_ok-text.ensures.joined c.in_ok-append_closing.ensures
+    c.in_ok-tokens.ensures.stream c.in_ok-text.ensures.joined c.in_ok-push_closing.ensures
 
 pub returns-in_err-tokens : goal.returns-in_err-tokens
 returns-in_err-tokens c = λ t.

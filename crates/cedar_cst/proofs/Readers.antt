@@ -1,0 +1,174 @@
+-- What a reader of policies has read, and what the next part of the text adds to it.
+use Rattle.std.proofs.Common.{◌≡◌, ◌≤◌, ◌<◌, ◌+◌, ◌-◌, ℕ, Bool, true, false, get_or, Some, List, [], ◌∷◌, ◌++◌, length, take, drop, refl, ap, sym, ◌∙◌, subst, arith, inl, inr, append-nil}
+use Rattle.std.specs.Prelude.{◌⊎◌, Option, slice_range}
+use Rattle.std.specs.List.{list_any}
+use Rattle.std.specs.Str.{IsCharBoundary}
+use Rattle.std.proofs.lemmas.List.{length-take-le, length-drop}
+use Rattle.cedar_tokens.specs.Split.{SplitsInto}
+use Rattle.cedar_tokens.proofs.Scanning.{fault_prevents, split_unique}
+use Rattle.cedar_grammar.specs.Grammar.{G}
+use Rattle.cedar_grammar.specs.Languages.{Many, no_more, one_more}
+use Rattle.cedar_grammar.specs.Numbers.{is_too_large}
+use Rattle.cedar_grammar.specs.Texts.{greatest_depth, Accepted, IsRefused}
+use Rattle.cedar_grammar.proofs.TextLaws.{fit_part}
+use Rattle.cedar_tree.specs.declared.error.FormatError.{FormatError}
+use Rattle.cedar_tree.specs.declared.error.FormatError.TheVariants.{UnknownCharacter, UnfinishedString, NumberTooLarge, Grammar, TooDeep, NoDocument, Unsound, OutOfMemory}
+use Rattle.cedar_tree.specs.declared.tree.Node.{Node}
+use Rattle.cedar_tree.specs.declared.tree.Policy.{Policy}
+use Rattle.cedar_tree.specs.Refusals.{Refuses}
+use Rattle.cedar_reading.specs.Tokens.{HasTokens}
+use Rattle.cedar_reading.proofs.Walking.{part_unit}
+use Rattle.cedar_pieces.specs.Pieces.{IsPiece, HasNoPiece, IsFirstPiece}
+use Rattle.cedar_pieces.proofs.Accepted.{accepted_join, accepted_empty}
+use Rattle.cedar_pieces.proofs.Scans.{piece_more}
+use Rattle.cedar_pieces.proofs.Prefixes.{through, piece_positive, piece_inside, piece_before, piece_behind, piece_within, units_of}
+use Rattle.cedar_pieces.proofs.Lists.{piece_splits, units_follow}
+use Rattle.cedar_pieces.proofs.Refusals.{parts_fit, rest_is_empty, piece_refused, rest_refused}
+use Rattle.cedar_cst.specs.Parts.{HasPoliciesFrom, RefusesFrom}
+use Rattle.cedar_cst.specs.PolicyReaders.{Position, EndsPiece, HasPolicies, HasRead, IsBehindPolicies}
+use Rattle.cedar_cst.proofs.PartLaws.{parts_join, from_start, to_start, none_from, no_units, part_accepted, has_none, has_one}
+
+-- ---- two parts of a text
+
+-- what is read lies within the text
+pub ends_inside : (text : List ℕ) (at : ℕ) → EndsPiece text at → at ≤ length text
+ends_inside text at (inl e) = omega (arith, e)
+ends_inside text at (inr p) = piece_inside text at p
+
+-- the units of what is read, and of the rest
+splits_join : (text : List ℕ) (at : ℕ) (us vs : List (List ℕ)) → EndsPiece text at → SplitsInto (take at text) us → SplitsInto (drop at text) vs → SplitsInto text (us ++ vs)
+splits_join text at us vs (inl e) a b =
+    let none : us ≡ [] = no_units us (subst (λ k. SplitsInto (take k text) us) e a) in
+    subst (λ z. SplitsInto text (z ++ vs)) (sym none) (subst (λ k. SplitsInto (drop k text) vs) e b)
+splits_join text at us vs (inr p) a b =
+    let same : us ≡ units_of p = split_unique (take at text) us (units_of p) a (piece_splits text at p) in
+    subst (λ z. SplitsInto text (z ++ vs)) (sym same) (units_follow text at vs p b)
+
+reads_join : (text : List ℕ) (at : ℕ) (ps qs : List (Node Policy)) → EndsPiece text at → HasPoliciesFrom 0 (take at text) ps → HasPoliciesFrom at (drop at text) qs → HasPoliciesFrom 0 text (ps ++ qs)
+reads_join text at ps qs e a b =
+    let place : at ≡ 0 + length (take at text) = omega (arith, length-take-le at text (ends_inside text at e)) in
+    let back : HasPoliciesFrom (0 + length (take at text)) (drop at text) qs = subst (λ k. HasPoliciesFrom k (drop at text) qs) place b in
+    parts_join 0 (take at text) (drop at text) text ps qs a back (splits_join text at a.units back.units e a.split back.split)
+
+accepted_both : (text : List ℕ) (at : ℕ) → EndsPiece text at → Accepted (take at text) → Accepted (drop at text) → Accepted text
+accepted_both text at (inl e) a b = subst (λ k. Accepted (drop k text)) e b
+accepted_both text at (inr p) a b = accepted_join text at p a b
+
+-- ---- one more piece
+
+ends_more : (text : List ℕ) (at n : ℕ) → EndsPiece text at → IsPiece (drop at text) n → EndsPiece text (at + n)
+ends_more text at n (inl e) q = inr (subst (λ k. IsPiece text k) (omega (arith, e)) (subst (λ k. IsPiece (drop k text) n) e q))
+ends_more text at n (inr p) q = inr (piece_more text at n p q)
+
+-- what is read stands at the start of the text that ends with the next piece
+ends_within : (text : List ℕ) (at n : ℕ) → EndsPiece text at → IsPiece (drop at text) n → EndsPiece (through text at n) at × (take at (through text at n) ≡ take at text)
+ends_within text at n (inl e) q = (inl e, subst (λ k. take k (through text k n) ≡ take k text) (sym e) refl)
+ends_within text at n (inr p) q = (inr (piece_within text at n p q), piece_before text at n p q)
+
+accepted_more : (text : List ℕ) (at n : ℕ) → EndsPiece text at → IsPiece (drop at text) n → Accepted (take at text) → Accepted (take n (drop at text)) → Accepted (take (at + n) text)
+accepted_more text at n e q a b =
+    let w = ends_within text at n e q in
+    accepted_both (through text at n) at w.0 (subst Accepted (sym w.1) a) (subst Accepted (sym (piece_behind text at n)) b)
+
+reads_more : (text : List ℕ) (at n : ℕ) (ps qs : List (Node Policy)) → EndsPiece text at → IsPiece (drop at text) n → HasPoliciesFrom 0 (take at text) ps → HasPoliciesFrom at (take n (drop at text)) qs → HasPoliciesFrom 0 (take (at + n) text) (ps ++ qs)
+reads_more text at n ps qs e q a b =
+    let w = ends_within text at n e q in
+    reads_join (through text at n) at ps qs w.0 (subst (λ x. HasPoliciesFrom 0 x ps) (sym w.1) a) (subst (λ x. HasPoliciesFrom at x qs) (sym (piece_behind text at n)) b)
+
+-- ---- readers
+
+-- nothing is read yet
+pub reader_begins : (text : List ℕ) → HasTokens text → IsCharBoundary text 0 → IsBehindPolicies text 0
+reader_begins text t b = record { tokens = t; inside = omega arith; boundary = b; ends = inl refl; accepted = accepted_empty [] [] refl refl refl }
+
+pub read_none : (text : List ℕ) → HasRead (record { text = text; at = 0 }) text []
+read_none text = record { of_text = refl; ends = inl refl; read = from_start [] [] (none_from 0) }
+
+-- the reader goes on by a piece that has policies
+pub reader_goes_on : (text : List ℕ) (at n : ℕ) (qs : List (Node Policy)) → IsBehindPolicies text at → IsPiece (drop at text) n → HasPoliciesFrom at (take n (drop at text)) qs → IsCharBoundary text (at + n) → IsBehindPolicies text (at + n)
+reader_goes_on text at n qs b q h c = record {
+  tokens = b.tokens;
+  inside = omega (arith, piece_inside (drop at text) n q, length-drop at text, b.inside);
+  boundary = c;
+  ends = ends_more text at n b.ends q;
+  accepted = accepted_more text at n b.ends q b.accepted (part_accepted at (take n (drop at text)) qs h);
+}
+
+-- what the reader of a text has read, in that text
+ends_of : (text : List ℕ) (at : ℕ) (ps : List (Node Policy)) (all : List ℕ) → HasRead (record { text = text; at = at }) all ps → EndsPiece text at
+ends_of text at ps all r = subst (λ x. EndsPiece x at) (sym r.of_text) r.ends
+
+reads_of : (text : List ℕ) (at : ℕ) (ps : List (Node Policy)) (all : List ℕ) → HasRead (record { text = text; at = at }) all ps → HasPoliciesFrom 0 (take at text) ps
+reads_of text at ps all r = to_start (take at text) ps (subst (λ x. HasPolicies (take at x) ps) (sym r.of_text) r.read)
+
+pub read_more : (text : List ℕ) (at n : ℕ) (ps qs : List (Node Policy)) (all : List ℕ) → HasRead (record { text = text; at = at }) all ps → IsPiece (drop at text) n → HasPoliciesFrom at (take n (drop at text)) qs
+    → HasRead (record { text = text; at = at + n }) all (ps ++ qs)
+read_more text at n ps qs all r q h = record {
+  of_text = r.of_text;
+  ends = subst (λ x. EndsPiece x (at + n)) r.of_text (ends_more text at n (ends_of text at ps all r) q);
+  read = subst (λ x. HasPolicies (take (at + n) x) (ps ++ qs)) r.of_text (from_start (take (at + n) text) (ps ++ qs) (reads_more text at n ps qs (ends_of text at ps all r) q (reads_of text at ps all r) h));
+}
+
+-- where no piece follows, the policies are those of the text
+pub read_all : (text : List ℕ) (at : ℕ) (ps qs : List (Node Policy)) (all : List ℕ) → HasRead (record { text = text; at = at }) all ps → HasNoPiece (drop at text) → HasPoliciesFrom at (drop at text) qs → HasPolicies all ps
+read_all text at ps qs all r q h =
+    let none_left = rest_is_empty (drop at text) q (part_accepted at (drop at text) qs h) in
+    let none : qs ≡ [] = has_none at (drop at text) qs h none_left.0 none_left.1 none_left.2 in
+    subst (λ x. HasPolicies x ps) r.of_text
+    (subst (HasPolicies text) (ap (λ z. ps ++ z) none ∙ append-nil ps) (from_start text (ps ++ qs) (reads_join text at ps qs (ends_of text at ps all r) (reads_of text at ps all r) h)))
+
+-- ---- refusals
+
+-- where the part's tokens can be parsed, only the grammar refuses it
+only_grammar : (from : ℕ) (part text : List ℕ) (vs : List (List ℕ)) → SplitsInto part vs → list_any is_too_large vs ≡ false → ((p : ℕ) (deep : Bool) → IsRefused part p deep → IsRefused text (from + p) deep)
+    → (e : FormatError) → RefusesFrom from part e → Refuses text e
+only_grammar from part text vs s f h (UnknownCharacter p) r = absurd (fault_prevents part p r.0 (vs, s))
+only_grammar from part text vs s f h (UnfinishedString p) r = absurd (fault_prevents part p r.0 (vs, s))
+only_grammar from part text vs s f h (NumberTooLarge p) r = absurd (fit_part r.before r.number r.after (ap (list_any is_too_large) (split_unique part (r.before ++ (r.number ∷ r.after)) vs r.split s) ∙ f) r.large)
+only_grammar from part text vs s f h (Grammar p) (q, e, r) = subst (λ k. IsRefused text k false) (sym e) (h q false r)
+only_grammar from part text vs s f h (TooDeep p) (q, e, r) = subst (λ k. IsRefused text k true) (sym e) (h q true r)
+only_grammar from part text vs s f h NoDocument r = absurd r
+only_grammar from part text vs s f h Unsound r = absurd r
+only_grammar from part text vs s f h OutOfMemory r = tt
+
+-- units whose numbers fit
+abbrev Fitting : List ℕ → Type 0
+Fitting text = (vs : List (List ℕ)) × SplitsInto text vs × (list_any is_too_large vs ≡ false)
+
+module _ (text : List ℕ) (at : ℕ) (b : IsBehindPolicies text at) where
+  rest_fits : EndsPiece text at → Fitting (drop at text)
+  rest_fits (inl e) = subst (λ k. Fitting (drop k text)) (sym e) (b.tokens.units, b.tokens.split, b.tokens.fitting)
+  rest_fits (inr p) = (parts_fit text at b.tokens.units p b.tokens.split b.tokens.fitting).1
+
+  rest_moves : EndsPiece text at → (p : ℕ) (deep : Bool) → IsRefused (drop at text) p deep → IsRefused text (at + p) deep
+  rest_moves (inl e) p deep r =
+      let z : IsRefused text p deep = subst (λ k. IsRefused (drop k text) p deep) e r in
+      let same : p ≡ at + p = omega (arith, e) in
+      subst (λ k. IsRefused text k deep) same z
+  rest_moves (inr q) p deep r = rest_refused text at p deep b.tokens.units q b.tokens.split b.tokens.fitting b.accepted r
+
+  -- a refusal of the rest is one of the text
+  pub rest_refuses : (e : FormatError) → RefusesFrom at (drop at text) e → Refuses text e
+  rest_refuses e r = let f = rest_fits b.ends in only_grammar at (drop at text) text f.0 f.1 f.2 (rest_moves b.ends) e r
+
+  -- a refusal of the next piece is one of the text
+  pub piece_refuses : (n : ℕ) → IsPiece (drop at text) n → (e : FormatError) → RefusesFrom at (take n (drop at text)) e → Refuses text e
+  piece_refuses n q e r =
+      let f = rest_fits b.ends in
+      let g = (parts_fit (drop at text) n f.0 q f.1 f.2).0 in
+      only_grammar at (take n (drop at text)) text g.0 g.1 g.2 (λ p deep h. rest_moves b.ends p deep (piece_refused (drop at text) n p deep f.0 q f.1 f.2 h)) e r
+
+-- ---- the policy of a piece
+
+only_item : {X : Type 0} → (len : ℕ) (items : List X) (q : X) (o : Option X) → items ≡ q ∷ [] → len ≡ length items → ((d : X) → 0 < len → o ≡ Some (get_or items (len - 1) d)) → o ≡ Some q
+only_item len items q o e l v =
+    let one : len ≡ 1 = l ∙ ap length e in
+    v q (omega (arith, one)) ∙ (ap (λ z. Some (get_or z (len - 1) q)) e ∙ ap (λ k. Some (get_or (q ∷ []) (k - 1) q)) one)
+
+-- the last of a first piece's policies is its only one
+pub only_policy : (text rest : List ℕ) (at n : ℕ) (len : ℕ) (items : List (Node Policy)) (o : Option (Node Policy)) → rest ≡ drop at text → IsFirstPiece rest n → HasPoliciesFrom at (slice_range text at (at + n)) items → len ≡ length items
+    → ((d : Node Policy) → 0 < len → o ≡ Some (get_or items (len - 1) d)) → (q : Node Policy) × (o ≡ Some q) × (items ≡ q ∷ [])
+only_policy text rest at n len items o e p h l v =
+    let first : IsFirstPiece (drop at text) n = subst (λ z. IsFirstPiece z n) e p in
+    let one = has_one at (drop at text) n items first.piece first.first (subst (λ x. HasPoliciesFrom at x items) (part_unit text at n) h) in
+    (one.0, only_item len items one.0 o one.1 l v, one.1)

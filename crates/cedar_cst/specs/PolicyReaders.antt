@@ -1,0 +1,59 @@
+-- How far a reader of policies has come, and the policies that it has answered.
+use Rattle.std.specs.Prelude.{◌≡◌, ◌≤◌, ℕ, false, List, ◌++◌, ◌⊎◌, ◌↔◌, length, take}
+use Rattle.std.specs.List.{list_any}
+use Rattle.std.specs.Str.{IsCharBoundary}
+use Rattle.cedar_tokens.specs.Split.{SplitsInto}
+use Rattle.cedar_grammar.specs.Trees.{Label, Forest, none}
+use Rattle.cedar_grammar.specs.Grammar.{G}
+use Rattle.cedar_grammar.specs.Numbers.{is_too_large}
+use Rattle.cedar_grammar.specs.Texts.{greatest_depth, Accepted}
+use Rattle.cedar_grammar.specs.Placed.{Placed, placed, kind_of_placed}
+use Rattle.cedar_grammar.specs.TrailingCommas.{without_trailing}
+use Rattle.cedar_tree.specs.declared.tree.Node.{Node}
+use Rattle.cedar_tree.specs.declared.tree.Policy.{Policy}
+use Rattle.cedar_tree.specs.declared.tree.Policies.{Policies}
+use Rattle.cedar_tree.specs.Erased.{variant, policy_trees}
+use Rattle.cedar_tree.specs.NodeTrees.{spanned, IsTreeOf}
+use Rattle.cedar_reading.specs.Tokens.{HasTokens}
+use Rattle.cedar_pieces.specs.Pieces.{IsPiece}
+
+-- a place in a text: so many of its bytes are read
+pub record Position : Type 0 where
+  pub text : List ℕ
+  pub at : ℕ
+
+-- the text's first bytes, as many as that, are none or a piece
+abbrev pub EndsPiece : List ℕ → ℕ → Type 0
+EndsPiece text at = (at ≡ 0) ⊎ IsPiece text at
+
+-- policies may be read from here on: the text's tokens can be parsed, and what stands before is accepted
+pub record IsBehindPolicies (text : List ℕ) (at : ℕ) : Type 0 where
+  pub tokens : HasTokens text
+  pub inside : at ≤ length text
+  pub boundary : IsCharBoundary text at
+  pub ends : EndsPiece text at
+  pub accepted : Accepted (take at text)
+
+-- the text is accepted, and these are the policies of its tree without trailing commas, with all spans
+pub record HasPolicies (text : List ℕ) (policies : List (Node Policy)) : Type 0 where
+  pub units : List (List ℕ)
+  pub split : SplitsInto text units
+  pub fitting : list_any is_too_large units ≡ false
+  pub tree : Forest Label Placed
+  pub grammar : G kind_of_placed greatest_depth tree (placed units)
+  pub nodes : variant Label.policies (policy_trees policies) none ≡ spanned (λ t. t.text) (λ t. t.span) (without_trailing kind_of_placed tree)
+
+-- the reader is one of this text, and has answered these policies: those of the bytes that it has read
+pub record HasRead (reader : Position) (text : List ℕ) (policies : List (Node Policy)) : Type 0 where
+  pub of_text : reader.text ≡ text
+  pub ends : EndsPiece text reader.at
+  pub read : HasPolicies (take reader.at text) policies
+
+-- a text has the policies of its tree of nodes
+abbrev pub TreeHasThePolicies : Type 0
+TreeHasThePolicies = (text : List ℕ) (p : Policies) → HasPolicies text p.policies.items ↔ IsTreeOf text p
+
+-- what a reader has answered are the first policies of the text's tree
+abbrev pub AnsweredComeFirst : Type 0
+AnsweredComeFirst = (reader : Position) (text : List ℕ) (ps : List (Node Policy)) (p : Policies) → HasRead reader text ps → IsTreeOf text p
+    → policy_trees (take (length ps) p.policies.items) ≡ policy_trees ps

@@ -1,0 +1,7 @@
+pub mod Semicolons
+pub mod Scans
+pub mod Prefixes
+pub mod Sequences
+pub mod Lists
+pub mod Accepted
+pub mod Refusals
