@@ -1,4 +1,4 @@
-//! Tests of the formatter as a whole, and of its parts: worked examples of the written rules. There is nothing here to call.
+//! Tests of the formatter and of the program as a whole: worked examples of the written rules. There is nothing here to call.
 #![tactic(auto)]
 
 #[cfg(test)]

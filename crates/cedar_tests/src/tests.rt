@@ -6,20 +6,14 @@ use std::alloc::Global;
 use std::process::Abort;
 
 mod answers;
-mod cleaning;
 mod devices;
+mod examples;
 mod large;
-mod layouts;
-mod lookups;
 mod memory;
-mod parts;
 mod places;
 mod program;
 mod rows;
-mod shapes;
 mod sweep;
-mod tokens;
-mod trees;
 
 // Appends the text with `permit(principal,action,resource)` in place of each `§`, and
 // `permit (principal, action, resource)` in place of each `¶`.

@@ -4,7 +4,7 @@ use cedar_policy_formatter::FormatError::{
     Grammar, NumberTooLarge, TooDeep, UnfinishedString, UnknownCharacter,
 };
 
-static TEXTS: [(&str, Option<FormatError>); 104] = [
+static TEXTS: [(&str, Option<FormatError>); 110] = [
     ("", None),
     ("// c", None),
     ("§;", None),
@@ -27,6 +27,12 @@ static TEXTS: [(&str, Option<FormatError>); 104] = [
     ("permit\u{a0}(principal,action,resource);", None),
     ("¶", Some(Grammar { at: 36 })),
     ("§;;", Some(Grammar { at: 34 })),
+    ("§;§;//", None),
+    ("§;\n§;)", Some(Grammar { at: 69 })),
+    ("§;// c\n§", Some(Grammar { at: 72 })),
+    ("§;\n;=", Some(UnknownCharacter { at: 36 })),
+    ("§;\n;\"x", Some(UnfinishedString { at: 36 })),
+    ("§;\n;18446744073709551616", Some(NumberTooLarge { at: 36 })),
     ("permit", Some(Grammar { at: 6 })),
     ("permit(principal,action", Some(Grammar { at: 23 })),
     (

@@ -1,7 +1,7 @@
 //! Tokens and comments: where a text doesn't split, what its tokens are, and what they print.
 use super::*;
 use cedar_policy_formatter::lexer::{
-    LexFaultKind, drop_trailing_commas, first_fault, get_token_stream,
+    LexFaultKind, TokenReader, drop_trailing_commas, first_fault, get_token_stream,
 };
 use cedar_policy_formatter::token::{Comment, Comments, Span, Token, WrappedToken, get_comment};
 
@@ -133,6 +133,34 @@ fn expect_stream(rt: &impl Abort, alloc: Global, text: &str, plain: bool, want: 
         drop_trailing_commas(alloc, &mut tokens).expect(rt, text);
     }
     expect_text(rt, shown(rt, alloc, &tokens, closing).as_str(), want, text);
+}
+
+#[test]
+fn streams_token_by_token(rt: HostRuntime) {
+    for (text, want) in &STREAMS {
+        expect_given(&rt, rt.alloc(), text, want);
+    }
+}
+
+// A reader gives the tokens of the text's stream, then none, again and again, and at any time the same closing comments.
+fn expect_given(rt: &impl Abort, alloc: Global, text: &str, want: &str) {
+    let stream = get_token_stream(alloc, text).expect(rt, text);
+    let Some((tokens, _)) = stream else {
+        assert!(rt; TokenReader::new(text).is_none(), "{text}");
+        return;
+    };
+    let mut reader = TokenReader::new(text).expect(rt, text);
+    for token in &tokens {
+        let shown = shown(rt, alloc, &tokens, reader.closing());
+        expect_text(rt, shown.as_str(), want, text);
+        let given = reader.next(alloc).expect(rt, text);
+        expect_equal(rt, &given.expect(rt, text), token, true);
+    }
+    for _ in 0..2 {
+        assert!(rt; reader.next(alloc).expect(rt, text).is_none(), "{text}");
+    }
+    let shown = shown(rt, alloc, &tokens, reader.closing());
+    expect_text(rt, shown.as_str(), want, text);
 }
 
 // Texts, and their streams without trailing commas. A comma's trailing text stays on the token before it, where no comment

@@ -1,5 +1,5 @@
 use Rattle.std.proofs.Common.{arith, length, ◌<◌}
-use Rattle.cedar_tests.proofs.tests.lookups.answer_among_few.Goals as goal
+use Rattle.cedar_part_tests.proofs.tests.lookups.answer_among_few.Goals as goal
 
 pub returns-clause-one : goal.returns-clause-one
 returns-clause-one g c e = let few : length c.args.tokens.now < 2 = omega arith in c.counted_answer.ensures.most 1 few

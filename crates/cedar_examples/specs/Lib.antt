@@ -1,0 +1,4 @@
+pub mod Keys
+pub mod Fingerprints
+pub mod Comments
+pub mod Lints

@@ -1,0 +1,69 @@
+//! The policies of a text, one after the other.
+use super::*;
+use cedar_policy_formatter::cst::PolicyReader;
+
+// What a reader answers: where a policy starts and ends, or the end, or a refusal.
+type Step = Result<Option<(usize, usize)>, FormatError>;
+
+// Texts, and what their readers answer.
+static READS: [(&str, &[Step]); 5] = [
+    ("", &[Ok(None), Ok(None)]),
+    (
+        "// a\n§; // b\n\n@id(\"x\")\n§;§; // c",
+        &[
+            Ok(Some((5, 39))),
+            Ok(Some((46, 89))),
+            Ok(Some((89, 123))),
+            Ok(None),
+            Ok(None),
+        ],
+    ),
+    (
+        "§; // b\n§ when;§;",
+        &[
+            Ok(Some((0, 34))),
+            Err(FormatError::Grammar { at: 78 }),
+            Err(FormatError::Grammar { at: 78 }),
+        ],
+    ),
+    (
+        "§;\n§",
+        &[Ok(Some((0, 34))), Err(FormatError::Grammar { at: 68 })],
+    ),
+    (
+        "§;\n)",
+        &[Ok(Some((0, 34))), Err(FormatError::Grammar { at: 35 })],
+    ),
+];
+
+fn expect_steps(rt: &impl Abort, alloc: Global, text: &str, steps: &[Step]) {
+    let mut reader = PolicyReader::new(text).expect(rt, text);
+    for want in steps {
+        let got = match reader.next(alloc) {
+            Ok(Some(policy)) => Ok(Some((policy.span.start, policy.span.end))),
+            Ok(None) => Ok(None),
+            Err(refusal) => Err(refusal),
+        };
+        assert!(rt; got == *want, "{text}");
+    }
+}
+
+#[test]
+fn policies_one_by_one(rt: HostRuntime) {
+    for (text, steps) in &READS {
+        let text = expand(&rt, rt.alloc(), text);
+        expect_steps(&rt, rt.alloc(), text.as_str(), steps);
+    }
+}
+
+#[test]
+fn faults_come_first(rt: HostRuntime) {
+    let text = expand(&rt, rt.alloc(), "§;§; \"x");
+    let refusal = PolicyReader::new(text.as_str()).err();
+    expect_refusal(
+        &rt,
+        refusal,
+        Some(FormatError::UnfinishedString { at: 69 }),
+        text.as_str(),
+    );
+}
