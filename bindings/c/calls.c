@@ -1,0 +1,65 @@
+/*
+ * Makes the calls that standard input has, for tests/bindings: each is a line
+ *
+ *     NAME WIDTH INDENT ROOM LEN OTHER
+ *
+ * and then the LEN bytes of a text and the OTHER bytes of a second one; a call of `place` has the byte for the width. Writes
+ * a line KIND NUMBER COLUMN, and then all ROOM bytes of the room, which held '#' before the call. Each text and the room are
+ * blocks of just their sizes, so that a checker of memory sees every access beyond them.
+ */
+#include "cedar_formatter.h"
+
+#include <stdio.h>
+#include <stdlib.h>
+#include <string.h>
+
+/* A block of so many bytes. */
+static char *block(size_t size) {
+    char *bytes = malloc(size);
+    if (!bytes) {
+        fputs("calls: out of memory\n", stderr);
+        exit(2);
+    }
+    return bytes;
+}
+
+/* The next bytes of standard input, so many. */
+static char *next(size_t size) {
+    char *bytes = block(size);
+    if (fread(bytes, 1, size, stdin) != size) {
+        fputs("calls: a text ends early\n", stderr);
+        exit(2);
+    }
+    return bytes;
+}
+
+int main(void) {
+    char name[16];
+    size_t width, room, len, other;
+    ptrdiff_t indent;
+    while (scanf("%15s %zu %td %zu %zu %zu", name, &width, &indent, &room, &len, &other) == 6) {
+        char *line_feed = next(1), *text = next(len), *second = next(other), *out = block(room);
+        /* (numbers that no call answers) */
+        struct cedar_answer answer = {99, 99};
+        struct cedar_place_answer place = {99, 99, 0};
+        memset(out, '#', room);
+        if (!strcmp(name, "format")) {
+            cedar_format(text, len, width, indent, out, room, &answer);
+        } else if (!strcmp(name, "is_formatted")) {
+            cedar_is_formatted(text, len, width, indent, &answer);
+        } else if (!strcmp(name, "same_layout")) {
+            cedar_same_layout(text, len, second, other, width, indent, &answer);
+        } else if (!strcmp(name, "place")) {
+            cedar_place(text, len, width, &place);
+            answer.kind = place.kind;
+            answer.number = place.line;
+        }
+        printf("%u %zu %zu\n", (unsigned)answer.kind, answer.number, place.column);
+        fwrite(out, 1, room, stdout);
+        free(line_feed);
+        free(text);
+        free(second);
+        free(out);
+    }
+    return 0;
+}

@@ -1,0 +1,88 @@
+-- What the calls from C answer.
+use Rattle.std.specs.Prelude.{◌≡◌, ◌<◌, ◌≤◌, ◌⊎◌, ◌++◌, ℕ, ℤ, List, length, drop, Result, Ok, Err}
+use Rattle.std.specs.Str.{IsUtf8}
+use Rattle.cedar_grammar.specs.Texts.{Accepted}
+use Rattle.cedar_tree.specs.Refusals.{Refuses}
+use Rattle.cedar_tree.specs.declared.error.FormatError.{FormatError}
+use Rattle.cedar_tree.specs.declared.error.FormatError.TheVariants.{UnknownCharacter, UnfinishedString, NumberTooLarge, Grammar, TooDeep, NoDocument, Unsound, OutOfMemory}
+use Rattle.cedar_canonical.specs.Canonical.{IsOutputOf}
+use Rattle.cedar_places.specs.Places.{line_at, column_at}
+use Rattle.cedar_policy_formatter.specs.Compared.{HaveEqualLists}
+use Rattle.cedar_policy_formatter.specs.Refused.{RefusesOne}
+use Rattle.cedar_c.specs.declared.answer.Answer.{Answer}
+use Rattle.cedar_c.specs.declared.answer.PlaceAnswer.{PlaceAnswer}
+use Rattle.cedar_c.specs.declared.answer.CallFault.{CallFault}
+use Rattle.cedar_c.specs.declared.answer.CallFault.TheVariants.{NotUtf8, NoRoom, Format}
+
+-- ---- numbers for C
+
+-- the answer that says why a text is refused: the number of its kind, and its byte where it has one
+abbrev pub answer_of_error : FormatError → Answer
+answer_of_error (UnknownCharacter at) = record { kind = 1; number = at }
+answer_of_error (UnfinishedString at) = record { kind = 2; number = at }
+answer_of_error (NumberTooLarge at) = record { kind = 3; number = at }
+answer_of_error (Grammar at) = record { kind = 4; number = at }
+answer_of_error (TooDeep at) = record { kind = 5; number = at }
+answer_of_error NoDocument = record { kind = 6; number = 0 }
+answer_of_error Unsound = record { kind = 7; number = 0 }
+answer_of_error OutOfMemory = record { kind = 8; number = 0 }
+
+-- the answer that says a call's result, or why it has none
+abbrev pub answer_of : Result ℕ CallFault → Answer
+answer_of (Ok n) = record { kind = 0; number = n }
+answer_of (Err (Format e)) = answer_of_error e
+answer_of (Err NotUtf8) = record { kind = 9; number = 0 }
+answer_of (Err (NoRoom n)) = record { kind = 10; number = n }
+
+-- the answer says a result, or the want of one, of which this holds
+abbrev pub Answers : (Result ℕ CallFault → Type 0) → Answer → Type 0
+Answers Holds answer = (r : Result ℕ CallFault) × Holds r × (answer ≡ answer_of r)
+
+-- 1 where it holds, 0 where it does not
+abbrev pub IsYesOrNo : Type 0 → ℕ → Type 0
+IsYesOrNo Holds n = ((n ≡ 1) × Holds) ⊎ ((n ≡ 0) × ¬ Holds)
+
+-- ---- what is answered of texts
+
+-- the layout was written to the start of the room, and what stands behind it is unchanged; or it has no room, and nothing was written
+abbrev pub TellsPut : List ℕ → List ℕ → List ℕ → Result ℕ CallFault → Type 0
+TellsPut y old new (Ok n) = (n ≡ length y) × (n ≤ length old) × (new ≡ y ++ drop n old)
+TellsPut y old new (Err (NoRoom n)) = (n ≡ length y) × (length old < n) × (new ≡ old)
+TellsPut y old new (Err e) = ⊥
+
+-- why the bytes are no accepted text: they are not UTF-8; or the text is refused
+abbrev pub FailsOn : List ℕ → CallFault → Type 0
+FailsOn text NotUtf8 = ¬ (IsUtf8 text)
+FailsOn text (Format e) = IsUtf8 text × Refuses text e
+FailsOn text (NoRoom n) = ⊥
+
+-- of two, one is no text; or both are, and one is refused
+abbrev pub FailsOnOne : List ℕ → List ℕ → CallFault → Type 0
+FailsOnOne a b NotUtf8 = ¬ (IsUtf8 a) ⊎ ¬ (IsUtf8 b)
+FailsOnOne a b (Format e) = IsUtf8 a × IsUtf8 b × RefusesOne a b e
+FailsOnOne a b (NoRoom n) = ⊥
+
+-- y is the output of the accepted text
+abbrev pub HasOutput : ℕ → ℤ → List ℕ → List ℕ → Type 0
+HasOutput w i text y = IsUtf8 text × Accepted text × IsOutputOf w i text y
+
+-- the text's output was put into the room, or has none there; or there is no output, and the room is unchanged
+abbrev pub TellsFormat : ℕ → ℤ → List ℕ → List ℕ → List ℕ → Result ℕ CallFault → Type 0
+TellsFormat w i text old new (Ok n) = (y : List ℕ) × HasOutput w i text y × TellsPut y old new (Ok n)
+TellsFormat w i text old new (Err (NoRoom n)) = (y : List ℕ) × HasOutput w i text y × TellsPut y old new (Err (NoRoom n))
+TellsFormat w i text old new (Err e) = FailsOn text e × (new ≡ old)
+
+-- whether the accepted text is its own output
+abbrev pub TellsIsFormatted : ℕ → ℤ → List ℕ → Result ℕ CallFault → Type 0
+TellsIsFormatted w i text (Ok n) = IsUtf8 text × Accepted text × IsYesOrNo (IsOutputOf w i text text) n
+TellsIsFormatted w i text (Err e) = FailsOn text e
+
+-- whether the lists of both accepted texts without trailing commas are equal by value
+abbrev pub TellsSameLayout : List ℕ → List ℕ → Result ℕ CallFault → Type 0
+TellsSameLayout a b (Ok n) = (IsUtf8 a × IsUtf8 b) × (Accepted a × Accepted b) × IsYesOrNo (HaveEqualLists a b) n
+TellsSameLayout a b (Err e) = FailsOnOne a b e
+
+-- where the byte stands in the text; or that the bytes are not UTF-8
+abbrev pub TellsPlace : List ℕ → ℕ → PlaceAnswer → Type 0
+TellsPlace text at p = (IsUtf8 text × (p ≡ record { kind = 0; line = line_at text at; column = column_at text at }))
+    ⊎ (¬ (IsUtf8 text) × (p ≡ record { kind = 9; line = 0; column = 0 }))

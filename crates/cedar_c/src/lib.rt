@@ -1,0 +1,84 @@
+//! The formatter for C and other languages: a static library.
+//!
+//! Each export answers through its last parameter, and `include/cedar_formatter.h` says what C must keep. Its contract is
+//! that of the library's call, over the bytes that C sees.
+#![tactic(auto)]
+
+ghost use Rattle.cedar_c.specs.Answers.{Answers, TellsFormat, TellsIsFormatted, TellsPlace, TellsSameLayout};
+
+mod answer;
+mod calls;
+
+use answer::answer_of;
+pub use answer::{Answer, CallFault, PlaceAnswer};
+use calls::{check_layout, compare_layouts, find_place, format_into};
+use cedar_policy_formatter::Config;
+use std::alloc::Global;
+
+/// Lays the policies `text` out at `width` columns a line and `indent` columns a level, and writes the result to the start
+/// of `out`. The answer's number is its length in bytes, also where `out` is too small; then nothing is written, as with
+/// every refusal.
+#[unsafe(no_mangle)]
+pub extern "C" fn cedar_format(
+    alloc: Global,
+    text: &[u8],
+    width: usize,
+    indent: isize,
+    out: &mut [u8],
+    answer: &mut Answer,
+)
+    ensures { Answers (TellsFormat width indent text.now out.old out.new) answer.new }
+{
+    let config = Config {
+        line_width: width,
+        indent_width: indent,
+    };
+    *answer = answer_of(format_into(alloc, text, &config, out));
+}
+
+/// Whether `text` is as `cedar_format` lays it out: the answer's number is 1 for yes and 0 for no.
+#[unsafe(no_mangle)]
+pub extern "C" fn cedar_is_formatted(
+    alloc: Global,
+    text: &[u8],
+    width: usize,
+    indent: isize,
+    answer: &mut Answer,
+)
+    ensures { Answers (TellsIsFormatted width indent text.now) answer.new }
+{
+    let config = Config {
+        line_width: width,
+        indent_width: indent,
+    };
+    *answer = answer_of(check_layout(alloc, text, &config));
+}
+
+/// Whether `a` and `b` are laid out alike: the answer's number is 1 for yes and 0 for no. A refusal of `a` is answered
+/// before one of `b`.
+#[unsafe(no_mangle)]
+pub extern "C" fn cedar_same_layout(
+    alloc: Global,
+    a: &[u8],
+    b: &[u8],
+    width: usize,
+    indent: isize,
+    answer: &mut Answer,
+)
+    ensures { Answers (TellsSameLayout a.now b.now) answer.new }
+{
+    let config = Config {
+        line_width: width,
+        indent_width: indent,
+    };
+    *answer = answer_of(compare_layouts(alloc, a, b, &config));
+}
+
+/// Where the byte `at` of `text`, counted from 0, stands: its line and its column, both from 1, the column in characters. A
+/// byte behind the end stands where the text ends.
+#[unsafe(no_mangle)]
+pub extern "C" fn cedar_place(text: &[u8], at: usize, answer: &mut PlaceAnswer)
+    ensures { TellsPlace text.now at answer.new }
+{
+    *answer = find_place(text, at);
+}
