@@ -21,10 +21,10 @@ use Rattle.cedar_text_laws.specs.Joining.{follow}
 use Rattle.cedar_canonical.specs.Laws.{of_tokens, RawLayoutsReadBack, ChoicesDifferInBlanks}
 use Rattle.cedar_text_laws.specs.CleaningLaws.{is_solid}
 use Rattle.cedar_text_laws.proofs.Listed.{comment_no_token}
-use Rattle.cedar_canonical.proofs.Reading.{reading, spelled_reads, line_alone}
-use Rattle.cedar_text_laws.proofs.CleanTexts.{clean_reads}
+use Rattle.cedar_canonical.proofs.ReadBack.{reading, spelled_reads, line_alone}
+use Rattle.cedar_text_laws.proofs.CleanedTexts.{clean_reads}
 use Rattle.cedar_canonical.proofs.Encoded.{spelled_utf8}
-use Rattle.cedar_canonical.proofs.Policies.{law_of_gaps}
+use Rattle.cedar_canonical.proofs.PrintedPolicies.{law_of_gaps}
 
 nothing_reads : IsListing [] (record { tokens = []; closing = [] })
 unfolding listing decorate gaps

@@ -19,10 +19,10 @@ use Rattle.cedar_canonical.proofs.ByValue.{part_table_value, tokens_map}
 use Rattle.cedar_canonical.specs.GrammarTrees.{IsTree}
 use Rattle.cedar_canonical.proofs.Grammatical.{one_tree, value_tree, plain_tree, tree_fits, accepted_has_tree}
 use Rattle.cedar_text_laws.proofs.Cutting.{cleaned_once, cleaned_exists}
-use Rattle.cedar_text_laws.proofs.CleanTexts.{clean_units, clean_has_no_blank_line}
+use Rattle.cedar_text_laws.proofs.CleanedTexts.{clean_units, clean_has_no_blank_line}
 use Rattle.cedar_text_laws.proofs.GoodLists.{every_list_good, plain_list_good}
-use Rattle.cedar_canonical.proofs.Policies.{law_of_gaps}
-use Rattle.cedar_canonical.proofs.Reading.{spelled_reads}
+use Rattle.cedar_canonical.proofs.PrintedPolicies.{law_of_gaps}
+use Rattle.cedar_canonical.proofs.ReadBack.{spelled_reads}
 use Rattle.cedar_canonical.proofs.Encoded.{spelled_utf8}
 use Rattle.cedar_canonical.proofs.Assembled.{reads_back}
 

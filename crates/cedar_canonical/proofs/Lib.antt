@@ -1,9 +1,9 @@
-pub mod Weave
-pub mod Weaving
-pub mod Gapped
-pub mod Peel
-pub mod Policies
-pub mod Reading
+pub mod PrintedTokens
+pub mod PrintedNodes
+pub mod GapLaws
+pub mod FirstLines
+pub mod PrintedPolicies
+pub mod ReadBack
 pub mod Assembled
 pub mod Values
 pub mod Encoded

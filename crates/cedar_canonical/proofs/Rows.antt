@@ -6,7 +6,7 @@ use Rattle.std.specs.Str.{trim_start, trim_end, chars}
 use Rattle.std.specs.Char.{encode_utf8}
 use Rattle.unicode_width.proofs.Computing.{unicode_width}
 use Rattle.cedar_layout.specs.Layout.{Doc, columns, print, IsTheLayoutAt}
-use Rattle.cedar_layout.specs.Computed.{laid}
+use Rattle.cedar_layout.specs.Inside.Computed.{laid}
 use Rattle.cedar_layout.proofs.Rule.{laid_is_the_layout}
 use Rattle.cedar_tokens.specs.Units.{slots, punctuators}
 use Rattle.cedar_tokens.specs.Listing.{Decorated, listing, gaps, decorate, comments, lines, comment_of_line, without_zeros}

@@ -1,10 +1,8 @@
 -- A token's value is its own value.
 use Rattle.std.proofs.Common.{◌≡◌, ℕ, Bool, true, false, cond, not, ◌&&◌, ◌==◌, List, [], ◌∷◌, length, map, refl, ap, ◌∙◌}
-use Rattle.std.specs.Prelude.{codes}
 use Rattle.cedar_tokens.specs.Units.{is_number}
 use Rattle.cedar_tokens.specs.Listing.{Decorated, without_zeros, token_value, EqualByValue}
 use Rattle.cedar_canonical.specs.Output.{with_value}
-use Rattle.cedar_tokens.specs.PlainList.{plain_list}
 use Rattle.cedar_text_laws.proofs.Listed.{number_value}
 
 zeros_once : (b : ℕ) (bs : List ℕ) → without_zeros (without_zeros (b ∷ bs)) ≡ without_zeros (b ∷ bs)
@@ -42,6 +40,3 @@ values_equal ts cs = ap (λ z. record { tokens = z; closing = cs }) (each ts)
 -- rows: `resource, // r` in front of `)`, and a comma whose neighbour has a trailing text
 abbrev t : List ℕ → Decorated
 t s = record { text = s; leading = []; trailing = [] }
-
-row_first : plain_list (t (codes "resource") ∷ record { text = codes ","; leading = []; trailing = codes "// r" } ∷ t (codes ")") ∷ []) ≡ record { text = codes "resource"; leading = []; trailing = codes "// r" } ∷ t (codes ")") ∷ []
-row_first = refl

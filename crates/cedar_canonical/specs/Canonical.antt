@@ -16,6 +16,7 @@ use Rattle.cedar_text_laws.specs.CleaningLaws.{NoBlankLine}
 use Rattle.cedar_grammar.specs.Texts.{Accepted}
 use Rattle.cedar_canonical.specs.GrammarTrees.{IsTree}
 use Rattle.cedar_canonical.specs.Output.{IsOutput, IsSomeLayout, with_value, tokens_of}
+use Rattle.cedar_tokens.specs.Bytes.{line_feed}
 
 -- ---- outputs of trees
 
@@ -33,7 +34,7 @@ OutputsGoByValue = (w : ℕ) (i : ℤ) (ps qs : List (Clause Decorated policy)) 
 
 -- an output ends with a line feed
 abbrev pub OutputEndsInLineFeed : Type 0
-OutputEndsInLineFeed = (w : ℕ) (i : ℤ) (ps : List (Clause Decorated policy)) (cs : List (List ℕ)) (y : List ℕ) → IsOutput (IsTheLayoutAt w) i ps cs y → (front : List ℕ) × (y ≡ front ++ (10 ∷ []))
+OutputEndsInLineFeed = (w : ℕ) (i : ℤ) (ps : List (Clause Decorated policy)) (cs : List (List ℕ)) (y : List ℕ) → IsOutput (IsTheLayoutAt w) i ps cs y → (front : List ℕ) × (y ≡ front ++ (line_feed ∷ []))
 
 -- under every choice of groups the text of a policy has no blank line outside strings, and no blank at its start or end
 abbrev pub PolicyHasNoBlankLine : Type 0

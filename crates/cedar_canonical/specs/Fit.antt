@@ -4,32 +4,33 @@ use Rattle.cedar_tokens.specs.Listing.{Decorated, token_value}
 use Rattle.cedar_text_laws.specs.Neighbours.{glues, first_or}
 use Rattle.cedar_layout.specs.Cleaning.{last_or}
 use Rattle.cedar_grammar.specs.TypedTrees.{Tree, NodeKind, PartKind, Clause, variable_bare, variable_is, variable_op, variable_is_op, cond_of, no_cond, conds_more, annotation_bare, annotation_value, no_annotation, annotations_more, policy_of, name_one, name_more, ref_of, args_one, args_more, init_of, inits_one, inits_more, literal, slot, reference, named, parens, list_empty, list_of, record_empty, record_of, no_access, field, call_empty, call, index, member_of, unsigned, signed, products_one, products_more, mult_of, sums_one, sums_more, add_of, single, compare, has_or_like, is_type, is_in, ands_one, ands_more, ors_one, ors_more, plain_expr, if_expr}
+use Rattle.cedar_tokens.specs.Bytes.{colon, equals, slash, space}
 
 -- what stands last behind a token with this text and this trailing text, and what stands in front of a token
--- with these leading lines: 32 stands for any blank
+-- with these leading lines: a space stands for any blank
 abbrev pub after_of : List ℕ → List ℕ → ℕ
-after_of w [] = last_or 32 w
-after_of w (c ∷ cs) = 32
+after_of w [] = last_or space w
+after_of w (c ∷ cs) = space
 
 abbrev pub before_of : ℕ → List (List ℕ) → ℕ
 before_of c [] = c
-before_of c (l ∷ ls) = 32
+before_of c (l ∷ ls) = space
 
 -- where a primary or a name may begin: no `:`, `/` or `=`
 abbrev pub is_start : ℕ → Bool
-is_start d = not ((d == 58 || d == 47) || d == 61)
+is_start d = not ((d == colon || d == slash) || d == equals)
 
 abbrev pub Opens : ℕ → Type 0
 Opens c = (d : ℕ) → is_start d ≡ true → glues c d ≡ false
 
 abbrev pub Ends : ℕ → Type 0
-Ends c = glues c 58 ≡ false
+Ends c = glues c colon ≡ false
 
 abbrev pub IsMark : List ℕ → Decorated → Type 0
 IsMark s x = token_value x.text ≡ s
 
 abbrev pub IsWord : Decorated → Type 0
-IsWord x = (is_start (first_or 32 (token_value x.text)) ≡ true) × Ends (last_or 32 (token_value x.text))
+IsWord x = (is_start (first_or space (token_value x.text)) ≡ true) × Ends (last_or space (token_value x.text))
 
 abbrev pub Fit : {k : NodeKind} → Tree Decorated k → Type 0
 Fit (name_one x) = IsWord x

@@ -8,16 +8,17 @@ use Rattle.cedar_canonical.specs.Table.{part_table}
 use Rattle.cedar_canonical.specs.Fit.{PartFit}
 use Rattle.cedar_text_laws.specs.Good.{IsGood, IsLine}
 use Rattle.cedar_layout.specs.Cleaning.{IsCleaned}
+use Rattle.cedar_tokens.specs.Bytes.{line_feed}
 
 -- the texts with two line feeds between neighbours
 abbrev pub join : List (List ℕ) → List ℕ
 join [] = []
 join (x ∷ []) = x
-join (x ∷ (y ∷ ys)) = x ++ (10 ∷ (10 ∷ join (y ∷ ys)))
+join (x ∷ (y ∷ ys)) = x ++ (line_feed ∷ (line_feed ∷ join (y ∷ ys)))
 
 abbrev pub closing_text : List (List ℕ) → List ℕ
 closing_text [] = []
-closing_text (l ∷ ls) = l ++ (10 ∷ closing_text ls)
+closing_text (l ∷ ls) = l ++ (line_feed ∷ closing_text ls)
 
 -- each policy's document, laid out by `laid` (a width's layout, or any choice's) and cleaned
 abbrev pub PolicyTexts : (Doc → List ℕ → Type 0) → ℤ → List (Clause Decorated policy) → List (List ℕ) → Type 0
@@ -30,7 +31,7 @@ PolicyTexts laid i (p ∷ ps) (t ∷ ts) = ((s : List ℕ) × laid (part_table i
 pub record IsOutput (laid : Doc → List ℕ → Type 0) (i : ℤ) (policies : List (Clause Decorated policy)) (closing : List (List ℕ)) (output : List ℕ) : Type 0 where
   pub texts : List (List ℕ)
   pub cleaned : PolicyTexts laid i policies texts
-  pub written : output ≡ join texts ++ (10 ∷ closing_text closing)
+  pub written : output ≡ join texts ++ (line_feed ∷ closing_text closing)
 
 -- s is a layout of d under some choice of flat and broken groups
 abbrev pub IsSomeLayout : Doc → List ℕ → Type 0

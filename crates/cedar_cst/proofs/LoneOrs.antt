@@ -9,8 +9,8 @@ use Rattle.cedar_tree.specs.declared.tree.Add as Add
 use Rattle.cedar_tree.specs.declared.tree.Relation as Relation
 use Rattle.cedar_tree.specs.declared.tree.And as And
 use Rattle.cedar_tree.specs.declared.tree.Or as Or
-use Rattle.cedar_reading.specs.ReadingParts.{IsLoneOrOf}
-use Rattle.cedar_nodes.specs.ReadingExprs.{IsLoneRelationOf, IsAndOf, IsOrOf}
+use Rattle.cedar_reading.specs.Inside.ReadingParts.{IsLoneOrOf}
+use Rattle.cedar_nodes.specs.Inside.ReadingExprs.{IsLoneRelationOf, IsAndOf, IsOrOf}
 
 -- the operators between no operands
 none_more : (o : Node Add.Add) (r : Node Relation.Relation) (a : Node And.And) (n : Node Or.Or) → IsLoneRelationOf o r → IsAndOf r [] a → IsOrOf a [] n → IsLoneOrOf o n

@@ -8,10 +8,9 @@ use Rattle.cedar_tokens.specs.Units.{is_token}
 use Rattle.cedar_tokens.specs.Places.{token_spans}
 use Rattle.cedar_tokens.specs.declared.token.Span.{Span}
 use Rattle.cedar_grammar.specs.TokenKinds.{kind_of}
-use Rattle.cedar_grammar.specs.Texts.{greatest_depth, tokens, IsRefused}
+use Rattle.cedar_grammar.specs.Texts.{greatest_depth, tokens}
 use Rattle.cedar_grammar.specs.Trees.{Label, Forest, none, leaf, branch, yield}
-use Rattle.cedar_grammar.specs.Languages.{Many}
-use Rattle.cedar_grammar.specs.Grammar.{G, Policy}
+use Rattle.cedar_grammar.specs.Grammar.{G}
 use Rattle.cedar_grammar.specs.Placed.{Placed, kind_of_placed}
 use Rattle.cedar_grammar.specs.TrailingCommas.{without_trailing}
 use Rattle.cedar_grammar.specs.Reader.Reading.{Answer, done, stuck}
@@ -27,12 +26,12 @@ use Rattle.cedar_tree.specs.Refusals.{RefusesTokens}
 use Rattle.cedar_reading.specs.declared.lexeme.Lexeme.{Lexeme}
 use Rattle.cedar_reading.specs.declared.reading.Refusal.{Refusal}
 use Rattle.cedar_reading.specs.declared.reading.Refusal.TheVariants.{Grammar, TooDeep, OutOfMemory}
-use Rattle.cedar_reading.specs.Lexemes.{AreLexemes, nodes_of}
-use Rattle.cedar_reading.specs.Reading.{kind, AreRight, start_or, place_of}
+use Rattle.cedar_reading.specs.Inside.Lexemes.{AreLexemes}
+use Rattle.cedar_reading.specs.Inside.Reading.{kind, AreRight, start_or, place_of}
 use Rattle.cedar_reading.proofs.Parsing.{placed_tree}
 use Rattle.cedar_pieces.proofs.Prefixes.{units_length}
-use Rattle.cedar_cst.specs.Parts.{moved_span, moved_lexeme, place_before, placed_from, HasPoliciesFrom, RefusesFrom}
-use Rattle.cedar_cst.specs.ReadingSet.{GivesSet}
+use Rattle.cedar_cst.specs.Inside.Parts.{moved_span, moved_lexeme, place_before, placed_from, HasPoliciesFrom, RefusesFrom}
+use Rattle.cedar_cst.specs.Inside.ReadingSet.{GivesSet}
 use Rattle.cedar_cst.proofs.Whole.{are_right, whole_grammar, whole_deep}
 
 module _ (n : ℕ) where

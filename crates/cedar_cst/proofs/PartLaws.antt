@@ -1,5 +1,5 @@
 -- Policies of two parts of a text, one after the other; and how many policies a part has.
-use Rattle.std.specs.Prelude.{◌≡◌, ℕ, suc, ◌+◌, ◌||◌, Bool, true, false, List, [], ◌∷◌, ◌++◌, ◌⊎◌, length, map, take, drop, codes, Option, Some, None, if◌then◌else◌}
+use Rattle.std.specs.Prelude.{◌≡◌, ℕ, ◌+◌, ◌||◌, Bool, true, false, List, [], ◌∷◌, ◌++◌, length, take, drop, codes, Option, Some, if◌then◌else◌}
 use Rattle.std.specs.List.{list_any, sum_by}
 use Rattle.std.proofs.Common.{refl, sym, ap, ◌∙◌, arith, inl, inr, subst, append-nil, append_assoc}
 use Rattle.std.proofs.lemmas.List.Elements.{filter-append}
@@ -16,13 +16,13 @@ use Rattle.cedar_grammar.specs.Trees.{Label, Forest, none, leaf, branch, join, y
 use Rattle.cedar_grammar.specs.Languages.{Many, no_more, one_more}
 use Rattle.cedar_grammar.specs.Grammar.{G, Policy}
 use Rattle.cedar_grammar.specs.Numbers.{is_too_large}
-use Rattle.cedar_grammar.specs.Placed.{Placed, with_places, placed, kind_of_placed}
+use Rattle.cedar_grammar.specs.Placed.{Placed, with_places, kind_of_placed}
 use Rattle.cedar_grammar.specs.TokenKinds.{kind_of}
 use Rattle.cedar_grammar.specs.TrailingCommas.{without_trailing}
 use Rattle.cedar_grammar.specs.Texts.{greatest_depth, tokens, Accepted}
 use Rattle.cedar_grammar.proofs.LanguageLaws.{yield_join}
 use Rattle.cedar_grammar.proofs.ReadingLaws.{join_assoc}
-use Rattle.cedar_grammar.proofs.RuleMaps.{each, relabel}
+use Rattle.cedar_grammar.proofs.RuleMaps.{relabel}
 use Rattle.cedar_grammar.proofs.Relabelling.{relabelled}
 use Rattle.cedar_grammar.proofs.TreeLaws.{list_has_one_tree}
 use Rattle.cedar_tree.specs.declared.tree.Node.{Node}
@@ -36,7 +36,7 @@ use Rattle.cedar_pieces.proofs.Prefixes.{units_of, units_length}
 use Rattle.cedar_pieces.proofs.Lists.{piece_splits, piece_units}
 use Rattle.cedar_pieces.proofs.Refusals.{no_tokens, piece_tokens, no_kind}
 use Rattle.cedar_pieces.proofs.Sequences.{list_parts, no_policies, one_policy}
-use Rattle.cedar_cst.specs.Parts.{placed_from, HasPoliciesFrom}
+use Rattle.cedar_cst.specs.Inside.Parts.{placed_from, HasPoliciesFrom}
 use Rattle.cedar_cst.specs.PolicyReaders.{EndsPiece, HasPolicies, AnsweredComeFirst}
 
 -- ---- places

@@ -13,13 +13,12 @@ use Rattle.cedar_grammar.specs.Reader.Reading.{Answer, Reader, done, stuck, afte
 use Rattle.cedar_grammar.specs.Reader.Rules.{star, word_of, read, core}
 use Rattle.cedar_grammar.specs.Reader.Lines.{annotation_rule, scoped, action, cond_rule}
 use Rattle.cedar_grammar.proofs.ReadingLaws.{both_first, both_done, both_fails, both_then_fails, tree_done, tree_fails, many_step, many_fails, many_end}
-use Rattle.cedar_tree.specs.Erased.{Erased, ident_tree, annotation_trees, cond_trees, policy_parts, policy_trees}
+use Rattle.cedar_tree.specs.Erased.{Erased, ident_tree, annotation_trees, cond_trees, policy_parts, policy_trees, annotation_parts, cond_parts, variable_parts}
 use Rattle.cedar_tree.specs.NodeTrees.{span_of}
-use Rattle.cedar_reading.specs.Reading.{kind, flat, Fails, Stands, StandsMany, GivesMany, FollowedBy, node_trees, ident_parts, annotation_parts}
-use Rattle.cedar_reading.specs.ReadingParts.{variable_parts, scope_rule}
+use Rattle.cedar_reading.specs.Inside.Reading.{kind, flat, Fails, Stands, StandsMany, GivesMany, FollowedBy, node_trees, ident_parts}
+use Rattle.cedar_reading.specs.Inside.ReadingParts.{scope_rule}
 use Rattle.cedar_tree.specs.NodeLists.{item_trees}
-use Rattle.cedar_cst.specs.ReadingSet.{cond_parts}
-use Rattle.cedar_reading.specs.Lexemes.{nodes_of}
+use Rattle.cedar_reading.specs.Inside.Lexemes.{lexeme_nodes}
 use Rattle.cedar_reading.specs.declared.lexeme.Lexeme.{Lexeme}
 use Rattle.cedar_reading.specs.declared.reading.Refusal.{Refusal}
 use Rattle.cedar_tree.specs.declared.tree.Node.{Node}
@@ -168,7 +167,7 @@ many_row u p q f g h a b = go a.place
   where
     go : (f ≡ none) ⊎ ((s : Span) × Covers s (kept f)) → (s : Span) × (s.end ≡ u.end) × Stands s (join p q) (join f g)
     go (inl e) = (u, refl, record { same = (many_join u p q f g h a b).same; place = ap (λ z. span_of (λ (l : Lexeme). l.text.now) (λ (l : Lexeme). l.span) (kept (join z g))) e ∙ b.place })
-    go (inr (s, c)) = let k = row_join s u (nodes_of f) q f g h (record { same = λ r. refl; place = c }) b in (from_to s u, refl, record { same = (many_join u p q f g h a b).same; place = k.place })
+    go (inr (s, c)) = let k = row_join s u (lexeme_nodes f) q f g h (record { same = λ r. refl; place = c }) b in (from_to s u, refl, record { same = (many_join u p q f g h a b).same; place = k.place })
 
 abbrev scope_row : Policy → Erased
 scope_row p = leaf (codes "(") (join (item_trees Label.variable variable_parts (p.variables.0 ∷ p.variables.1 ∷ p.variables.2 ∷ [])) (leaf (codes ")") none))

@@ -1,15 +1,13 @@
 -- What a reader of policies has read, and what the next part of the text adds to it.
 use Rattle.std.proofs.Common.{◌≡◌, ◌≤◌, ◌<◌, ◌+◌, ◌-◌, ℕ, Bool, true, false, get_or, Some, List, [], ◌∷◌, ◌++◌, length, take, drop, refl, ap, sym, ◌∙◌, subst, arith, inl, inr, append-nil}
-use Rattle.std.specs.Prelude.{◌⊎◌, Option, slice_range}
+use Rattle.std.specs.Prelude.{Option, slice_range}
 use Rattle.std.specs.List.{list_any}
 use Rattle.std.specs.Str.{IsCharBoundary}
 use Rattle.std.proofs.lemmas.List.{length-take-le, length-drop}
 use Rattle.cedar_tokens.specs.Split.{SplitsInto}
 use Rattle.cedar_tokens.proofs.Scanning.{fault_prevents, split_unique}
-use Rattle.cedar_grammar.specs.Grammar.{G}
-use Rattle.cedar_grammar.specs.Languages.{Many, no_more, one_more}
 use Rattle.cedar_grammar.specs.Numbers.{is_too_large}
-use Rattle.cedar_grammar.specs.Texts.{greatest_depth, Accepted, IsRefused}
+use Rattle.cedar_grammar.specs.Texts.{Accepted, IsRefused}
 use Rattle.cedar_grammar.proofs.TextLaws.{fit_part}
 use Rattle.cedar_tree.specs.declared.error.FormatError.{FormatError}
 use Rattle.cedar_tree.specs.declared.error.FormatError.TheVariants.{UnknownCharacter, UnfinishedString, NumberTooLarge, Grammar, TooDeep, NoDocument, Unsound, OutOfMemory}
@@ -21,11 +19,11 @@ use Rattle.cedar_reading.proofs.Walking.{part_unit}
 use Rattle.cedar_pieces.specs.Pieces.{IsPiece, HasNoPiece, IsFirstPiece}
 use Rattle.cedar_pieces.proofs.Accepted.{accepted_join, accepted_empty}
 use Rattle.cedar_pieces.proofs.Scans.{piece_more}
-use Rattle.cedar_pieces.proofs.Prefixes.{through, piece_positive, piece_inside, piece_before, piece_behind, piece_within, units_of}
+use Rattle.cedar_pieces.proofs.Prefixes.{through, piece_inside, piece_before, piece_behind, piece_within, units_of}
 use Rattle.cedar_pieces.proofs.Lists.{piece_splits, units_follow}
 use Rattle.cedar_pieces.proofs.Refusals.{parts_fit, rest_is_empty, piece_refused, rest_refused}
-use Rattle.cedar_cst.specs.Parts.{HasPoliciesFrom, RefusesFrom}
-use Rattle.cedar_cst.specs.PolicyReaders.{Position, EndsPiece, HasPolicies, HasRead, IsBehindPolicies}
+use Rattle.cedar_cst.specs.Inside.Parts.{HasPoliciesFrom, RefusesFrom}
+use Rattle.cedar_cst.specs.PolicyReaders.{EndsPiece, HasPolicies, HasRead, IsBehindPolicies}
 use Rattle.cedar_cst.proofs.PartLaws.{parts_join, from_start, to_start, none_from, no_units, part_accepted, has_none, has_one}
 
 -- ---- two parts of a text

@@ -8,8 +8,8 @@ use Rattle.cedar_grammar.specs.Trees.{Label, Forest, none, branch}
 use Rattle.cedar_grammar.specs.Reader.Reading.{Answer, Reader, done, stuck, tree, repeat}
 use Rattle.cedar_grammar.proofs.ReadingLaws.{tree_done, tree_fails, read_end, read_fails}
 use Rattle.cedar_tree.specs.Erased.{policy_parts}
-use Rattle.cedar_reading.specs.Reading.{kind, Fails}
-use Rattle.cedar_cst.specs.ReadingSet.{GivesSet}
+use Rattle.cedar_reading.specs.Inside.Reading.{kind, Fails}
+use Rattle.cedar_cst.specs.Inside.ReadingSet.{GivesSet}
 use Rattle.cedar_reading.specs.declared.lexeme.Lexeme.{Lexeme}
 use Rattle.cedar_reading.specs.declared.reading.Refusal.{Refusal}
 use Rattle.cedar_reading.specs.declared.reading.Refusal.TheVariants.{Grammar, TooDeep, OutOfMemory}

@@ -1,5 +1,5 @@
 -- What the parser of policies gives where its loop gives what the reader gives: the tree of the text, or the exact place of its refusal.
-use Rattle.std.specs.Prelude.{◌≡◌, ℕ, suc, ◌-◌, Bool, true, false, List, [], ◌∷◌, ◌++◌, ◌⊎◌, length, map, Some, Ok, Err, if◌then◌else◌}
+use Rattle.std.specs.Prelude.{◌≡◌, ℕ, suc, ◌-◌, Bool, true, false, List, [], ◌∷◌, ◌++◌, ◌⊎◌, length, map, Some, Err, if◌then◌else◌}
 use Rattle.std.specs.List.{filter, slice_get, AllByRecursion}
 use Rattle.std.proofs.Common.{refl, sym, ap, ◌∙◌, arith, inl, inr, subst, length-append}
 use Rattle.std.proofs.lemmas.Option.{slice_get_past}
@@ -13,11 +13,9 @@ use Rattle.cedar_grammar.proofs.DepthLaws.{Beyond}
 use Rattle.cedar_grammar.proofs.WholeLaws.{set_sound, set_local, set_deeper}
 use Rattle.cedar_reading.specs.declared.lexeme.Lexeme.{Lexeme}
 use Rattle.cedar_reading.specs.declared.reading.Refusal.TheVariants.{Grammar, TooDeep}
-use Rattle.cedar_tree.specs.declared.tree.Policies.{Policies}
-use Rattle.cedar_tree.specs.NodeTrees.{IsTreeOf}
-use Rattle.cedar_reading.specs.Lexemes.{AreLexemes}
-use Rattle.cedar_reading.specs.Reading.{kind, IsRight, AreRight, start_or, place_of}
-use Rattle.cedar_cst.specs.ReadingSet.{GivesSet}
+use Rattle.cedar_reading.specs.Inside.Lexemes.{AreLexemes}
+use Rattle.cedar_reading.specs.Inside.Reading.{kind, IsRight, AreRight, start_or, place_of}
+use Rattle.cedar_cst.specs.Inside.ReadingSet.{GivesSet}
 use Rattle.cedar_reading.proofs.Parsing.{parsed}
 
 -- Lexemes of a text are right.

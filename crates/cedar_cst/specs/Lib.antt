@@ -1,3 +1,2 @@
-pub mod Parts
 pub mod PolicyReaders
-pub mod ReadingSet
+pub mod Inside

@@ -2,3 +2,4 @@
 #![tactic(auto)]
 
 pub mod cst;
+pub mod laws;

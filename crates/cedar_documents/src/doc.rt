@@ -10,7 +10,7 @@ ghost use Rattle.cedar_layout.specs.Lookups.{AreInOrder, Shown};
 ghost use Rattle.cedar_leaf_documents.specs.Found.{has_its_tokens, places};
 ghost use Rattle.cedar_leaf_documents.specs.Kept.{KeepsTokens};
 ghost use Rattle.cedar_documents.specs.ShownNodes.{IsLeafWith, IsNodeWith, IsPartWith, IsRowWith, ShowsPart, answer_of};
-ghost use Rattle.cedar_policy_documents.specs.PartDocuments.{annotation_parts, cond_parts, variable_parts};
+ghost use Rattle.cedar_tree.specs.Erased.{annotation_parts, cond_parts, variable_parts};
 
 use crate::config::Context;
 pub use crate::laws::{every_gap_holds, raw_layouts_read_back};

@@ -27,7 +27,7 @@ use Rattle.cedar_tree.specs.declared.tree.Node.{Node}
 use Rattle.cedar_tree.specs.declared.tree.Str.{Str}
 use Rattle.cedar_tree.specs.declared.tree.MemAccess as MemAccess
 use Rattle.cedar_tree.specs.declared.tree.Expr as Expr
-use Rattle.cedar_expression_documents.specs.Breaks.{Access, dotted, called, indexed, form_of, form_in, breaks, break_if}
+use Rattle.cedar_expression_documents.specs.Inside.Breaks.{Access, dotted, called, indexed, form_of, form_in, breaks, break_if}
 use Rattle.cedar_leaf_documents.specs.Found.{has_its_tokens, starts}
 use Rattle.cedar_leaf_documents.specs.NodeDocuments.{IsAt, IsNodeOf, nodes_of, text_of, as_leaf, kind_of_shown, document}
 use Rattle.cedar_canonical.specs.Table.{C, table, break_after_field, break_after_other}

@@ -19,7 +19,7 @@ use Rattle.cedar_layout.proofs.Values.{dot_assoc, dot-nil, docs_of-push}
 use Rattle.cedar_tokens.specs.Listing.{token_value}
 use Rattle.cedar_grammar.specs.Trees.{Label, none}
 use Rattle.cedar_grammar.specs.TypedTrees.{Tree, unary, unsigned, signed, parts, yield}
-use Rattle.cedar_tree.specs.Erased.{Erased, node, variant, times, signs, signs_or, primary_parts, unary_parts}
+use Rattle.cedar_tree.specs.Erased.{Erased, node, variant, times, sign_leaves, signs_or, primary_parts, unary_parts}
 use Rattle.cedar_tree.specs.NodeLists.{access_items, member_parts}
 use Rattle.cedar_tree.specs.NodeTrees.{is_node}
 use Rattle.cedar_tree.specs.declared.tree.NegOp.{NegOp}
@@ -30,8 +30,8 @@ use Rattle.cedar_tree.proofs.Views.{access_row}
 use Rattle.cedar_leaf_documents.specs.Found.{count_between, has_its_tokens, has_own, signs_before, start_of_node}
 use Rattle.cedar_leaf_documents.specs.Found as found
 use Rattle.cedar_leaf_documents.specs.NodeDocuments.{IsAt, IsNodeOf, text_of, kind_of_shown, document}
-use Rattle.cedar_expression_documents.specs.Signs.{sign_text, sign_count, signs_of, signs_in, member_in}
-use Rattle.cedar_leaf_documents.proofs.Focus.{places, shown_order, starts_late}
+use Rattle.cedar_expression_documents.specs.Inside.Signs.{sign_text, sign_count, signs_of, signs_in, member_in}
+use Rattle.cedar_leaf_documents.proofs.LookedUp.{places, shown_order, starts_late}
 use Rattle.cedar_leaf_documents.proofs.Opened.{opened_tree, opened_token, starts_here}
 
 -- ---- the tokens in a span
@@ -150,7 +150,7 @@ signs_or_need ps l (suc n) sign span s p =
     ap (λ k. suc k == 0 || count_between span.start (start_of_node (times n sign (node Label.member s p none))) ps == suc k) (before_times n sign s p) ∙ ap (λ q. suc n == 0 || count_between span.start q ps == suc n) (start_behind n sign s p)
 
 -- what signs need
-pub signs_need : (ps : List Span) (op : NegOp) (span s : Span) (p : Erased) → has_own ps Label.unary (Some span) (signs (Some op) (node Label.member s p none)) ≡ (sign_count op == 0 || count_between span.start s.start ps == sign_count op)
+pub signs_need : (ps : List Span) (op : NegOp) (span s : Span) (p : Erased) → has_own ps Label.unary (Some span) (sign_leaves (Some op) (node Label.member s p none)) ≡ (sign_count op == 0 || count_between span.start s.start ps == sign_count op)
 signs_need ps (NegOp.Bang n) span s p = signs_or_need ps Label.bang n (codes "!") span s p
 signs_need ps (NegOp.Dash n) span s p = signs_or_need ps Label.dash n (codes "-") span s p
 
@@ -163,7 +163,7 @@ signs_or_rest : (ps : List Span) (l : Label) (n : ℕ) (sign : List ℕ) (s : Sp
 signs_or_rest ps l zero sign s p e = ap (λ z. z && (has_its_tokens ps p && true)) e ∙ and-true (has_its_tokens ps p)
 signs_or_rest ps l (suc n) sign s p e = times_need ps n sign s p
 
-member_needs : (ps : List Span) (op : Option NegOp) (s : Span) (p : Erased) → has_its_tokens ps (signs op (node Label.member s p none)) ≡ has_its_tokens ps p
+member_needs : (ps : List Span) (op : Option NegOp) (s : Span) (p : Erased) → has_its_tokens ps (sign_leaves op (node Label.member s p none)) ≡ has_its_tokens ps p
 member_needs ps None s p = and-true (has_its_tokens ps p)
 member_needs ps (Some (NegOp.Bang n)) s p = signs_or_rest ps Label.bang n (codes "!") s p refl
 member_needs ps (Some (NegOp.Dash n)) s p = signs_or_rest ps Label.dash n (codes "-") s p refl
@@ -213,14 +213,14 @@ signs_or_none l s p (unsigned m) n e = let k : l ≡ Label.member = cc in let h 
 signs_or_none l s p (signed x u) n e = absurd cc
 
 -- the signs that an operator stands for
-pub opened_unary : (op : Option NegOp) (s : Span) (p : Erased) (u : Tree Shown unary) → IsNodeOf (signs op (node Label.member s p none)) u → IsNodeOf p (member_in u) × IsAt s (yield (member_in u))
+pub opened_unary : (op : Option NegOp) (s : Span) (p : Erased) (u : Tree Shown unary) → IsNodeOf (sign_leaves op (node Label.member s p none)) u → IsNodeOf p (member_in u) × IsAt s (yield (member_in u))
 opened_unary None s p u e = let r = opened_signs zero [] s p u e in (r.is_node, r.is_at)
 opened_unary (Some (NegOp.Bang zero)) s p u e = absurd (signs_or_none Label.bang s p u refl e)
 opened_unary (Some (NegOp.Bang (suc n))) s p u e = let r = opened_signs (suc n) (codes "!") s p u e in (r.is_node, r.is_at)
 opened_unary (Some (NegOp.Dash zero)) s p u e = absurd (signs_or_none Label.dash s p u refl e)
 opened_unary (Some (NegOp.Dash (suc n))) s p u e = let r = opened_signs (suc n) (codes "-") s p u e in (r.is_node, r.is_at)
 
-opened_operator : (op : NegOp) (s : Span) (p : Erased) (u : Tree Shown unary) → IsNodeOf (signs (Some op) (node Label.member s p none)) u → (0 < sign_count op) × AreSigns (sign_count op) (sign_text op) s p u
+opened_operator : (op : NegOp) (s : Span) (p : Erased) (u : Tree Shown unary) → IsNodeOf (sign_leaves (Some op) (node Label.member s p none)) u → (0 < sign_count op) × AreSigns (sign_count op) (sign_text op) s p u
 opened_operator (NegOp.Bang zero) s p u e = absurd (signs_or_none Label.bang s p u refl e)
 opened_operator (NegOp.Bang (suc n)) s p u e = (omega arith, opened_signs (suc n) (codes "!") s p u e)
 opened_operator (NegOp.Dash zero) s p u e = absurd (signs_or_none Label.dash s p u refl e)
@@ -239,7 +239,7 @@ if_ok (Err e) f h = tt
 if_ok (Ok d) f h = f d h
 
 -- no signs
-pub no_signs : (i : ℤ) (u : Tree Shown unary) (s : Span) (p : Erased) (d : Document) → doc_of d ≡ nil → IsNodeOf (signs None (node Label.member s p none)) u → (tokens before after : List Shown) → tokens ≡ before ++ (yield u ++ after)
+pub no_signs : (i : ℤ) (u : Tree Shown unary) (s : Span) (p : Erased) (d : Document) → doc_of d ≡ nil → IsNodeOf (sign_leaves None (node Label.member s p none)) u → (tokens before after : List Shown) → tokens ≡ before ++ (yield u ++ after)
     → (doc_of d · document i (member_in u) ≡ document i u) × (tokens ≡ (before ++ map emptied (signs_in u)) ++ (yield (member_in u) ++ after))
 no_signs i (unsigned m) s p d n e tokens before after h = (ap (λ z. z · document i m) n, h ∙ ap (λ z. z ++ (yield m ++ after)) (sym (append-nil before)))
 no_signs i (signed x u) s p d n e tokens before after h = absurd cc
@@ -248,7 +248,7 @@ no_signs i (signed x u) s p d n e tokens before after h = absurd cc
 pub some_signs : {E : Type 0} (m : Result Document E) (op : NegOp) (span member : Span) (old new : List Shown)
     → ((s : Shown) (ss : List Shown) (x : Shown) (before after : List Shown) → 0 < sign_count op → s.span.start ≡ span.start → x.span.start ≡ member.start → old ≡ before ++ ((s ∷ ss) ++ (x ∷ after))
     → IfOk m (λ d. (doc_of d ≡ signs_of (sign_text op) (map (λ t. t.comment) (s ∷ ss))) × (new ≡ (before ++ map emptied (s ∷ ss)) ++ (x ∷ after))))
-    → (i : ℤ) (u : Tree Shown unary) (inner : Erased) → IsAt span (yield u) → IsNodeOf (signs (Some op) (node Label.member member inner none)) u → (before after : List Shown) → old ≡ before ++ (yield u ++ after)
+    → (i : ℤ) (u : Tree Shown unary) (inner : Erased) → IsAt span (yield u) → IsNodeOf (sign_leaves (Some op) (node Label.member member inner none)) u → (before after : List Shown) → old ≡ before ++ (yield u ++ after)
     → IfOk m (λ d. (doc_of d · document i (member_in u) ≡ document i u) × (new ≡ (before ++ map emptied (signs_in u)) ++ (yield (member_in u) ++ after)))
 some_signs m op span member old new h i u inner at e before after st =
     let o = opened_operator op member inner u e in
@@ -267,17 +267,17 @@ some_signs m op span member old new h i u inner at e before after st =
         (h s ss x before (ms ++ after) o.0 (starts_here span s (ss ++ (x ∷ ms)) starts) (starts_here member x ms am) (st' ∙ ap (λ z. before ++ z) (append_assoc (s ∷ ss) (x ∷ ms) after)))
 
 -- a unary seen as its signs and its member
-pub view_of_unary : (u : Unary.Unary) → unary_parts u ≡ signs (out-Unary u).op (node Label.member (out-Unary u).item.span (member_parts (out-Unary u).item.inner) none)
+pub view_of_unary : (u : Unary.Unary) → unary_parts u ≡ sign_leaves (out-Unary u).op (node Label.member (out-Unary u).item.span (member_parts (out-Unary u).item.inner) none)
 unfolding out-Unary denote.Hole.Carrier.out
 view_of_unary (Unary.Unary' op p s v row t) =
-    ap (λ z. signs op (node Label.member t (node Label.primary s (primary_parts p) z) none)) (access_row _ row ∙ ap access_items (sym (items_shown-the_row-Member-access-2-4 v row)))
+    ap (λ z. sign_leaves op (node Label.member t (node Label.primary s (primary_parts p) z) none)) (access_row _ row ∙ ap access_items (sym (items_shown-the_row-Member-access-2-4 v row)))
 
 -- what a unary needs: its signs' tokens, and its member's
 pub unary_needs : (ps : List Span) (span : Span) (u : Unary.Unary) → (has_own ps Label.unary (Some span) (unary_parts u) && has_its_tokens ps (unary_parts u))
-    ≡ (has_own ps Label.unary (Some span) (signs (out-Unary u).op (node Label.member (out-Unary u).item.span (member_parts (out-Unary u).item.inner) none)) && has_its_tokens ps (member_parts (out-Unary u).item.inner))
+    ≡ (has_own ps Label.unary (Some span) (sign_leaves (out-Unary u).op (node Label.member (out-Unary u).item.span (member_parts (out-Unary u).item.inner) none)) && has_its_tokens ps (member_parts (out-Unary u).item.inner))
 unary_needs ps span u =
     let v = out-Unary u in
-    let f = signs v.op (node Label.member v.item.span (member_parts v.item.inner) none) in
+    let f = sign_leaves v.op (node Label.member v.item.span (member_parts v.item.inner) none) in
     ap (λ z. has_own ps Label.unary (Some span) z && has_its_tokens ps z) (view_of_unary u) ∙ ap (λ z. has_own ps Label.unary (Some span) f && z) (member_needs ps v.op v.item.span (member_parts v.item.inner))
 
 -- the document of signs and their member, made one after the other

@@ -9,7 +9,7 @@ ghost use Rattle.cedar_tree.specs.Erased.{ident_tree, str_tree};
 ghost use Rattle.cedar_layout.specs.Layout.{◌·◌};
 ghost use Rattle.cedar_layout.specs.Value.{docs_of};
 ghost use Rattle.cedar_layout.specs.Lookups.{AreInOrder, Shown};
-ghost use Rattle.cedar_expression_documents.specs.Breaks.{break_if, breaks, form_before, form_of};
+ghost use Rattle.cedar_expression_documents.specs.Inside.Breaks.{break_if, breaks, form_before, form_of};
 ghost use Rattle.cedar_leaf_documents.specs.Found.{Finds, places, starts};
 ghost use Rattle.cedar_leaf_documents.specs.Kept.{KeepsTokens};
 ghost use Rattle.cedar_leaf_documents.specs.NodeDocuments.{IsNodeOf, Shows, document};

@@ -7,7 +7,7 @@ ghost use Rattle.cedar_tokens.specs.Listing.{token_value};
 ghost use Rattle.cedar_grammar.specs.Trees.{Label, branch, join, leaf, none};
 ghost use Rattle.cedar_grammar.specs.TypedTrees.{Tree, parens, yield};
 ghost use Rattle.cedar_grammar.specs.TypedTrees as kind;
-ghost use Rattle.cedar_tree.specs.Erased.{access_parts, add_parts, expr_parts, mult_parts, or_parts, path_parts, primary_parts, relation_parts, relop_text, signs, unary_parts, variant};
+ghost use Rattle.cedar_tree.specs.Erased.{access_parts, add_parts, expr_parts, mult_parts, or_parts, path_parts, primary_parts, relation_parts, relop_text, sign_leaves, unary_parts, variant};
 ghost use Rattle.cedar_tree.specs.NodeLists.{access_items, and_parts, init_parts, item_trees, member_parts};
 ghost use Rattle.cedar_layout.specs.Layout.{◌·◌, group, line, nest, nil};
 ghost use Rattle.cedar_layout.specs.Value.{doc_of};

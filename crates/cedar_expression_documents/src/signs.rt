@@ -5,14 +5,14 @@ ghost use Rattle.std.specs.Prelude.{◌≡◌, ◌==◌, ℤ, ◌<◌, ◌∷◌
 ghost use Rattle.cedar_grammar.specs.Trees.{Label, none};
 ghost use Rattle.cedar_grammar.specs.TypedTrees.{Tree, yield};
 ghost use Rattle.cedar_grammar.specs.TypedTrees as kind;
-ghost use Rattle.cedar_tree.specs.Erased.{Erased, node, signs};
+ghost use Rattle.cedar_tree.specs.Erased.{Erased, node, sign_leaves};
 ghost use Rattle.cedar_layout.specs.Layout.{◌·◌};
 ghost use Rattle.cedar_layout.specs.Value.{doc_of};
 ghost use Rattle.cedar_layout.specs.Lookups.{AreInOrder, Shown, comment_parts, emptied, shown};
 ghost use Rattle.cedar_leaf_documents.specs.Found.{Finds, count_between, has_own, places};
 ghost use Rattle.cedar_leaf_documents.specs.Kept.{KeepsTokens};
 ghost use Rattle.cedar_leaf_documents.specs.NodeDocuments.{IsAt, IsNodeOf, document};
-ghost use Rattle.cedar_expression_documents.specs.Signs.{member_in, sign_count, sign_text, signs_in, signs_of};
+ghost use Rattle.cedar_expression_documents.specs.Inside.Signs.{member_in, sign_count, sign_text, signs_in, signs_of};
 
 use cedar_layout::layout::Document;
 use cedar_layout::utils::{add_comment, get_comment_in_range};
@@ -31,8 +31,8 @@ pub(crate) fn signs_doc<'src>(
 ) -> Made<'src>
     requires { AreInOrder tokens.old }
     ensures kept { KeepsTokens tokens.old tokens.new }
-    ensures found { (inner : Erased) → Finds result (has_own (places tokens.old) Label.unary (Some span) (signs op (node Label.member member inner none))) }
-    ensures shows { (i : ℤ) (u : Tree Shown kind.unary) (inner : Erased) → IsAt span (yield u) → IsNodeOf (signs op (node Label.member member inner none)) u
+    ensures found { (inner : Erased) → Finds result (has_own (places tokens.old) Label.unary (Some span) (sign_leaves op (node Label.member member inner none))) }
+    ensures shows { (i : ℤ) (u : Tree Shown kind.unary) (inner : Erased) → IsAt span (yield u) → IsNodeOf (sign_leaves op (node Label.member member inner none)) u
         → (before after : List Shown) → map shown tokens.old ≡ before ++ (yield u ++ after)
         → IfOk result (λ d. (doc_of d · document i (member_in u) ≡ document i u) × (map shown tokens.new ≡ (before ++ map emptied (signs_in u)) ++ (yield (member_in u) ++ after))) }
 {

@@ -13,12 +13,12 @@ use Rattle.cedar_grammar.specs.TrailingCommas.{without_trailing, drop_if, closes
 use Rattle.cedar_grammar.specs.Reader.Reading.{Answer, Reader, done, stuck, both, tree, one}
 use Rattle.cedar_grammar.proofs.ReadingLaws.{both_done, both_fails, both_then_fails, tree_done, tree_fails}
 use Rattle.cedar_tree.specs.Erased.{Erased, variant, access_parts, primary_parts}
-use Rattle.cedar_reading.specs.Lexemes.{nodes_of}
+use Rattle.cedar_reading.specs.Inside.Lexemes.{lexeme_nodes}
 use Rattle.cedar_tree.specs.NodeTrees.{is_node, span_of}
-use Rattle.cedar_reading.specs.Reading.{kind, Fails, Stands, IsMade, PassesOn, FollowedBy, GivesNode}
-use Rattle.cedar_nodes.specs.ReadingItems.{StandsItems, GivesItems, bracketed, IsBracketsOf}
+use Rattle.cedar_reading.specs.Inside.Reading.{kind, Fails, Stands, IsMade, PassesOn, FollowedBy, GivesNode}
+use Rattle.cedar_nodes.specs.Inside.ReadingItems.{StandsItems, GivesItems, bracketed, IsBracketsOf}
 use Rattle.cedar_tree.specs.NodeLists.{item_trees}
-use Rattle.cedar_reading.specs.ReadingParts.{Makes}
+use Rattle.cedar_reading.specs.Inside.ReadingParts.{Makes}
 use Rattle.cedar_reading.specs.declared.lexeme.Lexeme.{Lexeme}
 use Rattle.cedar_reading.specs.declared.reading.Refusal.{Refusal}
 use Rattle.cedar_tree.specs.declared.tree.Node.{Node}
@@ -32,7 +32,7 @@ use Rattle.cedar_reading.proofs.Steps.{passes}
 pub row_variant : (l : Label) (s : Span) (p : Erased) (f : Forest Label Lexeme) → is_node l ≡ false → Stands s p f → Stands s (branch (l, None) p none) (branch l f none)
 row_variant l s p f n g = record {
   same = λ r. ap (λ z. branch (l, None) z none) (g.same r.0)
-      ∙ sym (ap (λ b. branch (l, if b then span_of (λ (l : Lexeme). l.text.now) (λ (l : Lexeme). l.span) (yield (without_trailing kind f)) else None) (nodes_of f) none) n);
+      ∙ sym (ap (λ b. branch (l, if b then span_of (λ (l : Lexeme). l.text.now) (λ (l : Lexeme). l.span) (yield (without_trailing kind f)) else None) (lexeme_nodes f) none) n);
   place = covers_node l s f g.place;
 }
 

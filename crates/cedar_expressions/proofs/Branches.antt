@@ -9,9 +9,9 @@ use Rattle.cedar_grammar.specs.Trees.{Label, Forest, none, leaf, branch}
 use Rattle.cedar_grammar.specs.Reader.Reading.{Answer, Reader, done, stuck, choice, both, skip, tree, one}
 use Rattle.cedar_grammar.proofs.ReadingLaws.{tree_done, tree_fails, both_first, both_done, both_fails, both_then_fails, choice_yes, choice_no, token_yes, token_no, token_end, onto}
 use Rattle.cedar_tree.specs.Erased.{expr_parts, add_parts, primary_parts}
-use Rattle.cedar_reading.specs.Reading.{kind, Stands, PassesOn, FollowedBy, GivesNode, GivesBehind, first_place, name_parts}
-use Rattle.cedar_reading.specs.ReadingParts.{Makes}
-use Rattle.cedar_nodes.specs.ReadingExprs.{IsIfOf, IsParensOf, IsInitOf, IsTyped, GivesTypeTest}
+use Rattle.cedar_reading.specs.Inside.Reading.{kind, Stands, PassesOn, FollowedBy, GivesNode, GivesBehind, first_place, name_parts}
+use Rattle.cedar_reading.specs.Inside.ReadingParts.{Makes}
+use Rattle.cedar_nodes.specs.Inside.ReadingExprs.{IsIfOf, IsParensOf, IsInitOf, IsTyped, GivesTypeTest}
 use Rattle.cedar_tree.specs.NodeLists.{init_parts}
 use Rattle.cedar_reading.specs.declared.lexeme.Lexeme.{Lexeme}
 use Rattle.cedar_reading.specs.declared.reading.Refusal.{Refusal}

@@ -11,9 +11,9 @@ use Rattle.cedar_grammar.specs.Reader.Reading.{Answer, Reader, done, stuck, both
 use Rattle.cedar_grammar.proofs.ReadingLaws.{Takes, both_done, both_then_fails, both_takes, token_takes}
 use Rattle.cedar_tree.specs.Erased.{Erased, node, addop_text}
 use Rattle.cedar_tree.specs.NodeTrees.{is_node}
-use Rattle.cedar_reading.specs.Reading.{kind, Keeps, Fails, Stands, GivesNode, PassesOn, addop_kind}
-use Rattle.cedar_reading.specs.ReadingParts.{Makes}
-use Rattle.cedar_nodes.specs.ReadingExprs.{operands_end, IsChainOf, IsBeside}
+use Rattle.cedar_reading.specs.Inside.Reading.{kind, Keeps, Fails, Stands, GivesNode, PassesOn, addop_kind}
+use Rattle.cedar_reading.specs.Inside.ReadingParts.{Makes}
+use Rattle.cedar_nodes.specs.Inside.ReadingExprs.{operands_end, IsChainOf, IsBeside}
 use Rattle.cedar_tree.specs.NodeLists.{operand_trees}
 use Rattle.cedar_reading.specs.declared.lexeme.Lexeme.{Lexeme}
 use Rattle.cedar_reading.specs.declared.reading.Refusal.{Refusal}

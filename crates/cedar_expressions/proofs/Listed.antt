@@ -10,10 +10,10 @@ use Rattle.cedar_grammar.specs.Reader.Reading.{Answer, Reader, done, stuck, choi
 use Rattle.cedar_grammar.specs.Reader.Rules.{tailed}
 use Rattle.cedar_grammar.proofs.ReadingLaws.{Takes, choice_yes, choice_no, both_first, both_fails, onto, onto_onto, join_none, join_assoc}
 use Rattle.cedar_tree.specs.Erased.{Erased, node}
-use Rattle.cedar_reading.specs.Lexemes.{nodes_of}
+use Rattle.cedar_reading.specs.Inside.Lexemes.{lexeme_nodes}
 use Rattle.cedar_tree.specs.NodeTrees.{is_node}
-use Rattle.cedar_reading.specs.Reading.{kind, IsRight, AreRight, Stands}
-use Rattle.cedar_nodes.specs.ReadingItems.{StandsItems}
+use Rattle.cedar_reading.specs.Inside.Reading.{kind, IsRight, AreRight, Stands}
+use Rattle.cedar_nodes.specs.Inside.ReadingItems.{StandsItems}
 use Rattle.cedar_tree.specs.NodeLists.{item_trees, more_trees}
 use Rattle.cedar_reading.specs.declared.lexeme.Lexeme.{Lexeme}
 use Rattle.cedar_tree.specs.declared.tree.Node.{Node}
@@ -23,15 +23,15 @@ use Rattle.cedar_reading.proofs.Rows.{plain, right_join}
 use Rattle.cedar_reading.proofs.Tails.{tailed_end, tailed_item, tailed_fails, tailed_last}
 
 -- a comma before a closing bracket, and one before a tree
-comma_dropped : (d t : Lexeme) → d.kind ≡ K.Comma → is_closing t.kind ≡ true → nodes_of (leaf d (leaf t none)) ≡ nodes_of (leaf t none)
+comma_dropped : (d t : Lexeme) → d.kind ≡ K.Comma → is_closing t.kind ≡ true → lexeme_nodes (leaf d (leaf t none)) ≡ lexeme_nodes (leaf t none)
 comma_dropped d t e h =
     ap (λ b. plain (drop_if (b && is_closing t.kind) (leaf d (without_trailing kind (leaf t none))) (without_trailing kind (leaf t none)))) (is_itself K.Comma d.kind (sym e))
     ∙ ap (λ b. plain (drop_if b (leaf d (without_trailing kind (leaf t none))) (without_trailing kind (leaf t none)))) h
 
-comma_kept : (d : Lexeme) (l : Label) (f g : Forest Label Lexeme) → d.kind ≡ K.Comma → IsRight d → nodes_of (leaf d (branch l f g)) ≡ leaf (codes ",") (nodes_of (branch l f g))
+comma_kept : (d : Lexeme) (l : Label) (f g : Forest Label Lexeme) → d.kind ≡ K.Comma → IsRight d → lexeme_nodes (leaf d (branch l f g)) ≡ leaf (codes ",") (lexeme_nodes (branch l f g))
 comma_kept d l f g e r =
     ap (λ b. plain (drop_if (b && false) (leaf d (without_trailing kind (branch l f g))) (without_trailing kind (branch l f g)))) (is_itself K.Comma d.kind (sym e))
-    ∙ ap (λ u. leaf u (nodes_of (branch l f g))) (fixed_text d K.Comma r e refl)
+    ∙ ap (λ u. leaf u (lexeme_nodes (branch l f g))) (fixed_text d K.Comma r e refl)
 
 module _ {X : Type 0} (l : Label) (parts : X → Erased) where
   -- items with a comma behind each
@@ -54,29 +54,29 @@ module _ {X : Type 0} (l : Label) (parts : X → Erased) where
   -- the items read so far, each with its comma
   pub record StandsOpen (items : List (Node X)) (row : Forest Label Lexeme) : Type 0 where
     pub closed : StandsItems (item_trees l parts items) row
-    pub further : (f g : Forest Label Lexeme) → AreRight row → nodes_of (join row (branch l f g)) ≡ join (with_commas items) (nodes_of (branch l f g))
+    pub further : (f g : Forest Label Lexeme) → AreRight row → lexeme_nodes (join row (branch l f g)) ≡ join (with_commas items) (lexeme_nodes (branch l f g))
 
   pub no_items : StandsOpen [] none
   no_items = record { closed = λ t c r. refl; further = λ f g r. refl }
 
   -- one more item, and what follows it
   item_next : is_node l ≡ true → (items : List (Node X)) (row f h : Forest Label Lexeme) (n : Node X) → StandsOpen items row → Stands n.span (parts n.inner) f → AreRight row → AreRight f
-      → nodes_of (join row (branch l f h)) ≡ join (with_commas items) (node l n.span (parts n.inner) (nodes_of h))
+      → lexeme_nodes (join row (branch l f h)) ≡ join (with_commas items) (node l n.span (parts n.inner) (lexeme_nodes h))
   item_next i items row f h n s g r k = s.further f h r ∙ ap (join (with_commas items)) (nodes_node l n.span (parts n.inner) f h i g k)
 
   pub last_item : is_node l ≡ true → (items : List (Node X)) (row f : Forest Label Lexeme) (n : Node X) → StandsOpen items row → Stands n.span (parts n.inner) f → StandsItems (item_trees l parts (items ++ n ∷ [])) (join row (branch l f none))
   last_item i items row f n s g t c r =
       let k = right_join row (branch l f none) r in
-      ap nodes_of (join_assoc row (branch l f none) (leaf t none)) ∙ item_next i items row f (leaf t none) n s g k.0 k.1.0 ∙ items_last items n (nodes_of (leaf t none))
+      ap lexeme_nodes (join_assoc row (branch l f none) (leaf t none)) ∙ item_next i items row f (leaf t none) n s g k.0 k.1.0 ∙ items_last items n (lexeme_nodes (leaf t none))
 
   pub next_item : is_node l ≡ true → (items : List (Node X)) (row f : Forest Label Lexeme) (n : Node X) (d : Lexeme) → d.kind ≡ K.Comma → StandsOpen items row → Stands n.span (parts n.inner) f → StandsOpen (items ++ n ∷ []) (join row (branch l f (leaf d none)))
   next_item i items row f n d e s g = record {
     closed = λ t c r. let k = right_join row (branch l f (leaf d none)) r in
-        ap nodes_of (join_assoc row (branch l f (leaf d none)) (leaf t none)) ∙ item_next i items row f (leaf d (leaf t none)) n s g k.0 k.1.0
-        ∙ ap (λ z. join (with_commas items) (node l n.span (parts n.inner) z)) (comma_dropped d t e c) ∙ items_last items n (nodes_of (leaf t none));
+        ap lexeme_nodes (join_assoc row (branch l f (leaf d none)) (leaf t none)) ∙ item_next i items row f (leaf d (leaf t none)) n s g k.0 k.1.0
+        ∙ ap (λ z. join (with_commas items) (node l n.span (parts n.inner) z)) (comma_dropped d t e c) ∙ items_last items n (lexeme_nodes (leaf t none));
     further = λ h m r. let k = right_join row (branch l f (leaf d none)) r in
-        ap nodes_of (join_assoc row (branch l f (leaf d none)) (branch l h m)) ∙ item_next i items row f (leaf d (branch l h m)) n s g k.0 k.1.0
-        ∙ ap (λ z. join (with_commas items) (node l n.span (parts n.inner) z)) (comma_kept d l h m e k.1.1.0) ∙ commas_last items n (nodes_of (branch l h m));
+        ap lexeme_nodes (join_assoc row (branch l f (leaf d none)) (branch l h m)) ∙ item_next i items row f (leaf d (branch l h m)) n s g k.0 k.1.0
+        ∙ ap (λ z. join (with_commas items) (node l n.span (parts n.inner) z)) (comma_kept d l h m e k.1.1.0) ∙ commas_last items n (lexeme_nodes (branch l h m));
   }
 
   -- P reads an item, and u says whether one begins

@@ -10,9 +10,9 @@ use Rattle.cedar_grammar.specs.Reader.Rules.{nested_at, reference, items, inner}
 use Rattle.cedar_grammar.specs.Reader.Lines.{call_parts, call, item, expr_rule, or_rule, maybe, init}
 use Rattle.cedar_grammar.proofs.KindSets.{apart, apart_at}
 use Rattle.cedar_grammar.proofs.ReadingLaws.{choice_yes, choice_no, tree_fails}
-use Rattle.cedar_reading.specs.Reading.{kind, flat}
-use Rattle.cedar_reading.specs.ReadingParts.{literal_rule}
-use Rattle.cedar_nodes.specs.ReadingExprs.{at_depth, if_rule, bracket_rule}
+use Rattle.cedar_reading.specs.Inside.Reading.{kind, flat}
+use Rattle.cedar_reading.specs.Inside.ReadingParts.{literal_rule}
+use Rattle.cedar_nodes.specs.Inside.ReadingExprs.{at_depth, if_rule, bracket_rule}
 use Rattle.cedar_reading.specs.declared.lexeme.Lexeme.{Lexeme}
 use Rattle.cedar_reading.proofs.Steps.{token_not}
 use Rattle.cedar_expressions.proofs.References.{tree_same, reference_none}

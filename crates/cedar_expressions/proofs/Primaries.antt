@@ -12,9 +12,9 @@ use Rattle.cedar_grammar.specs.Reader.Rules.{leaf_of}
 use Rattle.cedar_grammar.specs.Reader.Lines.{◌▸◌, ◌∥◌, one_of, maybe, path, add_rule, text_operand, has_field, expr_to, expr_rule, call}
 use Rattle.cedar_grammar.proofs.ReadingLaws.{Takes, both_done, both_then_fails, tree_done, tree_fails}
 use Rattle.cedar_tree.specs.Erased.{Erased, or_parts, expr_parts, primary_parts}
-use Rattle.cedar_reading.specs.Reading.{kind, flat, PassesOn, GivesNode, first_place}
-use Rattle.cedar_reading.specs.ReadingParts.{Makes, IsOrExprOf}
-use Rattle.cedar_nodes.specs.ReadingExprs.{at_depth, GivesItem, GivesSigned, IsBeside, IsUncalled}
+use Rattle.cedar_reading.specs.Inside.Reading.{kind, flat, PassesOn, GivesNode, first_place}
+use Rattle.cedar_reading.specs.Inside.ReadingParts.{Makes, IsOrExprOf}
+use Rattle.cedar_nodes.specs.Inside.ReadingExprs.{at_depth, GivesItem, GivesSigned, IsBeside, IsUncalled}
 use Rattle.cedar_reading.specs.declared.lexeme.Lexeme.{Lexeme}
 use Rattle.cedar_reading.specs.declared.reading.Refusal.{Refusal}
 use Rattle.cedar_tree.specs.declared.tree.Node.{Node}

@@ -11,9 +11,9 @@ use Rattle.cedar_grammar.specs.Reader.Reading.{Reader, done, stuck, choice, both
 use Rattle.cedar_grammar.proofs.ReadingLaws.{tree_done, tree_fails, both_done, both_fails, both_then_fails, choice_yes, choice_no}
 use Rattle.cedar_tree.specs.Erased.{Erased, node, variant, add_parts, relation_parts, relop_text}
 use Rattle.cedar_tree.specs.NodeTrees.{is_node}
-use Rattle.cedar_reading.specs.Reading.{kind, Stands, PassesOn, GivesNode, GivesBehind, relop_kind}
-use Rattle.cedar_reading.specs.ReadingParts.{Makes}
-use Rattle.cedar_nodes.specs.ReadingExprs.{IsLoneRelationOf, IsComparedOf, IsWordOf, IsTypeTestOf, GivesSigned, GivesTypeTest}
+use Rattle.cedar_reading.specs.Inside.Reading.{kind, Stands, PassesOn, GivesNode, GivesBehind, relop_kind}
+use Rattle.cedar_reading.specs.Inside.ReadingParts.{Makes}
+use Rattle.cedar_nodes.specs.Inside.ReadingExprs.{IsLoneRelationOf, IsComparedOf, IsWordOf, IsTypeTestOf, GivesSigned, GivesTypeTest}
 use Rattle.cedar_reading.specs.declared.lexeme.Lexeme.{Lexeme}
 use Rattle.cedar_reading.specs.declared.reading.Refusal.{Refusal}
 use Rattle.cedar_tree.specs.declared.tree.Node.{Node}

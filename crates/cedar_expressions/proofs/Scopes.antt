@@ -6,9 +6,8 @@ use Rattle.cedar_grammar.specs.Kinds.{is, begins}
 use Rattle.cedar_grammar.specs.Trees.{Label, Forest, none, leaf, branch, join}
 use Rattle.cedar_grammar.specs.Reader.Reading.{Answer, Reader, done, stuck, choice, both, skip, one}
 use Rattle.cedar_grammar.proofs.ReadingLaws.{both_done, both_fails, both_then_fails, choice_yes, choice_no, join_assoc}
-use Rattle.cedar_reading.specs.Reading.{kind, Stands, Skips}
-use Rattle.cedar_reading.specs.ReadingParts.{variable_parts}
-use Rattle.cedar_nodes.specs.ReadingItems.{StandsItems}
+use Rattle.cedar_reading.specs.Inside.Reading.{kind, Stands, Skips}
+use Rattle.cedar_nodes.specs.Inside.ReadingItems.{StandsItems}
 use Rattle.cedar_tree.specs.NodeLists.{item_trees}
 use Rattle.cedar_reading.specs.declared.lexeme.Lexeme.{Lexeme}
 use Rattle.cedar_tree.specs.declared.tree.Node.{Node}
@@ -17,6 +16,7 @@ use Rattle.cedar_reading.proofs.Steps.{token_at, first_begins, is_itself}
 use Rattle.cedar_reading.proofs.LeafTexts.{from_to}
 use Rattle.cedar_expressions.proofs.Bracketed.{row_brackets}
 use Rattle.cedar_expressions.proofs.Listed.{StandsOpen, no_items, next_item, last_item}
+use Rattle.cedar_tree.specs.Erased.{variable_parts}
 
 -- three readers one behind another
 pub both_assoc : (P Q R : Reader Lexeme) (ts : List Lexeme) → both P (both Q R) ts ≡ both (both P Q) R ts

@@ -16,8 +16,8 @@ use Rattle.cedar_grammar.proofs.LanguageLaws.{Sound}
 use Rattle.cedar_grammar.proofs.RuleMeanings.{decided}
 use Rattle.cedar_grammar.proofs.RuleLaws.{Begun, read_sound, means_begun}
 use Rattle.cedar_grammar.proofs.WholeLaws.{expr_fits}
-use Rattle.cedar_reading.specs.Reading.{kind, first_place}
-use Rattle.cedar_nodes.specs.ReadingExprs.{at_depth}
+use Rattle.cedar_reading.specs.Inside.Reading.{kind, first_place}
+use Rattle.cedar_nodes.specs.Inside.ReadingExprs.{at_depth}
 use Rattle.cedar_reading.specs.declared.lexeme.Lexeme.{Lexeme}
 use Rattle.cedar_reading.proofs.LeafTexts.{Covers, kept, kept_leaf, covers_node}
 

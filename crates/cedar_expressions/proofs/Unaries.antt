@@ -11,14 +11,14 @@ use Rattle.cedar_tree.specs.declared.tree.Node.{Node}
 use Rattle.cedar_tree.specs.declared.tree.NegOp.{NegOp}
 use Rattle.cedar_tree.specs.declared.tree.Member as Member
 use Rattle.cedar_tree.specs.declared.tree.Unary as Unary
-use Rattle.cedar_reading.specs.Reading.{flat, GivesNode, PassesOn}
-use Rattle.cedar_reading.specs.ReadingParts.{Makes}
-use Rattle.cedar_reading.specs.ReadingSigns.{signs_rule, signs_start, GivesSigns}
+use Rattle.cedar_reading.specs.Inside.Reading.{flat, GivesNode, PassesOn}
+use Rattle.cedar_reading.specs.Inside.ReadingParts.{Makes}
+use Rattle.cedar_reading.specs.Inside.ReadingSigns.{signs_rule, signs_start, GivesSigns}
 use Rattle.cedar_reading.specs.declared.lexeme.Lexeme.{Lexeme}
 use Rattle.cedar_reading.specs.declared.reading.Refusal.{Refusal}
 use Rattle.cedar_reading.proofs.Rows.{row_node, row_parts, row_span}
 use Rattle.cedar_reading.proofs.Steps.{passes}
-use Rattle.cedar_nodes.specs.ReadingExprs.{IsUnaryOf}
+use Rattle.cedar_nodes.specs.Inside.ReadingExprs.{IsUnaryOf}
 
 -- M reads the member behind the signs
 module _ (M : Reader Lexeme) where

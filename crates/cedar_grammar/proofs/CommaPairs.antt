@@ -16,6 +16,7 @@ use Rattle.cedar_grammar.specs.Reader.Lines.{expr_rule, policy_rule}
 use Rattle.cedar_grammar.specs.Laws.{NoTwoCommas, CommasStandAlone, PlainIsPlain}
 use Rattle.cedar_grammar.proofs.LanguageLaws.{yield_join}
 use Rattle.cedar_grammar.proofs.PlainLaws.{spelled, can_be_empty}
+use Rattle.cedar_grammar.proofs.Booleans.{and_both, and_none, no_both, or_left_true, or_right_true}
 
 -- a list of the rule may begin with a comma, may end with one
 abbrev opening : Rule → Bool
@@ -55,18 +56,6 @@ parted (star a) = parted a && not (last a)
 parted (node l a) = parted a
 parted r = false
 
-or_left_true : (a b : Bool) → IsTrue a → IsTrue (a || b)
-or_left_true true b h = refl
-or_left_true false b h = absurd cc
-
-or_right_true : (a b : Bool) → IsTrue b → IsTrue (a || b)
-or_right_true true b h = refl
-or_right_true false b h = h
-
-and_both : (a b : Bool) → IsTrue a → IsTrue b → IsTrue (a && b)
-and_both true b h k = k
-and_both false b h k = absurd cc
-
 or_false_left : (a b : Bool) → (a || b) ≡ false → a ≡ false
 or_false_left true b h = absurd cc
 or_false_left false b h = refl
@@ -79,22 +68,14 @@ and_false_right : (a b : Bool) → (a && b) ≡ false → IsTrue a → b ≡ fal
 and_false_right true b h k = h
 and_false_right false b h k = absurd cc
 
-implied : (a b : Bool) → IsTrue (not a || not b) → IsTrue a → b ≡ false
-implied true true h k = absurd cc
-implied true false h k = refl
-implied false b h k = absurd cc
+excluded : (a b : Bool) → IsTrue (not a || not b) → IsTrue a → b ≡ false
+excluded true true h k = absurd cc
+excluded true false h k = refl
+excluded false b h k = absurd cc
 
 not_false : (b : Bool) → not b ≡ false → b ≡ true
 not_false true h = refl
 not_false false h = absurd cc
-
-and_none : (b : Bool) → (b && false) ≡ false
-and_none true = refl
-and_none false = refl
-
-no_both : (b : Bool) → IsTrue (not b) → IsTrue b → ⊥
-no_both true h k = let z : false ≡ true = h in cc
-no_both false h k = let z : false ≡ true = k in cc
 
 module _ {A : Type 0} (kind : A → Kind) where
   abbrev comma : List A → Bool
@@ -157,7 +138,7 @@ module _ {A : Type 0} (kind : A → Kind) where
         subst (NoTwoCommas kind) (sym (ap (λ z. yield z ++ r) e ∙ join_more u v r))
         (rule_alone a (and_left (parted a) _ d) u (yield v ++ r) m
         (rule_alone b (and_left (parted b) _ d1) v r y n (λ h. k (or_left_true (last b) _ h)))
-        (λ la. rule_opens b (implied (last a) (opening b) (and_right (parted b) _ d1) la) v r y (λ eb. k (or_right_true (last b) _ (and_both (can_be_empty b) (last a) eb la)))))
+        (λ la. rule_opens b (excluded (last a) (opening b) (and_right (parted b) _ d1) la) v r y (λ eb. k (or_right_true (last b) _ (and_both (can_be_empty b) (last a) eb la)))))
     rule_alone (either a b) d f r (inl m) n k = rule_alone a (and_left (parted a) (parted b) d) f r m n (λ h. k (or_left_true (last a) (last b) h))
     rule_alone (either a b) d f r (inr m) n k = rule_alone b (and_right (parted a) (parted b) d) f r m n (λ h. k (or_right_true (last a) (last b) h))
     rule_alone (star a) d f r m n k = many_alone (means kind room X a) (λ f r y h. rule_alone a (and_left (parted a) _ d) f r y h (λ l. absurd (no_both (last a) (and_right (parted a) _ d) l))) f r m n

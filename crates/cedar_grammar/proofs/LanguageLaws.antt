@@ -16,7 +16,7 @@ yield_join none g = refl
 yield_join (leaf a f) g = ap (λ x. a ∷ x) (yield_join f g)
 yield_join (branch l f h) g = ap (λ x. yield f ++ x) (yield_join h g) ∙ sym (append_assoc (yield f) (yield h) (yield g))
 
-yield_join_more : {L A : Type 0} → (f g : Forest L A) (r : List A) → yield (join f g) ++ r ≡ yield f ++ (yield g ++ r)
+pub yield_join_more : {L A : Type 0} → (f g : Forest L A) (r : List A) → yield (join f g) ++ r ≡ yield f ++ (yield g ++ r)
 yield_join_more f g r = ap (λ x. x ++ r) (yield_join f g) ∙ append_assoc (yield f) (yield g) r
 
 yield_tree : {L A : Type 0} → (l : L) (f : Forest L A) (r : List A) → yield (branch l f none) ++ r ≡ yield f ++ r

@@ -1,4 +1,5 @@
 pub mod Answers
+pub mod Booleans
 pub mod ClausesSame
 pub mod CommaPairs
 pub mod DepthLaws

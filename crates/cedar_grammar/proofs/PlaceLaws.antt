@@ -6,7 +6,7 @@ use Rattle.cedar_grammar.specs.Trees.{Label, Forest, none, leaf, branch, yield, 
 use Rattle.cedar_grammar.specs.Reader.Reading.{Answer, Reader, done, stuck, after, choice, both, skip, tree, nest, too_deep, many, repeat, token}
 use Rattle.cedar_grammar.specs.Kinds.{begins}
 use Rattle.cedar_grammar.proofs.ReadingLaws.{choice_yes, choice_no, both_done, both_fails, both_then_fails, tree_done, tree_fails, Takes, many_step, many_end, many_fails, repeat_step, repeat_end, repeat_fails, token_yes, token_no, token_end}
-use Rattle.cedar_grammar.proofs.LanguageLaws.{yield_join}
+use Rattle.cedar_grammar.proofs.LanguageLaws.{yield_join_more}
 
 module _ {A : Type 0} where
   -- the same first token
@@ -42,9 +42,6 @@ module _ {A : Type 0} where
   -- a test that looks at the first token alone
   abbrev pub LooksAhead : (List A → Bool) → Type 0
   LooksAhead t = (r s : List A) → Alike r s → t r ≡ t s
-
-  yield_join_more : (f g : Forest Label A) (r : List A) → yield (join f g) ++ r ≡ yield f ++ (yield g ++ r)
-  yield_join_more f g r = ap (λ x. x ++ r) (yield_join f g) ∙ append_assoc (yield f) (yield g) r
 
   pub both_local : (P Q : Reader A) → Local P → Local Q → Local (both P Q)
   both_local P Q p q = record { success = λ ts f r e. good ts f r e (P ts) refl; failure = λ ts b r e. bad ts b r e (P ts) refl }

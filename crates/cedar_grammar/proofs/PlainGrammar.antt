@@ -18,6 +18,7 @@ use Rattle.cedar_grammar.specs.Laws.{PlainIsInTheGrammar}
 use Rattle.cedar_grammar.proofs.ReadingLaws.{join_none, join_assoc}
 use Rattle.cedar_grammar.proofs.PlainLaws.{spelled, can_be_empty, plain_leaves}
 use Rattle.cedar_grammar.proofs.TypedChains.{not_comma, opening_kept}
+use Rattle.cedar_grammar.proofs.Booleans.{and_both, and_none, implied, no_both, or_left_true, or_right_true}
 
 -- a row of the rule may end in a comma of its own that has to stay
 abbrev keeps : Rule → Bool
@@ -59,30 +60,6 @@ fit (either a b) = fit a && fit b
 fit (star a) = fit a && not (keeps a)
 fit (node l a) = fit a
 fit r = false
-
-and_both : (a b : Bool) → IsTrue a → IsTrue b → IsTrue (a && b)
-and_both true b h k = k
-and_both false b h k = absurd cc
-
-or_left_true : (a b : Bool) → IsTrue a → IsTrue (a || b)
-or_left_true true b h = refl
-or_left_true false b h = absurd cc
-
-or_right_true : (a b : Bool) → IsTrue b → IsTrue (a || b)
-or_right_true true b h = refl
-or_right_true false b h = h
-
-implied : (a b : Bool) → IsTrue (not a || b) → IsTrue a → IsTrue b
-implied true b h k = h
-implied false b h k = absurd cc
-
-no_both : (b : Bool) → IsTrue (not b) → IsTrue b → ⊥
-no_both true h k = let z : false ≡ true = h in cc
-no_both false h k = let z : false ≡ true = k in cc
-
-and_none : (b : Bool) → (b && false) ≡ false
-and_none true = refl
-and_none false = refl
 
 module _ {A : Type 0} (kind : A → Kind) where
   abbrev wt : Forest Label A → Forest Label A

@@ -15,7 +15,8 @@ use Rattle.cedar_grammar.proofs.RuleMeanings.{means}
 use Rattle.cedar_grammar.specs.Reader.Lines.{path, expr_rule, policy_rule}
 use Rattle.cedar_grammar.specs.TrailingCommas.{drop_if, plain, closes_next, without_trailing}
 use Rattle.cedar_grammar.proofs.ReadingLaws.{join_none, join_assoc}
-use Rattle.cedar_grammar.proofs.LanguageLaws.{yield_join}
+use Rattle.cedar_grammar.proofs.LanguageLaws.{yield_join_more}
+use Rattle.cedar_grammar.proofs.Booleans.{and_both, implied, or_left_true, or_right_true}
 
 -- the written forms spelled out
 abbrev pub spelled : Rule → Rule
@@ -98,30 +99,11 @@ module _ {A : Type 0} (kind : A → Kind) where
   abbrev pub Unclosed : List A → Type 0
   Unclosed r = begins kind is_closing r ≡ false
 
-  yield_join_more : (f g : Forest Label A) (r : List A) → yield (join f g) ++ r ≡ yield f ++ (yield g ++ r)
-  yield_join_more f g r = ap (λ x. x ++ r) (yield_join f g) ∙ append_assoc (yield f) (yield g) r
-
   -- the laws of an expression's trees
   pub record Apart (X : Lang A) : Type 0 where
     pub unclosed : (f : Forest Label A) (r : List A) → X f → Unclosed (yield f ++ r)
     pub even : (f g : Forest Label A) (r : List A) → X f → Even g r → Even (join f g) r
     pub seen : (f g : Forest Label A) (r : List A) → X f → Seen (join f g) r
-
-  or_true : (a b : Bool) → IsTrue b → IsTrue (a || b)
-  or_true true b h = refl
-  or_true false b h = h
-
-  or_true_left : (a b : Bool) → IsTrue a → IsTrue (a || b)
-  or_true_left true b h = refl
-  or_true_left false b h = absurd cc
-
-  and_true : (a b : Bool) → IsTrue a → IsTrue b → IsTrue (a && b)
-  and_true true b h k = k
-  and_true false b h k = absurd cc
-
-  implied : (a b : Bool) → IsTrue (not a || b) → IsTrue a → IsTrue b
-  implied true b h k = h
-  implied false b h k = absurd cc
 
   module _ (room : Bool) (X : Lang A) (x : Apart X) where
     many_unclosed : (Y : Lang A) (e : Bool) → ((f : Forest Label A) (r : List A) → Y f → (IsTrue e → Unclosed r) → Unclosed (yield f ++ r)) → (f : Forest Label A) (r : List A) → Many Y f → Unclosed r → Unclosed (yield f ++ r)
@@ -137,9 +119,9 @@ module _ {A : Type 0} (kind : A → Kind) where
         ap (λ z. begins kind is_closing (yield z ++ r)) (e ∙ ap (λ z. join z i) c) ∙ ap (λ z. nat_eq z (code K.RParen) || nat_eq z (code K.RBracket) || nat_eq z (code K.RBrace)) (eqb-true (code (kind a)) (code q) m) ∙ not_true (is_closing q) d
     rule_unclosed (then a b) d f r (g, i, e, m, y) k =
         ap (λ z. begins kind is_closing (yield z ++ r)) e ∙ ap (begins kind is_closing) (yield_join_more g i r)
-        ∙ rule_unclosed a (and_left (opens a) _ d) g (yield i ++ r) m (λ ea. rule_unclosed b (implied (can_be_empty a) (opens b) (and_right (opens a) _ d) ea) i r y (λ eb. k (and_true (can_be_empty a) (can_be_empty b) ea eb)))
-    rule_unclosed (either a b) d f r (inl m) k = rule_unclosed a (and_left (opens a) _ d) f r m (λ e. k (or_true_left (can_be_empty a) (can_be_empty b) e))
-    rule_unclosed (either a b) d f r (inr m) k = rule_unclosed b (and_right (opens a) _ d) f r m (λ e. k (or_true (can_be_empty a) (can_be_empty b) e))
+        ∙ rule_unclosed a (and_left (opens a) _ d) g (yield i ++ r) m (λ ea. rule_unclosed b (implied (can_be_empty a) (opens b) (and_right (opens a) _ d) ea) i r y (λ eb. k (and_both (can_be_empty a) (can_be_empty b) ea eb)))
+    rule_unclosed (either a b) d f r (inl m) k = rule_unclosed a (and_left (opens a) _ d) f r m (λ e. k (or_left_true (can_be_empty a) (can_be_empty b) e))
+    rule_unclosed (either a b) d f r (inr m) k = rule_unclosed b (and_right (opens a) _ d) f r m (λ e. k (or_right_true (can_be_empty a) (can_be_empty b) e))
     rule_unclosed (star a) d f r m k = many_unclosed (means kind room X a) (can_be_empty a) (λ f r m k. rule_unclosed a d f r m k) f r m (k refl)
     rule_unclosed (node l a) d f r (g, e, m) k = ap (λ z. begins kind is_closing (yield z ++ r)) e ∙ ap (λ z. begins kind is_closing (z ++ r)) (append-nil (yield g)) ∙ rule_unclosed a d g r m k
     rule_unclosed (tail s a b c) d f r m k = absurd cc
@@ -160,9 +142,9 @@ module _ {A : Type 0} (kind : A → Kind) where
     rule_seen (nested q b) d f g r (o, (u, i, e, (a, c, m), y)) k = subst (λ z. Seen (join z g) r) (sym (e ∙ ap (λ z. join z i) c)) refl
     rule_seen (then a b) d f g r (u, v, e, m, y) k =
         subst (λ z. Seen z r) (sym (ap (λ z. join z g) e ∙ join_assoc u v g))
-        (rule_seen a (and_left (tidy a) _ d) u (join v g) r m (λ ea. rule_seen b (and_right (tidy a) _ d) v g r y (λ eb. k (and_true (can_be_empty a) (can_be_empty b) ea eb))))
-    rule_seen (either a b) d f g r (inl m) k = rule_seen a (and_left (tidy a) _ d) f g r m (λ e. k (or_true_left (can_be_empty a) (can_be_empty b) e))
-    rule_seen (either a b) d f g r (inr m) k = rule_seen b (and_right (tidy a) _ d) f g r m (λ e. k (or_true (can_be_empty a) (can_be_empty b) e))
+        (rule_seen a (and_left (tidy a) _ d) u (join v g) r m (λ ea. rule_seen b (and_right (tidy a) _ d) v g r y (λ eb. k (and_both (can_be_empty a) (can_be_empty b) ea eb))))
+    rule_seen (either a b) d f g r (inl m) k = rule_seen a (and_left (tidy a) _ d) f g r m (λ e. k (or_left_true (can_be_empty a) (can_be_empty b) e))
+    rule_seen (either a b) d f g r (inr m) k = rule_seen b (and_right (tidy a) _ d) f g r m (λ e. k (or_right_true (can_be_empty a) (can_be_empty b) e))
     rule_seen (star a) d f g r m k = many_seen (means kind room X a) (can_be_empty a) (λ f g r m k. rule_seen a d f g r m k) f g r m (k refl)
     rule_seen (node l a) d f g r (u, e, m) k =
         let d1 = and_right (tidy a) _ d in
@@ -206,13 +188,13 @@ module _ {A : Type 0} (kind : A → Kind) where
     rule_even (leaf_of p) d f g r (a, e, m) k v = subst (λ z. Even (join z g) r) (sym e) (leaf_even a g r (comma_or p a g r m k (apart p (is K.Comma)) refl) v)
     rule_even (nested q b) d f g r (o, (u, i, e, (a, c, m), y)) k v = subst (λ z. Even (join z g) r) (sym (e ∙ ap (λ z. join z i) c))
         (leaf_even a (join i g) r (inl (ap (λ z. nat_eq z (code K.Comma)) (eqb-true (code (kind a)) (code q) m) ∙ not_true (is K.Comma q) (and_left _ _ d)))
-        (rule_even b (and_right (not (is K.Comma q)) _ d) i g r y (λ h. k (or_true (is K.Comma q) (ends_in_comma b) h)) v))
+        (rule_even b (and_right (not (is K.Comma q)) _ d) i g r y (λ h. k (or_right_true (is K.Comma q) (ends_in_comma b) h)) v))
     rule_even (then a b) d f g r (u, w, e, m, y) k v = subst (λ z. Even z r) (sym (ap (λ z. join z g) e ∙ join_assoc u w g))
         (rule_even a (and_left (tidy a) _ d) u (join w g) r m
-        (λ ea. rule_seen b (and_right (tidy a) _ d) w g r y (λ eb. k (or_true (ends_in_comma b) _ (and_true (can_be_empty b) (ends_in_comma a) eb ea))))
-        (rule_even b (and_right (tidy a) _ d) w g r y (λ eb. k (or_true_left (ends_in_comma b) _ eb)) v))
-    rule_even (either a b) d f g r (inl m) k v = rule_even a (and_left (tidy a) _ d) f g r m (λ e. k (or_true_left (ends_in_comma a) (ends_in_comma b) e)) v
-    rule_even (either a b) d f g r (inr m) k v = rule_even b (and_right (tidy a) _ d) f g r m (λ e. k (or_true (ends_in_comma a) (ends_in_comma b) e)) v
+        (λ ea. rule_seen b (and_right (tidy a) _ d) w g r y (λ eb. k (or_right_true (ends_in_comma b) _ (and_both (can_be_empty b) (ends_in_comma a) eb ea))))
+        (rule_even b (and_right (tidy a) _ d) w g r y (λ eb. k (or_left_true (ends_in_comma b) _ eb)) v))
+    rule_even (either a b) d f g r (inl m) k v = rule_even a (and_left (tidy a) _ d) f g r m (λ e. k (or_left_true (ends_in_comma a) (ends_in_comma b) e)) v
+    rule_even (either a b) d f g r (inr m) k v = rule_even b (and_right (tidy a) _ d) f g r m (λ e. k (or_right_true (ends_in_comma a) (ends_in_comma b) e)) v
     rule_even (star a) d f g r m k v = many_even (means kind room X a) (ends_in_comma a) (can_be_empty a) (λ f g r m k. rule_seen a d f g r m k) (λ f g r m k v. rule_even a d f g r m k v) f g r m k v
     rule_even (node l a) d f g r (u, e, m) k v =
         let d1 = and_right (tidy a) _ d in

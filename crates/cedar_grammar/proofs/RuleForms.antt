@@ -1,5 +1,5 @@
 -- The written forms and the forms that are read have the same languages.
-use Rattle.std.specs.Prelude.{◌≡◌, ℕ, zero, suc, Bool, true, false, ◌&&◌, not, IsTrue}
+use Rattle.std.specs.Prelude.{◌≡◌, ℕ, zero, suc, Bool, true, false, ◌&&◌, not}
 use Rattle.std.proofs.Common.{refl, sym, ap, ◌∙◌, inl, inr}
 use Rattle.cedar_grammar.specs.declared.kind.Kind.{Kind}
 use Rattle.cedar_grammar.specs.declared.kind.Kind.TheVariants as K
@@ -13,6 +13,7 @@ use Rattle.cedar_grammar.specs.Reader.Regroup.{gather}
 use Rattle.cedar_grammar.specs.Reader.Rules.{Rule, never, empty, inner, leaf_of, nested, then, either, star, tail, node, shaped, items, entity, reference, core}
 use Rattle.cedar_grammar.proofs.RuleMeanings.{TailTo, Tail, Shaped, Reference, means}
 use Rattle.cedar_grammar.proofs.ReadingLaws.{join_none, join_assoc}
+use Rattle.cedar_grammar.proofs.Booleans.{and_both}
 
 module _ {A : Type 0} where
   abbrev pub Inside : Lang A → Lang A → Type 0
@@ -151,10 +152,6 @@ module _ {A : Type 0} (kind : A → Kind) where
     reference_read f (g, e, inl (i, t, d, (w, q, (a, c, v)), inl (n, s))) = rw (e, d, q) (ways_read w (a, c, within_at is_variable is_ident refl (kind a) v) n t s)
     reference_read f (g, e, inl (i, t, d, (w, q, x), inr s)) = rw (e, d, q, s) (inl (branch L.name (branch L.ident w none) none, refl, (branch L.ident w none, refl, (w, refl, x))))
     reference_read f (g, e, inr (i, t, d, (w, q, (a, c, v)), (n, s))) = rw (e, d, q) (ways_read w (a, c, and_left (is_ident (kind a)) _ v) n t s)
-
-  and_both : (a b : Bool) → IsTrue a → IsTrue b → IsTrue (a && b)
-  and_both true b h k = k
-  and_both false b h k = absurd cc
 
   one_of_two : (C : Lang A) (g h : Forest Label A) → Ident kind g → Ways C h → Flat C (join g h)
   one_of_two C g h (w, q, (a, c, v)) t = go (is_variable (kind a)) refl

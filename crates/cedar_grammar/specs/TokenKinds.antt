@@ -3,6 +3,7 @@ use Rattle.std.specs.Prelude.{ℕ, ◌==◌, List, [], ◌∷◌, if◌then◌el
 use Rattle.std.specs.Str.{bytes_eq}
 use Rattle.std.specs.Char.{is_ascii_digit}
 use Rattle.cedar_grammar.specs.declared.kind.Kind.{Kind}
+use Rattle.cedar_tokens.specs.Bytes.{quote}
 
 -- a text and the kind of the token that it is
 pub record Fixed : Type 0 where
@@ -62,7 +63,7 @@ fixed_tokens =
 -- of the other tokens a string begins with a quote, a number with a digit, and an identifier with neither
 abbrev pub other_kind : List ℕ → Kind
 other_kind [] = Kind.Identifier
-other_kind (b ∷ bs) = if b == 34 then Kind.Str else (if is_ascii_digit b then Kind.Number else Kind.Identifier)
+other_kind (b ∷ bs) = if b == quote then Kind.Str else (if is_ascii_digit b then Kind.Number else Kind.Identifier)
 
 -- the kind of the first token of the list that has this text
 abbrev pub kind_among : List Fixed → List ℕ → Kind

@@ -13,8 +13,8 @@ use Rattle.cedar_layout.specs.declared.layout.Document.TheFolds.{fold-roll-Docum
 use Rattle.cedar_layout.specs.declared.layout.print.Pending as printed
 use Rattle.cedar_layout.specs.declared.layout.measure.Pending as measured
 use Rattle.cedar_layout.specs.Nodes.{nodes, nodes_step}
-use Rattle.cedar_layout.specs.Measuring.{nodes_of_all, nodes_of_item, nodes_to_take, turns_of_item, turns}
-use Rattle.cedar_layout.specs.Printing.{nodes_to_print}
+use Rattle.cedar_layout.specs.Inside.Measuring.{nodes_of_all, nodes_of_item, nodes_to_take, turns_of_item, turns}
+use Rattle.cedar_layout.specs.Inside.Printing.{nodes_to_print}
 
 pub nodes_of_all-push : (ds : List Document) (d : Document) → nodes_of_all (ds ++ d ∷ []) ≡ nodes_of_all ds + nodes d
 nodes_of_all-push ds d = ap sum (map-append nodes ds (d ∷ [])) ∙ sum_by_push (λ n. n) (map nodes ds) (nodes d)

@@ -11,7 +11,7 @@ use Rattle.cedar_tokens.specs.Places.{InOrderFrom}
 use Rattle.cedar_tokens.specs.declared.token.Span.{Span}
 use Rattle.cedar_tokens.specs.declared.token.WrappedToken.{WrappedToken}
 use Rattle.cedar_layout.specs.Lookups.{AreInOrder}
-use Rattle.cedar_layout.specs.Halving.{edge_of}
+use Rattle.cedar_layout.specs.Inside.Halving.{edge_of}
 use Rattle.cedar_layout.specs.declared.utils.lookups.Edge.{Edge}
 use Rattle.cedar_layout.specs.declared.utils.lookups.Edge.TheVariants.{Start, End}
 

@@ -2,7 +2,7 @@
 use Rattle.std.proofs.Common.{◌≡◌, ℕ, ◌+◌, ◌^◌, ◌<◌, Bool, true, false, not, ◌||◌, ◌&&◌, nat_le, List, [], ◌∷◌, ◌++◌, refl, sym, ap, ◌∙◌, arith, append_assoc}
 use Rattle.std.proofs.lemmas.Bool.Decides.{nat_tests}
 use Rattle.cedar_layout.specs.Layout.{Doc, nil, text_then, line_then, line_or_nil_then, hard_then, nest_then, group_then, ◌·◌, Atom, word, space_or_break, nothing_or_break, must_break, atoms, columns, flat_columns, has_hard, Piece, written, space, nothing, broken, indented, column_after}
-use Rattle.cedar_layout.specs.Computed.{tail_then, fits, laid, capped}
+use Rattle.cedar_layout.specs.Inside.Computed.{tail_then, fits, laid, capped}
 use Rattle.cedar_layout.proofs.Values.{atoms-dot}
 
 pub tail_then-append : (xs ys : List Atom) (t : ℕ) → tail_then (xs ++ ys) t ≡ tail_then xs (tail_then ys t)

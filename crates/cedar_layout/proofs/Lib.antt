@@ -12,7 +12,7 @@ pub mod Measuring
 pub mod Printing
 pub mod Releasing
 pub mod Halving
-pub mod Handing
+pub mod HandedOut
 pub mod Ranges
 pub mod Commented
 pub mod Seeking

@@ -8,8 +8,8 @@ use Rattle.cedar_layout.specs.declared.layout.measure.Measures.{Measures}
 use Rattle.cedar_layout.specs.declared.layout.measure.Pending.{Pending}
 use Rattle.cedar_layout.specs.Layout.{Doc, nil, text_then, line_then, line_or_nil_then, hard_then, nest_then, group_then, ◌·◌, text, nest, group, Atom, atoms, columns, flat_columns, has_hard}
 use Rattle.cedar_layout.specs.Value.{doc_of, docs_of}
-use Rattle.cedar_layout.specs.Computed.{tail_then, capped}
-use Rattle.cedar_layout.specs.Measuring.{noted, all_notes, measured, note_of, before_group, Item, whole, start_of_group, item, items_of, notes_to_come}
+use Rattle.cedar_layout.specs.Inside.Computed.{tail_then, capped}
+use Rattle.cedar_layout.specs.Inside.Measuring.{noted, all_notes, measured, note_of, before_group, Item, whole, start_of_group, item, items_of, notes_to_come}
 use Rattle.cedar_layout.proofs.Values.{atoms-dot, docs_of-push}
 use Rattle.cedar_layout.proofs.Contents.{has_hard-dot, flat_columns-append}
 use Rattle.cedar_layout.proofs.Laid.{tail_then-dot, tail_then-capped}

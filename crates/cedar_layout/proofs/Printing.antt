@@ -8,9 +8,9 @@ use Rattle.cedar_layout.specs.declared.layout.Document.{Document}
 use Rattle.cedar_layout.specs.declared.layout.measure.Note.{Note}
 use Rattle.cedar_layout.specs.Layout.{Doc, nil, ◌·◌, text, line, line_or_nil, hard, nest, group, atoms, flat_columns, has_hard, Piece, written, space, nothing, broken, indented, column_after, print}
 use Rattle.cedar_layout.specs.Value.{doc_of, docs_of}
-use Rattle.cedar_layout.specs.Computed.{tail_then, fits, laid, capped}
-use Rattle.cedar_layout.specs.Measuring.{noted, all_notes}
-use Rattle.cedar_layout.specs.Printing.{Todo, tail_of, laid_all, notes_of, PrintsSame}
+use Rattle.cedar_layout.specs.Inside.Computed.{tail_then, fits, laid, capped}
+use Rattle.cedar_layout.specs.Inside.Measuring.{noted, all_notes}
+use Rattle.cedar_layout.specs.Inside.Printing.{Todo, tail_of, laid_all, notes_of, PrintsSame}
 use Rattle.cedar_layout.proofs.Values.{docs_of-push}
 use Rattle.cedar_layout.proofs.Laid.{laid-capped, column_after-capped, laid-dot, column_after-append}
 use Rattle.cedar_layout.proofs.Measuring.{all_notes-dot}

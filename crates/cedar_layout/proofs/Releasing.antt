@@ -12,8 +12,8 @@ use Rattle.cedar_layout.specs.declared.layout.Document.TheVariants.{Nil as Nil',
 use Rattle.std.specs.Borrow.{Bor}
 use Rattle.cedar_layout.specs.declared.layout.Document.TheFolds.{fold-roll-Document, ind-Document, map-Document}
 use Rattle.cedar_layout.specs.Nodes.{nodes, nodes_step}
-use Rattle.cedar_layout.specs.Measuring.{nodes_of_all}
-use Rattle.cedar_layout.specs.Releasing.{first_of, nested, nested_step, nested_first, work}
+use Rattle.cedar_layout.specs.Inside.Measuring.{nodes_of_all}
+use Rattle.cedar_layout.specs.Inside.Releasing.{first_of, nested, nested_step, nested_first, work}
 use Rattle.cedar_layout.proofs.Counts.{nodes_of_all-push, nodes_seq}
 
 abbrev IsWithin : Document → Type 0

@@ -4,7 +4,7 @@ use Rattle.std.specs.Prelude.{codes}
 use Rattle.std.specs.List.{flat_map}
 use Rattle.unicode_width.proofs.Computing.{unicode_width}
 use Rattle.cedar_layout.specs.Layout.{Doc, ◌·◌, text, line, hard, nest, group, columns, print, IsLayoutAt}
-use Rattle.cedar_layout.specs.Computed.{laid}
+use Rattle.cedar_layout.specs.Inside.Computed.{laid}
 use Rattle.cedar_layout.proofs.Rule.{laid_is_layout}
 
 abbrev shown : ℕ → Doc → List ℕ

@@ -3,7 +3,7 @@ use Rattle.std.proofs.Common.{◌≡◌, ℕ, ◌+◌, ◌≤◌, Bool, true, fa
 use Rattle.std.specs.List.{AllByRecursion, flat_map}
 use Rattle.std.proofs.lemmas.Bool.{false≢true, leb-true, le-leb}
 use Rattle.cedar_layout.specs.Layout.{Doc, nil, text_then, line_then, line_or_nil_then, hard_then, nest_then, group_then, Atom, word, space_or_break, nothing_or_break, must_break, atoms, columns, flat_columns, has_hard, Choice, Piece, written, space, nothing, broken, print, indented, pieces, column_after, Place, places, tail, columns_of_all, Fits, FollowsRule, IsLayoutAt, IsTheLayoutAt}
-use Rattle.cedar_layout.specs.Computed.{tail_then, fits, laid}
+use Rattle.cedar_layout.specs.Inside.Computed.{tail_then, fits, laid}
 
 -- ---- tails
 

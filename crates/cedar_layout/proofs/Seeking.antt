@@ -16,7 +16,7 @@ use Rattle.cedar_tokens.proofs.Heads.{class, class-blank, word, number, string, 
 use Rattle.cedar_tokens.proofs.FirstUnit.{comment_parts, only_blank}
 use Rattle.cedar_tokens.proofs.Longest.{is_token-string}
 use Rattle.cedar_layout.specs.Cleaning.{IsString, IsKept, last_or, piece_lines}
-use Rattle.cedar_layout.specs.Seeking.{IsFirstLine, IsSought}
+use Rattle.cedar_layout.specs.Inside.Seeking.{IsFirstLine, IsSought}
 use Rattle.cedar_layout.specs.declared.utils.cleaning.Sought.{Sought}
 use Rattle.cedar_layout.specs.declared.utils.cleaning.Sought.TheVariants.{Comment as SoughtComment, String as SoughtString, Either}
 use Rattle.cedar_layout.proofs.Halving.{none_passes}

@@ -2,6 +2,7 @@
 use Rattle.std.specs.Prelude.{◌≡◌, ℕ, suc, ◌+◌, ◌-◌, ◌^◌, ◌≤◌, min, Bool, true, false, ◌||◌, if◌then◌else◌, ◌⊎◌, ◌↔◌, IsTrue, IsFalse, List, [], ◌∷◌, ◌++◌, ⊤, ℤ, pos, negsuc, chars, replicate}
 use Rattle.std.specs.List.{AllByRecursion, flat_map}
 use Rattle.unicode_width.specs.Width.{str_width}
+use Rattle.cedar_tokens.specs.Bytes as byte
 
 -- ---- documents
 
@@ -97,9 +98,9 @@ pub data Piece : Type 0 where
 
 abbrev pub print : Piece → List ℕ
 print (written s) = s
-print space = 32 ∷ []
+print space = byte.space ∷ []
 print nothing = []
-print (broken i) = 10 ∷ replicate i 32
+print (broken i) = byte.line_feed ∷ replicate i byte.space
 
 -- an indentation and a nesting: it stops at 0 below and at the greatest `usize` above
 abbrev pub indented : ℕ → ℤ → ℕ

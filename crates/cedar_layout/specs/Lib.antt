@@ -2,12 +2,7 @@ pub mod Layout
 pub mod Value
 pub mod Width
 pub mod Nodes
-pub mod Computed
-pub mod Measuring
-pub mod Printing
-pub mod Releasing
 pub mod Lookups
-pub mod Halving
 pub mod Comments
 pub mod Cleaning
-pub mod Seeking
+pub mod Inside

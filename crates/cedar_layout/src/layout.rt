@@ -1,17 +1,19 @@
 //! Documents, texts with places where they may break, and the layout of a document at a width.
 ghost use Rattle.std.specs.Prelude.{◌≡◌, ◌+◌, ◌*◌, ◌<◌, ◌≤◌, ◌++◌, ℕ, List, false, length, map, take, string_bytes, IfOk, OnOk, OnErr};
 ghost use Rattle.std.specs.List.{flat_map};
-ghost use Rattle.cedar_layout.specs.Layout.{◌·◌, nest, group, atoms, print, Doc, Choice, Piece, AreMadeOf, pieces, text_of_choice, IsChoiceAt, IsTheLayoutAt};
-ghost use Rattle.cedar_layout.specs.Computed.{laid};
+ghost use Rattle.cedar_layout.specs.Layout.{◌·◌, nest, group, print, IsTheLayoutAt};
+ghost use Rattle.cedar_layout.specs.Inside.Computed.{laid};
 ghost use Rattle.cedar_layout.specs.Nodes.{nodes};
 ghost use Rattle.cedar_layout.specs.Value.{doc_of, docs_of, interspersed};
-ghost use Rattle.cedar_layout.specs.Width.{KeepsWidth};
 
 mod measure;
 mod print;
 mod release;
 mod steps;
 
+pub use crate::laws::{
+    every_choice_prints_the_atoms, one_layout_at_a_width, wide_lines_are_broken,
+};
 use crate::layout::release::release_all;
 use std::alloc::{AllocError, Global};
 use std::marker::Brand;
@@ -239,18 +241,3 @@ fn measure_and_print<L: Ledger>(
     let notes = measure::measure(alloc, doc, steps)?;
     print::print_document(alloc, doc, width, notes, out, steps)
 }
-
-/// Under every choice each piece is made of the atom at its place: a text, or the flat or broken form of a line.
-pub fn every_choice_prints_the_atoms()
-    ensures { (d : Doc) (c : Choice d) → (ps : List Piece) × AreMadeOf ps (atoms d) × (text_of_choice d c ≡ flat_map print ps) }
-{}
-
-/// In the layout at a width no line that is wider holds a `Line` or a `LineOrNil` that is laid flat.
-pub fn wide_lines_are_broken()
-    ensures { (w : ℕ) (d : Doc) (c : Choice d) → IsChoiceAt w d c → KeepsWidth w 0 (pieces d c false 0) }
-{}
-
-/// At each width exactly one choice follows the rule at each group.
-pub fn one_layout_at_a_width()
-    ensures { (w : ℕ) (d : Doc) → (c : Choice d) × IsChoiceAt w d c × ((b : Choice d) → IsChoiceAt w d b → b ≡ c) }
-{}

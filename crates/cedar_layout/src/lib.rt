@@ -2,5 +2,6 @@
 //! of a layout.
 #![tactic(auto)]
 
+pub mod laws;
 pub mod layout;
 pub mod utils;

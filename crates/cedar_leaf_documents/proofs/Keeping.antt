@@ -1,3 +1,4 @@
+-- Tokens that keep their texts and places, whatever comments are taken from them.
 use Rattle.std.proofs.Common.{◌≡◌, ℕ, List, [], ◌∷◌, ◌++◌, map, take, drop, length, Option, Some, None, refl, sym, ap, ◌∙◌, Bool, true, false}
 use Rattle.std.proofs.lemmas.List.{map-append}
 use Rattle.std.specs.Prelude.{MatchOption, if◌then◌else◌, Result, Ok, Err, IfOk, OnErr}

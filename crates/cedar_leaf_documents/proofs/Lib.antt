@@ -1,7 +1,7 @@
 pub mod Keeping
 pub mod Found
 pub mod Flat
-pub mod Focus
+pub mod LookedUp
 pub mod Marks
 pub mod Opened
 pub mod PathWords

@@ -1,2 +1,1 @@
-pub mod ReadingItems
-pub mod ReadingExprs
+pub mod Inside

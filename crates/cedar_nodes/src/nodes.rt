@@ -1,9 +1,9 @@
 //! Nodes made of their parts. Where a part was read just now, its refusal is passed on.
 ghost use Rattle.std.specs.Prelude.{◌≡◌, MatchResult, box_value, codes};
-ghost use Rattle.cedar_reading.specs.Reading.{PassesOn};
-ghost use Rattle.cedar_reading.specs.ReadingParts.{Makes, IsOrExprOf};
-ghost use Rattle.cedar_nodes.specs.ReadingItems.{IsListOf};
-ghost use Rattle.cedar_nodes.specs.ReadingExprs.{end_of_last, IsOrOf, IsAndOf, IsAddOf, IsMultOf, IsMemberOf, IsUnaryOf, IsLoneRelationOf, IsComparedOf, IsWordOf, IsTypeTestOf, IsCallOf, IsParensOf, IsRecordOf, IsInitOf, IsIfOf, IsBeside, IsBesideOne, IsTyped, IsUncalled, type_test_end};
+ghost use Rattle.cedar_reading.specs.Inside.Reading.{PassesOn};
+ghost use Rattle.cedar_reading.specs.Inside.ReadingParts.{Makes, IsOrExprOf};
+ghost use Rattle.cedar_nodes.specs.Inside.ReadingItems.{IsListOf};
+ghost use Rattle.cedar_nodes.specs.Inside.ReadingExprs.{end_of_last, IsOrOf, IsAndOf, IsAddOf, IsMultOf, IsMemberOf, IsUnaryOf, IsLoneRelationOf, IsComparedOf, IsWordOf, IsTypeTestOf, IsCallOf, IsParensOf, IsRecordOf, IsInitOf, IsIfOf, IsBeside, IsBesideOne, IsTyped, IsUncalled, type_test_end};
 ghost use Rattle.cedar_reading.specs.declared.reading.Refusal.TheVariants.{OutOfMemory};
 
 use cedar_reading::accesses::accesses_end;

@@ -20,7 +20,7 @@ use Rattle.cedar_tokens.proofs.Scanning.{scan_more, empty_begins_none}
 use Rattle.cedar_tokens.proofs.Streaming.{no_token}
 use Rattle.cedar_text_laws.proofs.Scanned.{scans_append}
 use Rattle.cedar_pieces.specs.Pieces.{is_semicolon, HaveNoFeed, BeginsNoBlank, IsFirstPiece, HasNoPiece}
-use Rattle.cedar_pieces.specs.Steps.{EndsInSemicolon, EndsLine}
+use Rattle.cedar_pieces.specs.Inside.Steps.{EndsInSemicolon, EndsLine}
 
 -- the units before the byte at are walked over
 pub record Walked (text : List ℕ) (at : ℕ) (units : List (List ℕ)) : Type 0 where

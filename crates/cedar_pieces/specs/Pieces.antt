@@ -4,17 +4,18 @@ use Rattle.std.specs.List.{list_any, sum_by}
 use Rattle.std.specs.Str.{bytes_eq}
 use Rattle.cedar_tokens.specs.Units.{is_token, IsToken, IsFirstUnit, BeginsNoUnit}
 use Rattle.cedar_tokens.specs.Split.{Scans}
+use Rattle.cedar_tokens.specs.Bytes.{line_feed}
 
 abbrev pub is_semicolon : List ℕ → Bool
 is_semicolon u = bytes_eq (codes ";") u
 
 -- no line feed stands in these units
 abbrev pub HaveNoFeed : List (List ℕ) → Type 0
-HaveNoFeed units = list_any (λ u. list_any (λ b. b == 10) u) units ≡ false
+HaveNoFeed units = list_any (λ u. list_any (λ b. b == line_feed) u) units ≡ false
 
 -- the last unit is the only line feed
 abbrev pub EndInFeed : List (List ℕ) → Type 0
-EndInFeed units = (front : List (List ℕ)) × (units ≡ front ++ ((10 ∷ []) ∷ [])) × HaveNoFeed front
+EndInFeed units = (front : List (List ℕ)) × (units ≡ front ++ ((line_feed ∷ []) ∷ [])) × HaveNoFeed front
 
 -- a token begins here, or no unit: the text ends here, or has its fault here
 abbrev pub BeginsNoBlank : List ℕ → Type 0

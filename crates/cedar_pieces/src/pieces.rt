@@ -2,7 +2,7 @@
 ghost use Rattle.std.specs.Prelude.{◌≡◌, ◌≤◌, ◌<◌, length, MatchOption, IfSome};
 ghost use Rattle.std.specs.Str.{IsCharBoundary};
 ghost use Rattle.cedar_pieces.specs.Pieces.{IsFirstPiece, HasNoPiece};
-ghost use Rattle.cedar_pieces.specs.Steps.{EndsInSemicolon, EndsLine};
+ghost use Rattle.cedar_pieces.specs.Inside.Steps.{EndsInSemicolon, EndsLine};
 
 use cedar_tokens::lexer::{UnitKind, first_unit};
 

@@ -8,14 +8,14 @@ use Rattle.cedar_layout.specs.Lookups.{Shown, emptied}
 use Rattle.cedar_layout.specs.Value.{doc_of, docs_of}
 use Rattle.cedar_layout.specs.declared.layout.Document.{Document}
 use Rattle.cedar_layout.proofs.Values.{docs_of-push, dot_assoc, dot-nil}
-use Rattle.cedar_tree.specs.Erased.{Erased, annotation_trees, cond_trees}
+use Rattle.cedar_tree.specs.Erased.{Erased, annotation_trees, cond_trees, annotation_parts, cond_parts}
 use Rattle.cedar_tree.specs.declared.tree.Annotation.{Annotation}
 use Rattle.cedar_tree.specs.declared.tree.Cond.{Cond}
 use Rattle.cedar_tree.specs.declared.tree.Node.{Node}
 use Rattle.cedar_canonical.specs.Leaves.{part_map}
 use Rattle.cedar_canonical.specs.Table.{between_conds}
 use Rattle.cedar_leaf_documents.specs.NodeDocuments.{IsAt, as_leaf, kind_of_shown, nodes_of}
-use Rattle.cedar_policy_documents.specs.PartDocuments.{IsPartOf, annotation_parts, cond_parts, part_document}
+use Rattle.cedar_policy_documents.specs.PartDocuments.{IsPartOf, part_document}
 use Rattle.cedar_leaf_documents.proofs.Opened.{opened, part_at}
 
 -- a document that is made, and the tokens it takes the comments from

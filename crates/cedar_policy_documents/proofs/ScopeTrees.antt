@@ -11,7 +11,7 @@ use Rattle.cedar_layout.specs.Comments.{lead_of, trail_of}
 use Rattle.cedar_layout.specs.Layout.{Doc, ◌·◌, hard, nil, text}
 use Rattle.cedar_layout.specs.Lookups.{Parts, Shown, emptied}
 use Rattle.cedar_layout.proofs.Values.{dot-nil, dot_assoc}
-use Rattle.cedar_tree.specs.Erased.{Erased, add_parts, cond_trees, operator_parts, path_parts, relop_text, type_parts}
+use Rattle.cedar_tree.specs.Erased.{Erased, add_parts, cond_trees, operator_parts, path_parts, relop_text, type_parts, variable_parts}
 use Rattle.cedar_tree.specs.declared.tree.Cond.{Cond}
 use Rattle.cedar_tree.specs.declared.tree.Expr as Expr
 use Rattle.cedar_tree.specs.declared.tree.Name.{Name}
@@ -21,7 +21,7 @@ use Rattle.cedar_tree.specs.declared.tree.VariableDef.{VariableDef}
 use Rattle.cedar_leaf_documents.specs.Found.{has_its_tokens}
 use Rattle.cedar_canonical.specs.Leaves.{part_map}
 use Rattle.cedar_leaf_documents.specs.NodeDocuments.{IsAt, IsNodeOf, as_leaf, end_of_tokens, kind_of_shown, nodes_of, text_of}
-use Rattle.cedar_policy_documents.specs.PartDocuments.{IsPartOf, compared_document, part_document, variable_parts, variables_document}
+use Rattle.cedar_policy_documents.specs.PartDocuments.{IsPartOf, compared_document, part_document, variables_document}
 use Rattle.cedar_canonical.specs.Table.{C, between_conds, is_bare, lead, tok, trail}
 use Rattle.cedar_canonical.specs.Table.{leaf as leaf_document}
 use Rattle.cedar_leaf_documents.proofs.Opened.{Always, Behind, GivesIf, ends_here, in_turn, opened_leaf, opened_token, opened_tree}

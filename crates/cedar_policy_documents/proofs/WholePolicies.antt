@@ -6,14 +6,13 @@ use Rattle.cedar_tokens.specs.declared.token.Span.{Span}
 use Rattle.cedar_grammar.specs.Trees.{Label, Forest, none, leaf, branch, join}
 use Rattle.cedar_grammar.specs.TypedTrees.{Clause, annotations, annotations_more, conds, conds_more, no_annotation, no_cond, part_parts}
 use Rattle.cedar_layout.specs.Lookups.{Shown, emptied}
-use Rattle.cedar_tree.specs.Erased.{Erased, annotation_trees, cond_trees, ident_tree, policy_parts, scope_variables, variable_items}
+use Rattle.cedar_tree.specs.Erased.{Erased, annotation_trees, cond_trees, ident_tree, policy_parts, scope_variables, variable_items, annotation_parts, cond_parts}
 use Rattle.cedar_tree.specs.declared.tree.Annotation.{Annotation}
 use Rattle.cedar_tree.specs.declared.tree.Cond.{Cond}
 use Rattle.cedar_tree.specs.declared.tree.Node.{Node}
 use Rattle.cedar_tree.specs.declared.tree.Policy.{Policy}
 use Rattle.cedar_leaf_documents.specs.Found.{has_its_tokens, has_own, starts}
 use Rattle.cedar_leaf_documents.specs.NodeDocuments.{IsAt, end_of_tokens, kind_of_shown, nodes_of}
-use Rattle.cedar_policy_documents.specs.PartDocuments.{annotation_parts, cond_parts}
 use Rattle.cedar_leaf_documents.proofs.Opened.{GivesIf}
 use Rattle.cedar_policy_documents.proofs.PolicyParts.{behind_token}
 

@@ -3,14 +3,11 @@ use Rattle.std.specs.Prelude.{◌≡◌, ℤ, List, ◌∷◌, ◌++◌, Option,
 use Rattle.cedar_tokens.specs.Listing.{token_value}
 use Rattle.cedar_tokens.specs.declared.token.Span.{Span}
 use Rattle.cedar_tokens.specs.declared.token.WrappedToken.{WrappedToken}
-use Rattle.cedar_grammar.specs.Trees.{Label, leaf, none}
 use Rattle.cedar_grammar.specs.TypedTrees.{Tree, PartKind, Clause, part_parts, tree_map, part_yield, add, variable, expr}
 use Rattle.cedar_layout.specs.Layout.{Doc}
 use Rattle.cedar_layout.specs.Lookups.{Shown}
 use Rattle.cedar_layout.specs.declared.layout.Document.{Document}
-use Rattle.cedar_tree.specs.Erased.{Erased, ident_tree, value_parts, type_parts, operator_parts, expr_parts, node}
-use Rattle.cedar_tree.specs.declared.tree.Annotation.{Annotation}
-use Rattle.cedar_tree.specs.declared.tree.Cond.{Cond}
+use Rattle.cedar_tree.specs.Erased.{Erased, variable_parts}
 use Rattle.cedar_tree.specs.declared.tree.Name.{Name}
 use Rattle.cedar_tree.specs.declared.tree.Node.{Node}
 use Rattle.cedar_tree.specs.declared.tree.Policy.{Policy}
@@ -23,16 +20,6 @@ use Rattle.cedar_leaf_documents.specs.NodeDocuments.{text_of, kind_of_shown, as_
 -- a part of a policy outside expressions with these parts is the tree of these tokens
 abbrev pub IsPartOf : {k : PartKind} → Erased → Clause Shown k → Type 0
 IsPartOf inner t = inner ≡ nodes_of (part_parts kind_of_shown t)
-
--- the parts of the nodes that policies hold
-abbrev pub variable_parts : VariableDef → Erased
-variable_parts v = ident_tree v.variable (type_parts v.entity_type (operator_parts v.ineq))
-
-abbrev pub annotation_parts : Annotation → Erased
-annotation_parts a = leaf (codes "@") (ident_tree a.key (value_parts a.value))
-
-abbrev pub cond_parts : Cond → Erased
-cond_parts c = ident_tree c.cond (leaf (codes "{") (node Label.expr c.expr.span (expr_parts c.expr.inner) (leaf (codes "}") none)))
 
 -- where a type stands, or the word before it where there is no type
 abbrev span_of_type : Option (Node Name) → Span → Span

@@ -7,7 +7,7 @@ ghost use Rattle.cedar_tokens.specs.Listing.{token_value};
 ghost use Rattle.cedar_grammar.specs.Trees.{none};
 ghost use Rattle.cedar_grammar.specs.TypedTrees.{Clause, Tree, part_yield, yield};
 ghost use Rattle.cedar_grammar.specs.TypedTrees as kind;
-ghost use Rattle.cedar_tree.specs.Erased.{cond_trees, expr_parts};
+ghost use Rattle.cedar_tree.specs.Erased.{cond_trees, expr_parts, cond_parts};
 ghost use Rattle.cedar_layout.specs.Comments.{lead_of, trail_of};
 ghost use Rattle.cedar_layout.specs.Layout.{group, line, nest};
 ghost use Rattle.cedar_layout.specs.Lookups.{AreInOrder, Shown, comment_parts, Parts};
@@ -16,7 +16,7 @@ ghost use Rattle.cedar_leaf_documents.specs.Found.{Finds, has_its_tokens, places
 ghost use Rattle.cedar_leaf_documents.specs.Kept.{KeepsTokens};
 ghost use Rattle.cedar_canonical.specs.Leaves.{part_map};
 ghost use Rattle.cedar_leaf_documents.specs.NodeDocuments.{IsAt, IsNodeOf, Shows, ShowsBehind, as_leaf, text_of};
-ghost use Rattle.cedar_policy_documents.specs.PartDocuments.{IsPartOf, body_document, cond_parts, part_document};
+ghost use Rattle.cedar_policy_documents.specs.PartDocuments.{IsPartOf, body_document, part_document};
 ghost use Rattle.cedar_canonical.specs.Table as table;
 
 use crate::comments::{lead, trail};

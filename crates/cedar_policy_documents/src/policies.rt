@@ -8,13 +8,13 @@ ghost use Rattle.cedar_tokens.specs.Listing.{token_value};
 ghost use Rattle.cedar_grammar.specs.Trees.{none};
 ghost use Rattle.cedar_grammar.specs.TypedTrees.{Clause, part_yield};
 ghost use Rattle.cedar_grammar.specs.TypedTrees as kind;
-ghost use Rattle.cedar_tree.specs.Erased.{annotation_trees, policy_parts};
+ghost use Rattle.cedar_tree.specs.Erased.{annotation_trees, policy_parts, annotation_parts};
 ghost use Rattle.cedar_layout.specs.Layout.{nil, ◌·◌, group, line};
 ghost use Rattle.cedar_layout.specs.Lookups.{AreInOrder, Shown};
 ghost use Rattle.cedar_leaf_documents.specs.Found.{Finds, has_its_tokens, places, starts};
 ghost use Rattle.cedar_leaf_documents.specs.Kept.{KeepsTokens};
 ghost use Rattle.cedar_leaf_documents.specs.NodeDocuments.{IsAt, Shows, as_leaf, text_of};
-ghost use Rattle.cedar_policy_documents.specs.PartDocuments.{IsPartOf, annotation_parts, part_document};
+ghost use Rattle.cedar_policy_documents.specs.PartDocuments.{IsPartOf, part_document};
 ghost use Rattle.cedar_canonical.specs.Table as table;
 
 use crate::comments::{lead, trail};

@@ -7,7 +7,7 @@ ghost use Rattle.cedar_tokens.specs.Listing.{token_value};
 ghost use Rattle.cedar_grammar.specs.Trees.{none};
 ghost use Rattle.cedar_grammar.specs.TypedTrees.{Clause, Tree, part_yield, yield};
 ghost use Rattle.cedar_grammar.specs.TypedTrees as kind;
-ghost use Rattle.cedar_tree.specs.Erased.{add_parts, operator_parts, path_parts, relop_text, scope_variables, type_parts, variable_items};
+ghost use Rattle.cedar_tree.specs.Erased.{add_parts, operator_parts, path_parts, relop_text, scope_variables, type_parts, variable_items, variable_parts};
 ghost use Rattle.cedar_layout.specs.Comments.{space};
 ghost use Rattle.cedar_layout.specs.Layout.{hard, nil, ◌·◌, group, nest};
 ghost use Rattle.cedar_layout.specs.Lookups.{AreInOrder, Shown};
@@ -16,7 +16,7 @@ ghost use Rattle.cedar_leaf_documents.specs.Found.{Finds, has_its_tokens, places
 ghost use Rattle.cedar_leaf_documents.specs.Kept.{KeepsTokens};
 ghost use Rattle.cedar_canonical.specs.Leaves.{part_map};
 ghost use Rattle.cedar_leaf_documents.specs.NodeDocuments.{IsNodeOf, Shows, ShowsBehind, as_leaf, document, text_of};
-ghost use Rattle.cedar_policy_documents.specs.PartDocuments.{IsPartOf, ShowsScope, compared_document, part_document, scope_document, span_before, variable_parts, variables_document};
+ghost use Rattle.cedar_policy_documents.specs.PartDocuments.{IsPartOf, ShowsScope, compared_document, part_document, scope_document, span_before, variables_document};
 ghost use Rattle.cedar_canonical.specs.Table as table;
 
 use crate::comments::{lead, trail};

@@ -28,7 +28,7 @@ use Rattle.cedar_tokens.specs.declared.token.WrappedToken.{WrappedToken}
 use Rattle.cedar_tree.specs.NodeTrees.{IsTreeOf}
 use Rattle.cedar_tree.specs.declared.tree.Policies.{Policies}
 use Rattle.std.specs.Str.{IsUtf8}
-use Rattle.cedar_policy_formatter.specs.Written.{IsPolicyText, AreJoined, IsParted, IsPlainStream}
+use Rattle.cedar_policy_formatter.specs.Inside.Written.{IsPolicyText, AreJoined, IsParted, IsPlainStream}
 
 pub some_is : {X : Type 0} (P : X → Type 0) (o : Option X) (x : X) → o ≡ Some x → IsSomeAnd o P → P x
 some_is P o x e h = subst (λ z. IsSomeAnd z P) e h

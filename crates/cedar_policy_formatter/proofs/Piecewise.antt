@@ -23,7 +23,7 @@ use Rattle.cedar_pieces.proofs.Prefixes.{through, piece_positive, piece_inside, 
 use Rattle.cedar_pieces.proofs.Accepted.{accepted_join, accepted_empty}
 use Rattle.cedar_pieces.proofs.Refusals.{parts_fit, rest_is_empty, piece_refused, rest_refused}
 use Rattle.cedar_policy_formatter.specs.Refused.{moved, IsPlacedWithin}
-use Rattle.cedar_policy_formatter.specs.Written.{behind_feed}
+use Rattle.cedar_policy_formatter.specs.Inside.Written.{behind_feed}
 use Rattle.cedar_policy_formatter.proofs.PieceOutputs.{outputs_join, outputs_close, closing_output}
 
 -- ---- what is written

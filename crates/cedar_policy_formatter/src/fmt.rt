@@ -14,17 +14,16 @@ ghost use Rattle.cedar_leaf_documents.specs.NodeDocuments.{IsAt, kind_of_shown, 
 ghost use Rattle.cedar_policy_documents.specs.PartDocuments.{IsPartOf};
 ghost use Rattle.cedar_canonical.specs.Output.{closing_text};
 ghost use Rattle.cedar_policy_formatter.specs.Compared.{HaveEqualLists};
-ghost use Rattle.cedar_policy_formatter.specs.Written.{IsPolicyText, AreJoined, IsParted, IsPlainStream, behind_feed};
+ghost use Rattle.cedar_policy_formatter.specs.Inside.Written.{IsPolicyText, AreJoined, IsParted, IsPlainStream, behind_feed};
 ghost use Rattle.cedar_leaf_documents.specs.Kept.{KeepsTokens};
-ghost use Rattle.cedar_policy_formatter.specs.OutputPolicies.{OutputsKeepThePolicies};
 ghost use Rattle.cedar_policy_formatter.specs.Refused.{IsMemory, IsPlacedWithin, RefusesOne, moved};
 ghost use Rattle.cedar_tree.specs.Refusals.{Refuses};
-ghost use Rattle.cedar_policy_formatter.specs.Texts.{IsTextOf, KeepsPolicies, FailsCheck, KeptPoliciesHaveTheSameTokens};
+ghost use Rattle.cedar_policy_formatter.specs.Texts.{IsTextOf, KeepsPolicies, FailsCheck};
 
 use cedar_cst::cst::laws::{
     accepted_is_not_refused, nodes_have_the_plain_texts, tree_is_of_accepted,
 };
-use cedar_cst::cst::{FormatError, Node, Policies, Policy, parse_policies, same_tree};
+use cedar_cst::cst::{FormatError, Node, Policies, Policy, parse_at_once, same_tree};
 use cedar_documents::config::{Config, Context};
 use cedar_documents::doc::Doc;
 pub use cedar_documents::laws::{
@@ -42,6 +41,7 @@ use std::alloc::{AllocError, Global};
 
 mod stream;
 
+pub use crate::laws::{kept_policies_have_the_same_tokens, outputs_keep_the_policies};
 pub use cedar_streams::{ReadFault, Watched, read_text};
 pub use stream::{RunFault, check_stream, format_stream};
 
@@ -75,7 +75,7 @@ pub fn policies_str_to_pretty(
         at = end;
     }
     let rest = &ps[at..];
-    if let Err(refusal) = parse_policies(alloc, rest) {
+    if let Err(refusal) = parse_at_once(alloc, rest) {
         return Err(behind(at, ps.len(), refusal));
     }
     push_closing(at == 0, get_comment(rest), &mut text)?;
@@ -90,7 +90,7 @@ fn format_piece(alloc: Global, ps: &str, config: &Config) -> Result<String, Form
     tree_is_of_accepted();
     nodes_have_the_plain_texts();
     outputs_are_canonical();
-    let tree = parse_policies(alloc, ps)?;
+    let tree = parse_at_once(alloc, ps)?;
     let text = lay_out(alloc, ps, &tree, config)?;
     soundness_check(alloc, text.as_str(), &tree)?;
     Ok(text)
@@ -125,7 +125,7 @@ pub fn soundness_check(alloc: Global, ps: &str, tree: &Policies<'_>) -> Result<(
     ensures { MatchResult result (λ _. IsTextOf ps.now tree.now) (FailsCheck ps.now tree.now) }
 {
     accepted_is_not_refused();
-    match parse_policies(alloc, ps) {
+    match parse_at_once(alloc, ps) {
         Ok(other) => {
             if same_tree(&other, tree) {
                 Ok(())
@@ -161,22 +161,6 @@ pub fn same_layout(alloc: Global, a: &str, b: &str, config: &Config) -> Result<b
     let first = policies_str_to_pretty(alloc, a, config)?;
     let second = policies_str_to_pretty(alloc, b, config)?;
     Ok(first.as_str() == second.as_str())
-}
-
-/// Texts of the same policies have the same tokens, but for trailing commas and leading zeros of numbers. A law: its body
-/// does nothing.
-pub fn kept_policies_have_the_same_tokens()
-    ensures { KeptPoliciesHaveTheSameTokens }
-{}
-
-/// An output of a text is a text of its policies: it is accepted, and its tree is that of the text but for spans. A law: its
-/// body does nothing.
-pub fn outputs_keep_the_policies()
-    ensures { OutputsKeepThePolicies }
-{
-    tree_is_of_accepted();
-    nodes_have_the_plain_texts();
-    outputs_are_canonical();
 }
 
 // The layout of a text with this tree.

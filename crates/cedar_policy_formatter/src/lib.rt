@@ -5,6 +5,7 @@
 #![tactic(auto)]
 
 pub mod fmt;
+pub mod laws;
 
 pub use cedar_cst::cst;
 pub use cedar_cst::cst::FormatError;

@@ -16,9 +16,9 @@ use Rattle.cedar_grammar.specs.Trees.{Label, Forest, none, leaf, branch, yield}
 use Rattle.cedar_grammar.specs.TrailingCommas.{without_trailing, drop_if, closes_next}
 use Rattle.cedar_grammar.proofs.TextKinds.{number_kind}
 use Rattle.cedar_tree.specs.Erased.{Erased}
-use Rattle.cedar_reading.specs.Lexemes.{nodes_of}
+use Rattle.cedar_reading.specs.Inside.Lexemes.{lexeme_nodes}
 use Rattle.cedar_tree.specs.NodeTrees.{is_node, span_of, end_of, spanned}
-use Rattle.cedar_reading.specs.Reading.{kind, IsRight, AreRight, Stands}
+use Rattle.cedar_reading.specs.Inside.Reading.{kind, IsRight, AreRight, Stands}
 use Rattle.cedar_reading.specs.declared.lexeme.Lexeme.{Lexeme}
 
 -- the text of the token of this code, or u where the table has none
@@ -107,19 +107,19 @@ fixed_text t k r e h = own_text t k r e h ∙ sym (text_shown t.text.now k (sym 
 pub kept_leaf : (t : Lexeme) (k : Kind) (f : Forest Label Lexeme) → t.kind ≡ k → is K.Comma k ≡ false → without_trailing kind (leaf t f) ≡ leaf t (without_trailing kind f)
 kept_leaf t k f e h = ap (λ b. drop_if (b && closes_next kind f) (leaf t (without_trailing kind f)) (without_trailing kind f)) (ap (is K.Comma) e ∙ h)
 
-pub nodes_leaf : (t : Lexeme) (k : Kind) (f : Forest Label Lexeme) → t.kind ≡ k → is K.Comma k ≡ false → nodes_of (leaf t f) ≡ leaf (token_value t.text.now) (nodes_of f)
+pub nodes_leaf : (t : Lexeme) (k : Kind) (f : Forest Label Lexeme) → t.kind ≡ k → is K.Comma k ≡ false → lexeme_nodes (leaf t f) ≡ leaf (token_value t.text.now) (lexeme_nodes f)
 nodes_leaf t k f e h = ap (λ b. spanned (λ (l : Lexeme). l.text.now) (λ (l : Lexeme). l.span) (drop_if (b && closes_next kind f) (leaf t (without_trailing kind f)) (without_trailing kind f))) (ap (is K.Comma) e ∙ h)
 
-pub nodes_own : (t : Lexeme) (k : Kind) (f : Forest Label Lexeme) → IsRight t → t.kind ≡ k → is K.Comma k ≡ false → is K.Number k ≡ false → nodes_of (leaf t f) ≡ leaf t.text.now (nodes_of f)
-nodes_own t k f r e h i = nodes_leaf t k f e h ∙ ap (λ u. leaf u (nodes_of f)) (own_text t k r e i)
+pub nodes_own : (t : Lexeme) (k : Kind) (f : Forest Label Lexeme) → IsRight t → t.kind ≡ k → is K.Comma k ≡ false → is K.Number k ≡ false → lexeme_nodes (leaf t f) ≡ leaf t.text.now (lexeme_nodes f)
+nodes_own t k f r e h i = nodes_leaf t k f e h ∙ ap (λ u. leaf u (lexeme_nodes f)) (own_text t k r e i)
 
-pub nodes_fixed : (t : Lexeme) (k : Kind) (f : Forest Label Lexeme) → IsRight t → t.kind ≡ k → is K.Comma k ≡ false → is K.Number k ≡ false → nodes_of (leaf t f) ≡ leaf (shown (code k) fixed_tokens t.text.now) (nodes_of f)
-nodes_fixed t k f r e h i = nodes_own t k f r e h i ∙ ap (λ u. leaf u (nodes_of f)) (sym (text_shown t.text.now k (sym e ∙ r.0)))
+pub nodes_fixed : (t : Lexeme) (k : Kind) (f : Forest Label Lexeme) → IsRight t → t.kind ≡ k → is K.Comma k ≡ false → is K.Number k ≡ false → lexeme_nodes (leaf t f) ≡ leaf (shown (code k) fixed_tokens t.text.now) (lexeme_nodes f)
+nodes_fixed t k f r e h i = nodes_own t k f r e h i ∙ ap (λ u. leaf u (lexeme_nodes f)) (sym (text_shown t.text.now k (sym e ∙ r.0)))
 
-pub nodes_node : (l : Label) (s : Span) (parts : Erased) (p g : Forest Label Lexeme) → is_node l ≡ true → Stands s parts p → AreRight p → nodes_of (branch l p g) ≡ branch (l, Some s) parts (nodes_of g)
+pub nodes_node : (l : Label) (s : Span) (parts : Erased) (p g : Forest Label Lexeme) → is_node l ≡ true → Stands s parts p → AreRight p → lexeme_nodes (branch l p g) ≡ branch (l, Some s) parts (lexeme_nodes g)
 nodes_node l s parts p g n h r =
-    ap (λ b. branch (l, if b then span_of (λ (l : Lexeme). l.text.now) (λ (l : Lexeme). l.span) (yield (without_trailing kind p)) else None) (nodes_of p) (nodes_of g)) n
-    ∙ ap (λ z. branch (l, z) (nodes_of p) (nodes_of g)) h.place ∙ ap (λ z. branch (l, Some s) z (nodes_of g)) (sym (h.same r))
+    ap (λ b. branch (l, if b then span_of (λ (l : Lexeme). l.text.now) (λ (l : Lexeme). l.span) (yield (without_trailing kind p)) else None) (lexeme_nodes p) (lexeme_nodes g)) n
+    ∙ ap (λ z. branch (l, z) (lexeme_nodes p) (lexeme_nodes g)) h.place ∙ ap (λ z. branch (l, Some s) z (lexeme_nodes g)) (sym (h.same r))
 
 -- Spans of rows.
 abbrev pub Covers : Span → List Lexeme → Type 0

@@ -6,8 +6,8 @@ use Rattle.cedar_grammar.specs.Trees.{Label, Forest, none, branch}
 use Rattle.cedar_grammar.specs.Reader.Reading.{Reader, done, stuck, tree}
 use Rattle.cedar_grammar.proofs.ReadingLaws.{tree_done, tree_fails}
 use Rattle.cedar_tree.specs.Erased.{node, or_parts, add_parts, expr_parts}
-use Rattle.cedar_reading.specs.Reading.{Stands, GivesNode, PassesOn}
-use Rattle.cedar_reading.specs.ReadingParts.{IsLoneOrOf, IsOrExprOf, Makes}
+use Rattle.cedar_reading.specs.Inside.Reading.{Stands, GivesNode, PassesOn}
+use Rattle.cedar_reading.specs.Inside.ReadingParts.{IsLoneOrOf, IsOrExprOf, Makes}
 use Rattle.cedar_reading.specs.declared.lexeme.Lexeme.{Lexeme}
 use Rattle.cedar_reading.specs.declared.reading.Refusal.{Refusal}
 use Rattle.cedar_tree.specs.declared.tree.Node.{Node}

@@ -11,7 +11,7 @@ use Rattle.cedar_grammar.specs.declared.kind.Kind.TheVariants as K
 use Rattle.cedar_grammar.specs.Kinds.{is}
 use Rattle.cedar_grammar.specs.TokenKinds.{Fixed, fixed_tokens, other_kind, kind_among, kind_of}
 use Rattle.cedar_grammar.specs.Trees.{none, leaf}
-use Rattle.cedar_reading.specs.Reading.{IsRight, Stands}
+use Rattle.cedar_reading.specs.Inside.Reading.{IsRight, Stands}
 use Rattle.cedar_reading.specs.declared.lexeme.Lexeme.{Lexeme}
 use Rattle.cedar_reading.proofs.LeafTexts.{nodes_leaf, covers_leaf}
 

@@ -23,7 +23,7 @@ use Rattle.cedar_grammar.specs.TrailingCommas.{drop_if, closes_next, without_tra
 use Rattle.cedar_tree.specs.Erased.{erase}
 use Rattle.cedar_tree.specs.NodeTrees.{is_node, end_of, span_of, spanned, IsTreeOf}
 use Rattle.cedar_grammar.specs.Placed.{Placed, with_places, placed, kind_of_placed}
-use Rattle.cedar_reading.specs.Lexemes.{AreLexemes, nodes_of}
+use Rattle.cedar_reading.specs.Inside.Lexemes.{AreLexemes, lexeme_nodes}
 use Rattle.cedar_grammar.specs.Reader.Reading.{Answer, done, stuck}
 use Rattle.cedar_grammar.specs.Reader.Lines.{set_to}
 use Rattle.cedar_grammar.proofs.RuleMaps.{each, relabel, answer_of, set_agrees}
@@ -146,7 +146,7 @@ as_placed c = record { text = c.0.text.now; span = c.0.span }
 
 -- What the answer on the lexemes says of the text.
 abbrev pub Outcome : List ℕ → Answer Lexeme → Type 0
-Outcome text (done f []) = (p : Policies) → erase p ≡ nodes_of f → IsTreeOf text p
+Outcome text (done f []) = (p : Policies) → erase p ≡ lexeme_nodes f → IsTreeOf text p
 Outcome text (done f (l ∷ r)) = IsRefused text l.span.start false
 Outcome text (stuck b []) = IsRefused text (length text) false
 Outcome text (stuck b (l ∷ r)) = IsRefused text l.span.start b
@@ -171,11 +171,11 @@ module _ (from : ℕ) (units : List (List ℕ)) (ls : List Lexeme) (kinds : AllB
 
   checked_tree : (d : ℕ) (f : Forest Label Checked) → set_to kind_at d cs_of ≡ done f []
       → G kind_of_placed d (relabel as_placed f) (with_places (tokens units) (token_spans from units))
-      × (nodes_of (relabel (λ (c : Checked). c.0) f) ≡ spanned (λ (t : Placed). t.text) (λ (t : Placed). t.span) (without_trailing kind_of_placed (relabel as_placed f)))
+      × (lexeme_nodes (relabel (λ (c : Checked). c.0) f) ≡ spanned (λ (t : Placed). t.text) (λ (t : Placed). t.span) (without_trailing kind_of_placed (relabel as_placed f)))
   checked_tree d f e =
       let k = set_sound kind_at d cs_of f [] e in
       let g : G kind_at d f cs_of = record { shape = k.among; leaves = sym (k.tokens ∙ append-nil (yield f)) } in
-      let left : nodes_of (relabel (λ (c : Checked). c.0) f) ≡ spanned text_of place_of (without_trailing kind_at f) =
+      let left : lexeme_nodes (relabel (λ (c : Checked). c.0) f) ≡ spanned text_of place_of (without_trailing kind_at f) =
       ap (spanned (λ (l : Lexeme). l.text.now) (λ (l : Lexeme). l.span)) (without_relabel (λ (c : Checked). c.0) kind_at (λ l. l.kind) (λ c. refl) f)
       ∙ spanned_relabel (λ (c : Checked). c.0) (λ (l : Lexeme). l.text.now) (λ (l : Lexeme). l.span) (without_trailing kind_at f) in
       let right : spanned (λ (t : Placed). t.text) (λ (t : Placed). t.span) (without_trailing kind_of_placed (relabel as_placed f)) ≡ spanned text_of place_of (without_trailing kind_at f) =
@@ -185,20 +185,20 @@ module _ (from : ℕ) (units : List (List ℕ)) (ls : List Lexeme) (kinds : AllB
 
   -- a tree of the lexemes is one of the tokens with their places
   pub placed_tree : (d : ℕ) (f : Forest Label Lexeme) → set_to (λ l. l.kind) d ls ≡ done f []
-      → (tree : Forest Label Placed) × G kind_of_placed d tree (with_places (tokens units) (token_spans from units)) × (nodes_of f ≡ spanned (λ (t : Placed). t.text) (λ (t : Placed). t.span) (without_trailing kind_of_placed tree))
+      → (tree : Forest Label Placed) × G kind_of_placed d tree (with_places (tokens units) (token_spans from units)) × (lexeme_nodes f ≡ spanned (λ (t : Placed). t.text) (λ (t : Placed). t.span) (without_trailing kind_of_placed tree))
   placed_tree d f e = go (set_to kind_at d cs_of) refl
     where
       back : set_to (λ l. l.kind) d ls ≡ answer_of (λ (c : Checked). c.0) (set_to kind_at d cs_of)
       back = ap (set_to (λ l. l.kind) d) (sym (checked_back ls kinds)) ∙ set_agrees (λ (c : Checked). c.0) kind_at (λ l. l.kind) (λ c. refl) d cs_of
 
-      go : (x : Answer Checked) → set_to kind_at d cs_of ≡ x → (tree : Forest Label Placed) × G kind_of_placed d tree (with_places (tokens units) (token_spans from units)) × (nodes_of f ≡ spanned (λ (t : Placed). t.text) (λ (t : Placed). t.span) (without_trailing kind_of_placed tree))
+      go : (x : Answer Checked) → set_to kind_at d cs_of ≡ x → (tree : Forest Label Placed) × G kind_of_placed d tree (with_places (tokens units) (token_spans from units)) × (lexeme_nodes f ≡ spanned (λ (t : Placed). t.text) (λ (t : Placed). t.span) (without_trailing kind_of_placed tree))
       go (stuck b r) i = let w : done f [] ≡ stuck b (each (λ (c : Checked). c.0) r) = sym e ∙ back ∙ ap (answer_of (λ (c : Checked). c.0)) i in absurd cc
       go (done g (c ∷ r)) i = let w : done f [] ≡ done (relabel (λ (c : Checked). c.0) g) (each (λ (c : Checked). c.0) (c ∷ r)) = sym e ∙ back ∙ ap (answer_of (λ (c : Checked). c.0)) i in absurd cc
       go (done g []) i =
           let w : done f [] ≡ done (relabel (λ (c : Checked). c.0) g) [] = sym e ∙ back ∙ ap (answer_of (λ (c : Checked). c.0)) i in
           let same : f ≡ relabel (λ (c : Checked). c.0) g = cc in
           let t = checked_tree d g i in
-          (relabel as_placed g, t.0, ap nodes_of same ∙ t.1)
+          (relabel as_placed g, t.0, ap lexeme_nodes same ∙ t.1)
 
 module _ (text : List ℕ) (ls : List Lexeme) (are : AreLexemes text ls) (d : ℕ) (deep : d ≡ greatest_depth) where
   abbrev cs : List Checked
@@ -240,7 +240,7 @@ module _ (text : List ℕ) (ls : List Lexeme) (are : AreLexemes text ls) (d : �
             (subst (λ z. Hopeless kind_of d z front (text_of c) (each text_of r) b) cs_texts h))));
       })
 
-  whole_tree : (f : Forest Label Checked) → set_to kind_at d cs ≡ done f [] → (p : Policies) → erase p ≡ nodes_of (relabel (λ (c : Checked). c.0) f) → IsTreeOf text p
+  whole_tree : (f : Forest Label Checked) → set_to kind_at d cs ≡ done f [] → (p : Policies) → erase p ≡ lexeme_nodes (relabel (λ (c : Checked). c.0) f) → IsTreeOf text p
   whole_tree f e p same =
       let t = checked_tree 0 are.units ls are.kinds are.texts are.places d f e in
       record {

@@ -13,9 +13,9 @@ use Rattle.cedar_grammar.specs.Reader.Reading.{Reader, done, stuck, both, tree, 
 use Rattle.cedar_grammar.proofs.ReadingLaws.{Takes, IsRead, read_none, read_more, read_end, read_fails, both_done, both_fails, both_then_fails, tree_done, tree_fails, join_none, join_assoc}
 use Rattle.cedar_grammar.proofs.LanguageLaws.{yield_join}
 use Rattle.cedar_tree.specs.Erased.{Erased}
-use Rattle.cedar_reading.specs.Lexemes.{nodes_of}
+use Rattle.cedar_reading.specs.Inside.Lexemes.{lexeme_nodes}
 use Rattle.cedar_tree.specs.NodeTrees.{is_node, span_of, spanned}
-use Rattle.cedar_reading.specs.Reading.{kind, AreRight, Stands, StandsMany}
+use Rattle.cedar_reading.specs.Inside.Reading.{kind, AreRight, Stands, StandsMany}
 use Rattle.cedar_reading.specs.declared.lexeme.Lexeme.{Lexeme}
 use Rattle.cedar_reading.proofs.LeafTexts.{shown, Covers, kept, from_to, nodes_fixed, nodes_node, covers_leaf, covers_more, covers_node, covers_nodes, covers_both}
 
@@ -78,14 +78,14 @@ right_join (branch l f i) g r = let k = right_join i g r.1 in ((r.0, k.0), k.1)
 pub row_join : (s u : Span) (p q : Erased) (f g : Forest Label Lexeme) → closes_next kind g ≡ false → Stands s p f → Stands u q g → Stands (from_to s u) (join p q) (join f g)
 row_join s u p q f g h a b = record {
   same = λ r. let k = right_join f g r in
-      ap (λ z. join z q) (a.same k.0) ∙ ap (join (nodes_of f)) (b.same k.1) ∙ sym (ap plain (kept_join f g h) ∙ plain_join (without_trailing kind f) (without_trailing kind g));
+      ap (λ z. join z q) (a.same k.0) ∙ ap (join (lexeme_nodes f)) (b.same k.1) ∙ sym (ap plain (kept_join f g h) ∙ plain_join (without_trailing kind f) (without_trailing kind g));
   place = ap (λ z. span_of (λ (l : Lexeme). l.text.now) (λ (l : Lexeme). l.span) z) (ap yield (kept_join f g h) ∙ yield_join (without_trailing kind f) (without_trailing kind g)) ∙ covers_both (kept f) (kept g) s u a.place b.place;
 }
 
 pub many_join : (u : Span) (p q : Erased) (f g : Forest Label Lexeme) → closes_next kind g ≡ false → StandsMany p f → Stands u q g → StandsMany (join p q) (join f g)
 many_join u p q f g h a b = record {
   same = λ r. let k = right_join f g r in
-      ap (λ z. join z q) (a.same k.0) ∙ ap (join (nodes_of f)) (b.same k.1) ∙ sym (ap plain (kept_join f g h) ∙ plain_join (without_trailing kind f) (without_trailing kind g));
+      ap (λ z. join z q) (a.same k.0) ∙ ap (join (lexeme_nodes f)) (b.same k.1) ∙ sym (ap plain (kept_join f g h) ∙ plain_join (without_trailing kind f) (without_trailing kind g));
   place = go a.place;
 }
   where

@@ -24,8 +24,7 @@ use Rattle.cedar_tokens.proofs.Streaming.{Placed, placed_skip, placed_token, pla
 use Rattle.cedar_grammar.specs.Numbers.{is_too_large, IsFirstTooLarge}
 use Rattle.cedar_grammar.specs.TokenKinds.{kind_of}
 use Rattle.cedar_grammar.specs.Texts.{tokens}
-use Rattle.cedar_reading.specs.Lexemes.{AreLexemes}
-use Rattle.cedar_reading.specs.Tokens.{HasTokens}
+use Rattle.cedar_reading.specs.Inside.Lexemes.{AreLexemes}
 use Rattle.cedar_reading.specs.declared.lexeme.Lexeme.{Lexeme}
 
 -- where the first number above the limit begins, if one of the units is
@@ -148,9 +147,6 @@ pub walked_large : (text : List ℕ) (p at : ℕ) → Walked text (Some p) at �
 walked_large text p at w l =
     let f = w.numbers in
     record { before = f.0; number = f.1; after = f.2; split = rw f.3 at (rw (drop_all at text l) at w.scans); place = f.4; large = f.5; first = f.6 }
-
-pub walked_all : (text : List ℕ) (at : ℕ) → Walked text None at → length text ≤ at → HasTokens text
-walked_all text at w l = record { units = w.units; split = rw (drop_all at text l) at w.scans; fitting = w.numbers }
 
 pub lexing_all : (text : List ℕ) (lexemes : List Lexeme) (at : ℕ) → Lexing text lexemes None at → length text ≤ at → AreLexemes text lexemes
 lexing_all text lexemes at w l = record {

@@ -1,5 +1,2 @@
-pub mod Lexemes
 pub mod Tokens
-pub mod Reading
-pub mod ReadingParts
-pub mod ReadingSigns
+pub mod Inside

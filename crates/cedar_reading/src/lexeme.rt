@@ -7,7 +7,7 @@ ghost use Rattle.cedar_tokens.specs.Split.{IsFirstFault};
 ghost use Rattle.cedar_grammar.specs.Numbers.{is_too_large};
 ghost use Rattle.cedar_tree.specs.Refusals.{RefusesTokens};
 ghost use Rattle.cedar_tree.specs.declared.error.FormatError.TheVariants.{OutOfMemory};
-ghost use Rattle.cedar_reading.specs.Lexemes.{AreLexemes};
+ghost use Rattle.cedar_reading.specs.Inside.Lexemes.{AreLexemes};
 ghost use Rattle.cedar_reading.specs.Tokens.{HasTokens};
 
 use cedar_grammar::kind::{Kind, kind_of};

@@ -7,7 +7,7 @@ use Rattle.std.proofs.lemmas.Bool.Decides.{nat_tests, Decides-eqb}
 use Rattle.std.proofs.lemmas.Str.{chars-append, chars-encodes, scalars-chars, IsUtf8-append, IsUtf8-encode, chars-nil, encodes-chars, encodes-append}
 use lib.Utf8.{scalars}
 use Rattle.cedar_tokens.proofs.Prefixes.{and_parts}
-use Rattle.cedar_text_laws.proofs.Tidying.{chars_blank, AllBlank}
+use Rattle.cedar_text_laws.proofs.BlankLines.{chars_blank, AllBlank}
 
 drop_white : (ws : List ℕ) → list_all is_whitespace ws ≡ true → drop_trailing_whitespace ws ≡ []
 drop_white [] h = refl

@@ -12,11 +12,11 @@ use Rattle.cedar_text_laws.specs.GoodLaws.{EveryListIsGood, PlainListStaysGood}
 use Rattle.cedar_text_laws.proofs.Listed.{comment_no_token}
 use Rattle.cedar_text_laws.proofs.Scanned.{scans_concat}
 use Rattle.cedar_text_laws.proofs.Joined.{after_cons, before_join}
-use Rattle.cedar_text_laws.proofs.Tidying.{Parted, parted_parts, concat_append, feedless, feedless_append, feedless_front, feedless_back}
-use Rattle.cedar_text_laws.proofs.Trimming.{after_free}
+use Rattle.cedar_text_laws.proofs.BlankLines.{Parted, parted_parts, concat_append, feedless, feedless_append, feedless_front, feedless_back}
+use Rattle.cedar_text_laws.proofs.TrimmedUnits.{after_free}
 use Rattle.cedar_text_laws.proofs.Ends.{trim_utf8}
 use Rattle.cedar_text_laws.proofs.Spaces.{NoTokens, units_utf8, concat_utf8, units_comments, comment_feedless, AtFeed, no_feed, at_feed, find_feed}
-use Rattle.cedar_text_laws.proofs.Trimmed.{trims, comment_cut, utf8_parts, before_all, after_none}
+use Rattle.cedar_text_laws.proofs.TrimmedLists.{trims, comment_cut, utf8_parts, before_all, after_none}
 
 -- a text between two tokens
 record GoodGap (g : List ℕ) : Type 0 where

@@ -15,9 +15,9 @@ use Rattle.cedar_tokens.proofs.Longest.{is_token-string}
 use Rattle.cedar_tokens.proofs.FirstUnit.{comment_parts, unit_boundary, all_more}
 use Rattle.cedar_layout.specs.Cleaning.{IsKept, NoneBegins, Cut, last_piece, more_pieces, piece_lines, is_blank_line, without_blank_lines, clean_lines, clean_piece}
 use Rattle.cedar_text_laws.proofs.Ends.{scalars_skip, scalars_drop, trim_is, stays_black, stays_before}
-use Rattle.cedar_text_laws.proofs.Cleaned.{kept_unit, kept_too}
-use Rattle.cedar_text_laws.proofs.Trimmed.{token_black}
-use Rattle.cedar_text_laws.proofs.Tidying.{onto, feedless, lacks, lines_onto, chars_low}
+use Rattle.cedar_text_laws.proofs.CleanedLists.{kept_unit, kept_too}
+use Rattle.cedar_text_laws.proofs.TrimmedLists.{token_black}
+use Rattle.cedar_text_laws.proofs.BlankLines.{onto, feedless, lacks, lines_onto, chars_low}
 use Rattle.cedar_text_laws.specs.LostBlanks.{LosesBlanks, none_left, stays, goes, LosesBlanksBetween, last_part, more_parts, EveryTextLosesBlanks}
 
 -- ---- characters

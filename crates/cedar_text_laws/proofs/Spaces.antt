@@ -14,7 +14,7 @@ use Rattle.cedar_tokens.proofs.FirstUnit.{comment_parts, unit_boundary, all_more
 use Rattle.cedar_tokens.proofs.CommentLines.{comments_nil, comments_here}
 use Rattle.cedar_text_laws.proofs.Units.{Ended}
 use Rattle.cedar_text_laws.proofs.Scanned.{first_within}
-use Rattle.cedar_text_laws.proofs.Tidying.{blank_no_comment, Parted, parted_parts, comments_pass, blank_no_slash, blank_feed, feedless, feedless_append}
+use Rattle.cedar_text_laws.proofs.BlankLines.{blank_no_comment, Parted, parted_parts, comments_pass, blank_no_slash, blank_feed, feedless, feedless_append}
 
 -- ---- UTF-8
 

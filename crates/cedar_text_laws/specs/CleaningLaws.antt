@@ -6,6 +6,7 @@ use Rattle.cedar_tokens.specs.Units.{IsBlank, is_token, is_comment}
 use Rattle.cedar_tokens.specs.Split.{SplitsInto, Splits}
 use Rattle.cedar_tokens.specs.Listing.{Listing, IsListing}
 use Rattle.cedar_layout.specs.Cleaning.{IsCleaned}
+use Rattle.cedar_tokens.specs.Bytes.{line_feed}
 
 -- every text has one text without the blank lines of its pieces, and so one cleaned text
 abbrev pub CleaningIsUnique : Type 0
@@ -40,7 +41,7 @@ CleaningTakesBlanks = (x y : List ℕ) (us : List (List ℕ)) → IsUtf8 x → S
 
 -- between two line feeds stand more than blanks
 abbrev pub NoBlankLine : List (List ℕ) → Type 0
-NoBlankLine us = (front blanks behind : List (List ℕ)) → us ≡ front ++ ((10 ∷ []) ∷ (blanks ++ ((10 ∷ []) ∷ behind))) → ¬ (AllByRecursion IsBlank blanks)
+NoBlankLine us = (front blanks behind : List (List ℕ)) → us ≡ front ++ ((line_feed ∷ []) ∷ (blanks ++ ((line_feed ∷ []) ∷ behind))) → ¬ (AllByRecursion IsBlank blanks)
 
 -- outside its strings a cleaned text has no blank line, and no blank at its start or end
 abbrev pub CleaningLeavesNoBlankLine : Type 0

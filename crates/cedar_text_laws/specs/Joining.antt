@@ -1,6 +1,7 @@
 -- The decorated list of two texts with a line feed between them.
 use Rattle.std.specs.Prelude.{ℕ, List, [], ◌∷◌, ◌++◌}
 use Rattle.cedar_tokens.specs.Listing.{Decorated, Listing, IsListing}
+use Rattle.cedar_tokens.specs.Bytes.{line_feed}
 
 -- these comments in front of the first token's, or of the closing ones
 abbrev pub ahead_tokens : List (List ℕ) → List Decorated → List Decorated
@@ -17,4 +18,4 @@ follow l m = record { tokens = l.tokens ++ ahead_tokens l.closing m.tokens; clos
 
 -- a line feed between two texts that split: the one list and then the other
 abbrev pub LawOfJoining : Type 0
-LawOfJoining = (x y : List ℕ) (l m : Listing) → IsListing x l → IsListing y m → IsListing (x ++ (10 ∷ y)) (follow l m)
+LawOfJoining = (x y : List ℕ) (l m : Listing) → IsListing x l → IsListing y m → IsListing (x ++ (line_feed ∷ y)) (follow l m)

@@ -6,7 +6,7 @@ use Rattle.cedar_tokens.specs.Units.{is_token, IsUnit}
 use Rattle.cedar_tokens.specs.Split.{SplitsInto}
 use Rattle.cedar_tokens.specs.Listing.{Listing, IsListing, gaps, decorate, listing, comments}
 use Rattle.cedar_tokens.specs.Places.{token_spans, AreTokenSpans}
-use Rattle.cedar_tokens.specs.FirstTokens.{IsGap, IsFirstToken, BeginsNoToken}
+use Rattle.cedar_tokens.specs.Inside.FirstTokens.{IsGap, IsFirstToken, BeginsNoToken}
 use Rattle.cedar_tokens.specs.TokenReaders.{IsAhead}
 use Rattle.cedar_tokens.specs.declared.token.Span.{Span}
 use Rattle.cedar_tokens.specs.declared.readers.FirstToken.{FirstToken}

@@ -9,7 +9,7 @@ use Rattle.cedar_tokens.specs.Units.{is_token, IsToken, IsUnit, FindsLongest, Is
 use Rattle.cedar_tokens.specs.Split.{HasKind, Scans, SplitsInto}
 use Rattle.cedar_tokens.specs.Listing.{gaps, before_newline, after_newline}
 use Rattle.cedar_tokens.specs.Places.{token_spans}
-use Rattle.cedar_tokens.specs.FirstTokens.{IsGap, IsFirstToken, BeginsNoToken}
+use Rattle.cedar_tokens.specs.Inside.FirstTokens.{IsGap, IsFirstToken, BeginsNoToken}
 use Rattle.cedar_tokens.specs.declared.lexer.UnitKind.{UnitKind}
 use Rattle.cedar_tokens.specs.declared.lexer.UnitKind.TheVariants.{Token}
 use Rattle.cedar_tokens.specs.declared.readers.FirstToken.{FirstToken}

@@ -6,7 +6,7 @@ use Rattle.std.proofs.lemmas.List.{append_assoc, map-append}
 use Rattle.cedar_tokens.specs.Listing.{Decorated}
 use Rattle.cedar_tokens.specs.Tokens.{decorated, bare, token_text, trailing_text}
 use Rattle.cedar_tokens.specs.PlainList.{is_comma, is_closing_bracket, is_trailing_comma, with_trailing_of, with_lines_of, plain_from, plain_list, kept_tokens}
-use Rattle.cedar_tokens.specs.MovedLines.{leaves, lines_for, moved_lines, trailing_before, LeftToToken, MovedToBracket, Follows}
+use Rattle.cedar_tokens.specs.Inside.MovedLines.{leaves, lines_for, moved_lines, trailing_before, LeftToToken, MovedToBracket, Follows}
 use Rattle.cedar_tokens.specs.declared.token.Token.{Token}
 use Rattle.cedar_tokens.specs.declared.token.Span.{Span}
 use Rattle.cedar_tokens.specs.declared.token.WrappedToken.{WrappedToken}
@@ -47,12 +47,6 @@ pub plain_moved : (b : Option Decorated) (c k : Decorated) (ts : List Decorated)
 plain_moved None c k ts e f g = rw (e, f) refl
 plain_moved (Some d) c k ts e f g = rw (e, f, g) refl
 
-pub plain_end : (b c : Option Decorated) → plain_after b (option_to_list c) ≡ option_to_list b ++ option_to_list c
-plain_end None None = refl
-plain_end None (Some c) = refl
-plain_end (Some d) None = refl
-plain_end (Some d) (Some c) = refl
-
 pub moved_other : (p : Option (List ℕ)) (x : Decorated) (ts : List Decorated) → is_comma x.text ≡ false → moved_lines p (x ∷ ts) ≡ moved_lines (Some x.trailing) ts
 moved_other p x [] e = refl
 moved_other p x (k ∷ ts) e = rw e refl
@@ -80,10 +74,6 @@ kept_dropped c k ts e f = rw (e, f) (kept_other k ts (no_comma (token_text k.tok
 pub collect : (all done : List (List (List ℕ))) (p : Option (List ℕ)) (c k : Decorated) (ts : List Decorated) → done ++ moved_lines p (c ∷ k ∷ ts) ≡ all → (is_trailing_comma c k && not (leaves p c)) ≡ true
     → (done ++ lines_for c k ∷ []) ++ moved_lines (Some c.trailing) (k ∷ ts) ≡ all
 collect all done p c k ts h e = rw append_assoc (rw e at h)
-
-pub collect_none : (all done : List (List (List ℕ))) (p : Option (List ℕ)) (c k : Decorated) (ts : List Decorated) → done ++ moved_lines p (c ∷ k ∷ ts) ≡ all → (is_trailing_comma c k && not (leaves p c)) ≡ false
-    → done ++ moved_lines (Some c.trailing) (k ∷ ts) ≡ all
-collect_none all done p c k ts h e = rw e at h
 
 -- what is known between two tokens: kept are done, before is the last token that stays and comma one that may go, rest comes behind them
 pub record Reached (all kept : List WrappedToken) (before comma : Option WrappedToken) (rest : List WrappedToken) (lines : List (List (List ℕ))) (len capacity : ℕ) : Type 0 where

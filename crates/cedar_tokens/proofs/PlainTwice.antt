@@ -37,9 +37,6 @@ stays_bracket : (b : Decorated) (ts : List Decorated) → is_comma b.text ≡ fa
 stays_bracket b [] e = tt
 stays_bracket b (c ∷ ts) e = rw e refl
 
-two_after : (c b : Decorated) (ts : List Decorated) → NoTwoCommas (c ∷ (b ∷ ts)) → NoTwoCommas (b ∷ ts)
-two_after c b ts h = h.1
-
 other_lines : (b c : Decorated) (ts : List Decorated) → NoTwoCommas (b ∷ ts) → NoTwoCommas (with_lines_of b c ∷ ts)
 other_lines b c [] h = h
 other_lines b c (x ∷ ts) h = h

@@ -6,7 +6,7 @@ use Rattle.std.specs.Str.{trim}
 use Rattle.cedar_tokens.specs.Listing.{Listing, IsListing, comments}
 use Rattle.cedar_tokens.specs.Places.{AreTokenSpans}
 use Rattle.cedar_tokens.specs.Tokens.{token_text, leading_lines, trailing_text, IsProper}
-use Rattle.cedar_tokens.specs.FirstTokens.{IsGap, IsFirstToken, BeginsNoToken}
+use Rattle.cedar_tokens.specs.Inside.FirstTokens.{IsGap, IsFirstToken, BeginsNoToken}
 use Rattle.cedar_tokens.specs.TokenReaders.{IsAhead, HasLeft, GivesFirst}
 use Rattle.cedar_tokens.specs.declared.token.Span.{Span}
 use Rattle.cedar_tokens.specs.declared.token.WrappedToken.{WrappedToken}

@@ -4,8 +4,8 @@ ghost use Rattle.cedar_tokens.specs.PlainList.{is_comma, is_closing_bracket, is_
 ghost use Rattle.std.specs.Prelude.{◌+◌, ◌&&◌, not, Option, true, false, length, List, ℕ};
 ghost use Rattle.std.specs.Option.{option_map, option_to_list};
 ghost use Rattle.cedar_tokens.specs.Places.{AreInOrder};
-ghost use Rattle.cedar_tokens.specs.PlainList.{with_trailing_of, PlainListIsPlain};
-ghost use Rattle.cedar_tokens.specs.MovedLines.{moved_lines, lines_for, leaves, lines_of, lines_left, trailing_before, with_lines, HasNext, Follows, LeftToToken, MovedToBracket};
+ghost use Rattle.cedar_tokens.specs.PlainList.{with_trailing_of};
+ghost use Rattle.cedar_tokens.specs.Inside.MovedLines.{moved_lines, lines_for, leaves, lines_of, lines_left, trailing_before, with_lines, HasNext, Follows, LeftToToken, MovedToBracket};
 ghost use Rattle.cedar_tokens.specs.Tokens.{bare, decorated, leading_lines, trailing_text, token_text};
 
 use crate::token::{Comment, WrappedToken, get_comment};
@@ -34,11 +34,6 @@ pub fn drop_trailing_commas(
     *tokens = without_trailing_commas(all, moved, kept);
     Ok(())
 }
-
-/// Where no two commas stand next to each other, taking the trailing commas out twice is taking them out once.
-pub fn plain_list_is_plain()
-    ensures { PlainListIsPlain }
-{}
 
 fn is_comma(token: &WrappedToken<'_>) -> bool
     ensures { result ≡ is_comma (token_text token.now.token) }

@@ -5,7 +5,7 @@ ghost use Rattle.cedar_tokens.specs.Split.{Splits};
 ghost use Rattle.cedar_tokens.specs.Listing.{Listing, IsListing, before_newline, after_newline};
 ghost use Rattle.cedar_tokens.specs.Places.{AreTokenSpans};
 ghost use Rattle.cedar_tokens.specs.Tokens.{comments_left};
-ghost use Rattle.cedar_tokens.specs.FirstTokens.{IsGap, IsFirstToken, BeginsNoToken};
+ghost use Rattle.cedar_tokens.specs.Inside.FirstTokens.{IsGap, IsFirstToken, BeginsNoToken};
 ghost use Rattle.cedar_tokens.specs.declared.token.Span.{Span};
 
 use crate::lexer::{UnitKind, first_fault, first_unit};

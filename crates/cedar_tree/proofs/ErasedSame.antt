@@ -30,7 +30,7 @@ use Rattle.cedar_tree.specs.declared.tree.Slot.{Slot}
 use Rattle.cedar_tree.specs.declared.tree.NegOp.{NegOp}
 use Rattle.cedar_grammar.specs.Trees.{Label, Forest, none, leaf, branch, join}
 use Rattle.cedar_grammar.specs.Trees as L
-use Rattle.cedar_tree.specs.Erased.{Erased, node, ident_tree, path_parts, name_tree, variant_label, literal_text, slot_text, relop_text, addop_text, times, signs_or, signs, expr_parts, or_parts, or_rest, and_rest, relation_parts, compare_tree, in_parts, add_parts, add_rest, mult_parts, mult_rest, unary_parts, access_trees, access_parts, expr_items, more_items, primary_parts, init_items, more_inits, value_parts, annotation_trees, type_parts, operator_parts, variable_tree, more_variables, variable_items, cond_trees, policy_parts, policy_trees, scope_variables, without_spans}
+use Rattle.cedar_tree.specs.Erased.{Erased, node, ident_tree, path_parts, name_tree, variant_label, literal_text, slot_text, relop_text, addop_text, times, signs_or, sign_leaves, expr_parts, or_parts, or_rest, and_rest, relation_parts, compare_tree, in_parts, add_parts, add_rest, mult_parts, mult_rest, unary_parts, access_trees, access_parts, expr_items, more_items, primary_parts, init_items, more_inits, value_parts, annotation_trees, type_parts, operator_parts, variable_tree, more_variables, variable_items, cond_trees, policy_parts, policy_trees, scope_variables, without_spans}
 use Rattle.cedar_tree.specs.Same.{SameOption, SameIdent, SameStr, SameName, SameLiteral, SameExpr, SameOr, SameAnds, SameRelations, SameRelation, SameCompared, SameIn, SameAdd, SameMults, SameMult, SameUnaries, SameUnary, SameAccesses, SameAccess, SameExprs, SamePrimary, SameInits, SameAnnotation, SameOperator, SameVariable, SameCond, SamePolicy}
 use Rattle.cedar_tree.specs.Laws.{SameTreeIsByFields}
 use Rattle.cedar_grammar.proofs.PartsSame.{last_same, ins, nxt, lab, shape, hd}
@@ -199,7 +199,7 @@ other_signs zero (suc m) s u f g e = differ 2 1 refl (ap shape e)
 other_signs (suc n) zero s u f g e = differ 1 2 refl (ap shape e)
 other_signs (suc n) (suc m) s u f g e = differ 33 45 refl (ap mark e)
 
-signs_same : (a b : Option NegOp) (s u : Span) (f g : Erased) → ws (signs a (node L.member s f none)) ≡ ws (signs b (node L.member u g none)) → (a ≡ b) × (ws f ≡ ws g)
+signs_same : (a b : Option NegOp) (s u : Span) (f g : Erased) → ws (sign_leaves a (node L.member s f none)) ≡ ws (sign_leaves b (node L.member u g none)) → (a ≡ b) × (ws f ≡ ws g)
 signs_same None None s u f g e = (refl, ap ins e)
 signs_same None (Some (NegOp.Bang m)) s u f g e = absurd (some_signs L.bang m (codes "!") s u f g refl e)
 signs_same None (Some (NegOp.Dash m)) s u f g e = absurd (some_signs L.dash m (codes "-") s u f g refl e)
@@ -210,7 +210,7 @@ signs_same (Some (NegOp.Dash n)) (Some (NegOp.Dash m)) s u f g e = let r = count
 signs_same (Some (NegOp.Bang n)) (Some (NegOp.Dash m)) s u f g e = absurd (other_signs n m s u f g e)
 signs_same (Some (NegOp.Dash n)) (Some (NegOp.Bang m)) s u f g e = absurd (other_signs m n u s g f (sym e))
 
-signs_alike : (a : Option NegOp) (f g : Erased) → ws f ≡ ws g → ws (signs a f) ≡ ws (signs a g)
+signs_alike : (a : Option NegOp) (f g : Erased) → ws f ≡ ws g → ws (sign_leaves a f) ≡ ws (sign_leaves a g)
 signs_alike None f g e = e
 signs_alike (Some (NegOp.Bang zero)) f g e = ap (branch L.bang none) e
 signs_alike (Some (NegOp.Dash zero)) f g e = ap (branch L.dash none) e
@@ -525,7 +525,7 @@ mutual
 
   pub unary_alike : (a b : Unary.Unary) → SameUnary a b → ws (unary_parts a) ≡ ws (unary_parts b)
   unary_alike (Unary.Unary' op p s v row t) (Unary.Unary' op' p' s' v' row' t') e =
-      ap (λ o. ws (signs o (node L.member t (node L.primary s (primary_parts p) (access_trees row)) none))) e.0
+      ap (λ o. ws (sign_leaves o (node L.member t (node L.primary s (primary_parts p) (access_trees row)) none))) e.0
       ∙ signs_alike op' (node L.member t (node L.primary s (primary_parts p) (access_trees row)) none) (node L.member t' (node L.primary s' (primary_parts p') (access_trees row')) none)
       (ap (λ z. branch L.member z none) (two L.primary (primary_alike p p' e.1) (accesses_alike row row' e.2)))
 
@@ -699,12 +699,6 @@ more_variables_alike [] [] s = refl
 more_variables_alike [] (y ∷ ys) s = absurd s
 more_variables_alike (x ∷ xs) [] s = absurd s
 more_variables_alike (x ∷ xs) (y ∷ ys) s = ap (leaf (codes ",")) (variable_alike x y (more_variables xs) (more_variables ys) s.0 (more_variables_alike xs ys s.1))
-
-variables_same : (xs ys : List (Node VariableDef)) → ws (variable_items xs) ≡ ws (variable_items ys) → AllZip SameVariable xs ys
-variables_same [] [] e = tt
-variables_same [] (y ∷ ys) e = absurd (differ 0 2 refl (ap shape e))
-variables_same (x ∷ xs) [] e = absurd (differ 2 0 refl (ap shape e))
-variables_same (x ∷ xs) (y ∷ ys) e = let r = variable_same x y (more_variables xs) (more_variables ys) e in (r.0, more_variables_same xs ys r.1)
 
 variables_alike : (xs ys : List (Node VariableDef)) → AllZip SameVariable xs ys → ws (variable_items xs) ≡ ws (variable_items ys)
 variables_alike [] [] s = refl

@@ -25,7 +25,7 @@ use Rattle.cedar_tree.specs.declared.tree.Mult as Mult
 use Rattle.cedar_tree.specs.declared.tree.Unary as Unary
 use Rattle.cedar_tree.specs.declared.tree.Member as Member
 use Rattle.cedar_grammar.specs.Trees.{Label, none, leaf, branch, join}
-use Rattle.cedar_tree.specs.Erased.{Erased, node, ident_tree, path_parts, name_tree, ref_tree, signs, times, expr_parts, or_parts, or_rest, and_rest, relation_parts, compare_tree, in_parts, add_parts, add_rest, mult_parts, mult_rest, unary_parts, access_trees, access_parts, expr_items, more_items, primary_parts, init_items, more_inits, value_parts, annotation_trees, type_parts, operator_parts, variable_tree, cond_trees, policy_parts, policy_trees, erase}
+use Rattle.cedar_tree.specs.Erased.{Erased, node, ident_tree, path_parts, name_tree, ref_tree, sign_leaves, times, expr_parts, or_parts, or_rest, and_rest, relation_parts, compare_tree, in_parts, add_parts, add_rest, mult_parts, mult_rest, unary_parts, access_trees, access_parts, expr_items, more_items, primary_parts, init_items, more_inits, value_parts, annotation_trees, type_parts, operator_parts, variable_tree, cond_trees, policy_parts, policy_trees, erase}
 
 -- the same trees but for spans, where the same branches have one
 pub data Alike : Erased → Erased → Type 0 where
@@ -52,7 +52,7 @@ times_at : (n : ℕ) (t : List ℕ) (g : Erased) {f : Erased} → Alike f (times
 times_at zero t g {f = f} k = (f, k, refl)
 times_at (suc n) t g (a_leaf _ k) = let r = times_at n t g k in (r.0, r.1, ap (leaf t) r.2)
 
-signs_at : (op : Option NegOp) (g : Erased) {f : Erased} → Alike f (signs op g) → (h : Erased) × Alike h g × (signs op h ≡ f)
+signs_at : (op : Option NegOp) (g : Erased) {f : Erased} → Alike f (sign_leaves op g) → (h : Erased) × Alike h g × (sign_leaves op h ≡ f)
 signs_at None g {f = f} k = (f, k, refl)
 signs_at (Some (NegOp.Bang zero)) g (a_variant _ {g = h} no_trees k) = (h, k, refl)
 signs_at (Some (NegOp.Dash zero)) g (a_variant _ {g = h} no_trees k) = (h, k, refl)
@@ -174,7 +174,7 @@ mutual
       let i = inside_at r.1 in
       let yp = primary_at p i.4 in
       let yr = accesses_at row i.5 in
-      (Unary.Unary' op yp.0 i.1 v yr.0 i.0, rw (yp.1, yr.1) (ap (signs op) i.6 ∙ r.2))
+      (Unary.Unary' op yp.0 i.1 v yr.0 i.0, rw (yp.1, yr.1) (ap (sign_leaves op) i.6 ∙ r.2))
 
   accesses_at : {m : _} (x : Member.Row_of-Member-access-2 m) {f : Erased} → Alike f (access_trees x) → (y : Member.Row_of-Member-access-2 m) × (access_trees y ≡ f)
   accesses_at Member.end_of-Member-access-2 no_trees = (Member.end_of-Member-access-2, refl)

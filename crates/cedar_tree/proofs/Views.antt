@@ -5,7 +5,7 @@ use Rattle.std.proofs.Common.{rules}
 use mathlib.Core.Former.{Count}
 use Rattle.cedar_tokens.specs.declared.token.Span.{Span}
 use Rattle.cedar_grammar.specs.Trees.{Label, none, leaf, join}
-use Rattle.cedar_tree.specs.Erased.{Erased, node, addop_text, signs, access_parts, access_trees, unary_parts, mult_parts, mult_rest, add_parts, add_rest, relation_parts, and_rest, or_parts, or_rest, expr_parts, primary_parts, expr_items, more_items, init_items, more_inits, variant}
+use Rattle.cedar_tree.specs.Erased.{Erased, node, addop_text, sign_leaves, access_parts, access_trees, unary_parts, mult_parts, mult_rest, add_parts, add_rest, relation_parts, and_rest, or_parts, or_rest, expr_parts, primary_parts, expr_items, more_items, init_items, more_inits, variant}
 use Rattle.cedar_tree.specs.NodeLists.{access_items, and_parts, init_parts, item_trees, member_parts, more_trees, operand_parts, operand_trees}
 use Rattle.cedar_tree.specs.declared.tree.Node.{Node}
 use Rattle.cedar_tree.specs.declared.tree.AddOp.{AddOp}
@@ -108,5 +108,5 @@ pub view_mult : (first : Node Unary.Unary) (more : Vec (MultOp × Node Unary.Una
 view_mult first more = search (rules, Or.the_lemmas, mult_row)
 
 -- a member behind its signs
-pub view_unary : (op : Option NegOp) (m : Node Member.Member) → unary_parts (Unary.roll-Unary record { op = op; item = m }) ≡ signs op (node Label.member m.span (member_parts m.inner) none)
+pub view_unary : (op : Option NegOp) (m : Node Member.Member) → unary_parts (Unary.roll-Unary record { op = op; item = m }) ≡ sign_leaves op (node Label.member m.span (member_parts m.inner) none)
 view_unary op m = search (rules, Or.the_lemmas, access_row)

@@ -96,10 +96,10 @@ abbrev pub signs_or : Label → ℕ → List ℕ → Erased → Erased
 signs_or l zero sign others = variant l none others
 signs_or l (suc n) sign others = times (suc n) sign others
 
-abbrev pub signs : Option NegOp → Erased → Erased
-signs None others = others
-signs (Some (NegOp.Bang n)) others = signs_or Label.bang n (codes "!") others
-signs (Some (NegOp.Dash n)) others = signs_or Label.dash n (codes "-") others
+abbrev pub sign_leaves : Option NegOp → Erased → Erased
+sign_leaves None others = others
+sign_leaves (Some (NegOp.Bang n)) others = signs_or Label.bang n (codes "!") others
+sign_leaves (Some (NegOp.Dash n)) others = signs_or Label.dash n (codes "-") others
 
 -- Expressions and what they are made of.
 abbrev mutual
@@ -147,7 +147,7 @@ abbrev mutual
   mult_rest (Mult.more_of-Mult-extended-4 op u s rest) = leaf (codes "*") (node Label.unary s (unary_parts u) (mult_rest rest))
 
   pub unary_parts : Unary.Unary → Erased
-  unary_parts (Unary.Unary' op p s v row t) = signs op (node Label.member t (node Label.primary s (primary_parts p) (access_trees row)) none)
+  unary_parts (Unary.Unary' op p s v row t) = sign_leaves op (node Label.member t (node Label.primary s (primary_parts p) (access_trees row)) none)
 
   pub access_trees : {m : _} → Member.Row_of-Member-access-2 m → Erased
   access_trees Member.end_of-Member-access-2 = none
@@ -189,9 +189,12 @@ abbrev pub value_parts : Option (Node Str) → Erased
 value_parts None = none
 value_parts (Some s) = leaf (codes "(") (str_tree s (leaf (codes ")") none))
 
+abbrev pub annotation_parts : Annotation → Erased
+annotation_parts a = leaf (codes "@") (ident_tree a.key (value_parts a.value))
+
 abbrev pub annotation_trees : List (Node Annotation) → Erased → Erased
 annotation_trees [] others = others
-annotation_trees (n ∷ ns) others = node Label.annotation n.span (leaf (codes "@") (ident_tree n.inner.key (value_parts n.inner.value))) (annotation_trees ns others)
+annotation_trees (n ∷ ns) others = node Label.annotation n.span (annotation_parts n.inner) (annotation_trees ns others)
 
 abbrev pub type_parts : Option (Node Name) → Erased → Erased
 type_parts None others = others
@@ -201,8 +204,11 @@ abbrev pub operator_parts : Option (RelOp × Node Expr.TheBlock.the_data-4) → 
 operator_parts None = none
 operator_parts (Some x) = leaf (relop_text x.0) (node Label.add x.1.span (add_parts x.1.inner) none)
 
+abbrev pub variable_parts : VariableDef → Erased
+variable_parts v = ident_tree v.variable (type_parts v.entity_type (operator_parts v.ineq))
+
 abbrev pub variable_tree : Node VariableDef → Erased → Erased
-variable_tree n others = node Label.variable n.span (ident_tree n.inner.variable (type_parts n.inner.entity_type (operator_parts n.inner.ineq))) others
+variable_tree n others = node Label.variable n.span (variable_parts n.inner) others
 
 -- the variables of a scope with commas between them
 abbrev pub more_variables : List (Node VariableDef) → Erased
@@ -213,9 +219,12 @@ abbrev pub variable_items : List (Node VariableDef) → Erased
 variable_items [] = none
 variable_items (n ∷ ns) = variable_tree n (more_variables ns)
 
+abbrev pub cond_parts : Cond → Erased
+cond_parts c = ident_tree c.cond (leaf (codes "{") (node Label.expr c.expr.span (expr_parts c.expr.inner) (leaf (codes "}") none)))
+
 abbrev pub cond_trees : List (Node Cond) → Erased → Erased
 cond_trees [] others = others
-cond_trees (n ∷ ns) others = node Label.condition n.span (ident_tree n.inner.cond (leaf (codes "{") (node Label.expr n.inner.expr.span (expr_parts n.inner.expr.inner) (leaf (codes "}") none)))) (cond_trees ns others)
+cond_trees (n ∷ ns) others = node Label.condition n.span (cond_parts n.inner) (cond_trees ns others)
 
 -- the variables of a policy's scope
 abbrev pub scope_variables : Policy → List (Node VariableDef)

@@ -6,10 +6,10 @@ ghost use Rattle.cedar_grammar.specs.Texts.{greatest_depth};
 ghost use Rattle.cedar_grammar.specs.declared.kind.Kind.TheVariants as K;
 ghost use Rattle.cedar_grammar.specs.Reader.Rules.{star};
 ghost use Rattle.cedar_grammar.specs.Reader.Lines.{annotation_rule, cond_rule, policy_rule, set_to};
-ghost use Rattle.cedar_tree.specs.Erased.{policy_parts};
-ghost use Rattle.cedar_nodes.specs.ReadingExprs.{at_depth};
-ghost use Rattle.cedar_cst.specs.ReadingSet.{cond_parts, GivesSet};
-ghost use Rattle.cedar_reading.specs.Reading.{kind, flat, GivesNode, GivesMany, annotation_parts};
+ghost use Rattle.cedar_tree.specs.Erased.{policy_parts, annotation_parts, cond_parts};
+ghost use Rattle.cedar_nodes.specs.Inside.ReadingExprs.{at_depth};
+ghost use Rattle.cedar_cst.specs.Inside.ReadingSet.{GivesSet};
+ghost use Rattle.cedar_reading.specs.Inside.Reading.{kind, flat, GivesNode, GivesMany};
 
 use crate::cst::scopes::parse_scope;
 use cedar_expressions::expressions::parse_expr;

@@ -2,12 +2,14 @@
 ghost use Rattle.std.specs.Prelude.{◌≡◌, ◌≢◌, ◌≤◌, ◌<◌, ◌+◌, ◌^◌, List, [], ◌∷◌, ◌++◌, length, map, slice_range, IfOk, IfErr, OnErr, MatchResult, MatchOption};
 ghost use Rattle.std.specs.List.{All};
 ghost use Rattle.std.specs.Str.{IsCharBoundary};
+ghost use Rattle.cedar_tree.specs.NodeTrees.{IsTreeOf};
 ghost use Rattle.cedar_tree.specs.Refusals.{Refuses, RefusesTokens};
 ghost use Rattle.cedar_tree.specs.declared.error.FormatError.TheVariants.{OutOfMemory};
-ghost use Rattle.cedar_cst.specs.Parts.{moved_lexeme, place_before, HasPoliciesFrom, RefusesFrom};
-ghost use Rattle.cedar_cst.specs.PolicyReaders.{HasPolicies, HasRead, AnsweredComeFirst, TreeHasThePolicies};
+ghost use Rattle.cedar_cst.specs.Inside.Parts.{moved_lexeme, place_before, HasPoliciesFrom, RefusesFrom};
+ghost use Rattle.cedar_cst.specs.PolicyReaders.{HasPolicies, HasRead};
 
 use crate::cst::policies::parse_set;
+use crate::laws::tree_has_the_policies;
 use cedar_pieces::pieces::first_piece;
 use cedar_reading::lexeme::{Lexeme, check_tokens, read_lexemes};
 use cedar_reading::reading::Refusal;
@@ -70,15 +72,15 @@ impl<'src> PolicyReader<'src> {
     }
 }
 
-/// What a reader has answered are the first policies of the tree of its text. A law: its body does nothing.
-pub fn answered_come_first()
-    ensures { AnsweredComeFirst }
-{}
-
-/// A text has the policies of its tree of nodes. A law: its body does nothing.
-pub fn tree_has_the_policies()
-    ensures { TreeHasThePolicies }
-{}
+/// The policies of a text, as `parse_policies` gives them; its tokens are held all at once, which takes less time where the text
+/// has few policies.
+pub fn parse_at_once<'src>(alloc: Global, text: &'src str) -> Result<Policies<'src>, FormatError>
+    ensures tree { IfOk result (λ p. IsTreeOf text.now p) }
+    ensures refusal { IfErr result (λ e. Refuses text.now e) }
+{
+    tree_has_the_policies();
+    parse_part(alloc, text, 0, text.len())
+}
 
 // The policies of the bytes `at..end` of a text, with the places of the text.
 fn parse_part<'src>(

@@ -5,10 +5,10 @@ ghost use Rattle.cedar_grammar.specs.Kinds.{is};
 ghost use Rattle.cedar_grammar.specs.declared.kind.Kind.TheVariants as K;
 ghost use Rattle.cedar_grammar.specs.Reader.Rules.{entity, items, word_of};
 ghost use Rattle.cedar_grammar.specs.Reader.Lines.{◌∥◌, operand, entity_or, scoped, maybe, entity_item, action};
-ghost use Rattle.cedar_tree.specs.Erased.{add_parts, expr_parts, primary_parts};
-ghost use Rattle.cedar_reading.specs.ReadingParts.{slot_kind, variable_kind, variable_parts, IsVariableOf, IsLoneOrOf, entity_list, scope_rule};
-ghost use Rattle.cedar_nodes.specs.ReadingItems.{GivesItems, GivesScope};
-ghost use Rattle.cedar_reading.specs.Reading.{flat, GivesNode, ident_parts};
+ghost use Rattle.cedar_tree.specs.Erased.{add_parts, expr_parts, primary_parts, variable_parts};
+ghost use Rattle.cedar_reading.specs.Inside.ReadingParts.{slot_kind, variable_kind, IsVariableOf, IsLoneOrOf, entity_list, scope_rule};
+ghost use Rattle.cedar_nodes.specs.Inside.ReadingItems.{GivesItems, GivesScope};
+ghost use Rattle.cedar_reading.specs.Inside.Reading.{flat, GivesNode, ident_parts};
 
 use cedar_grammar::kind::Kind;
 use cedar_nodes::nodes::{and_node, list_node, lone_relation, or_expr, or_node};

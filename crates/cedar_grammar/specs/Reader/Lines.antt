@@ -47,8 +47,8 @@ action = node variable (word_of (is K.Action) ▸ maybe (one_of K.Equal ▸ oper
 abbrev pub annotation_rule : Rule
 annotation_rule = node annotation (one_of K.At ▸ word_of is_word ▸ maybe (one_of K.LParen ▸ text_rule ▸ one_of K.RParen))
 
-abbrev pub signs : Kind → Rule
-signs k = one_of k ▸ maybe (one_of k ▸ maybe (one_of k ▸ maybe (one_of k)))
+abbrev pub same_signs : Kind → Rule
+same_signs k = one_of k ▸ maybe (one_of k ▸ maybe (one_of k ▸ maybe (one_of k)))
 
 abbrev pub call_parts : Rule
 call_parts = nested K.LParen (maybe (items inner) ▸ one_of K.RParen)
@@ -81,7 +81,7 @@ abbrev pub member_rule : Rule
 member_rule = node member (item ▸ star access_rule)
 
 abbrev pub unary_rule : Rule
-unary_rule = node unary (maybe (signs K.Neg ∥ signs K.Dash) ▸ member_rule)
+unary_rule = node unary (maybe (same_signs K.Neg ∥ same_signs K.Dash) ▸ member_rule)
 
 abbrev pub mult_rule : Rule
 mult_rule = node mult (unary_rule ▸ star (one_of K.Mul ▸ unary_rule))

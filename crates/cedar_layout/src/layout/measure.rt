@@ -1,6 +1,6 @@
 //! The first pass over a document, from its last node to its first: what the second one has to know of each group.
 ghost use Rattle.std.specs.Prelude.{◌≡◌, ◌+◌, ◌*◌, ◌≤◌, ◌∷◌, IfOk, OnOk};
-ghost use Rattle.cedar_layout.specs.Measuring.{all_notes, measured, note_of, before_group, whole, items_of, notes_to_come, nodes_to_take, turns};
+ghost use Rattle.cedar_layout.specs.Inside.Measuring.{all_notes, measured, note_of, before_group, whole, items_of, notes_to_come, nodes_to_take, turns};
 ghost use Rattle.cedar_layout.specs.Nodes.{nodes};
 ghost use Rattle.cedar_layout.specs.Value.{doc_of};
 

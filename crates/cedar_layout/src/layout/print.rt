@@ -3,9 +3,9 @@ ghost use Rattle.std.specs.Prelude.{◌≡◌, ℕ, ◌+◌, ◌≤◌, ◌<◌,
 ghost use Rattle.std.specs.List.{flat_map};
 ghost use Rattle.cedar_layout.specs.declared.layout.measure.Note.{Note};
 ghost use Rattle.cedar_layout.specs.Layout.{indented, print};
-ghost use Rattle.cedar_layout.specs.Computed.{capped, laid};
-ghost use Rattle.cedar_layout.specs.Measuring.{all_notes, nodes_of_all};
-ghost use Rattle.cedar_layout.specs.Printing.{todo, todos, laid_all, notes_of, PrintsSame, nodes_to_print};
+ghost use Rattle.cedar_layout.specs.Inside.Computed.{capped, laid};
+ghost use Rattle.cedar_layout.specs.Inside.Measuring.{all_notes, nodes_of_all};
+ghost use Rattle.cedar_layout.specs.Inside.Printing.{todo, todos, laid_all, notes_of, PrintsSame, nodes_to_print};
 ghost use Rattle.cedar_layout.specs.Nodes.{nodes};
 ghost use Rattle.cedar_layout.specs.Value.{doc_of, docs_of};
 

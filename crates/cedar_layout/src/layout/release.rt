@@ -2,7 +2,7 @@
 //! the sequences' own vectors are the stack, so no memory is asked for.
 ghost use Rattle.std.specs.Prelude.{◌≡◌, ◌+◌, ◌≤◌, ◌<◌, [], ◌∷◌, ◌++◌, vec_len};
 ghost use Rattle.std.specs.Vec.{vec_capacity};
-ghost use Rattle.cedar_layout.specs.Releasing.{work};
+ghost use Rattle.cedar_layout.specs.Inside.Releasing.{work};
 
 use crate::layout::Document;
 

@@ -5,7 +5,7 @@ ghost use Rattle.std.specs.List.{list_all, position};
 ghost use Rattle.std.specs.Str.{chars, IsCharBoundary};
 ghost use Rattle.cedar_tokens.specs.Units.{FindsLongest, IsComment};
 ghost use Rattle.cedar_layout.specs.Cleaning.{FindsFirst, IsCleaned, IsKept, IsString, clean_piece, is_blank_line, last_or};
-ghost use Rattle.cedar_layout.specs.Seeking.{IsFirstLine, IsSought};
+ghost use Rattle.cedar_layout.specs.Inside.Seeking.{IsFirstLine, IsSought};
 
 use cedar_tokens::lexer::{UnitKind, first_unit};
 use cedar_tokens::token::Span;

@@ -3,7 +3,7 @@ ghost use Rattle.std.specs.Prelude.{◌≡◌, ◌+◌, ◌<◌, ◌≤◌, ◌^
 ghost use Rattle.std.specs.List.{position, position_or_len, prefix_len};
 ghost use Rattle.cedar_tokens.specs.Places.{InOrderFrom};
 ghost use Rattle.cedar_layout.specs.Lookups.{AreInOrder, CountsSteps, HandsOutLines, HandsOutNamed, comment_parts, comments_in, emptied, emptied_in, ends_at, shown, starts_at, starts_from};
-ghost use Rattle.cedar_layout.specs.Halving.{edge_of, is_sought};
+ghost use Rattle.cedar_layout.specs.Inside.Halving.{edge_of, is_sought};
 
 use crate::layout::Steps;
 use cedar_tokens::token::{Comment, Span, WrappedToken};

@@ -1,5 +1,5 @@
 use Rattle.cedar_canonical.proofs.Assembled.{choices_agree}
-use Rattle.cedar_canonical.proofs.Policies.{law_of_gaps}
+use Rattle.cedar_canonical.proofs.PrintedPolicies.{law_of_gaps}
 use Rattle.cedar_canonical.proofs.laws.every_gap_holds.Goals as goal
 
 pub returns-clause-gaps : goal.returns-clause-gaps

@@ -3,7 +3,7 @@ use Rattle.cedar_layout.specs.Layout.{◌·◌}
 use Rattle.cedar_layout.specs.Value.{docs_of}
 use Rattle.cedar_layout.specs.declared.layout.Document.TheVariants.{LineOrNil as LineOrNil'}
 use Rattle.cedar_layout.proofs.Values.{dot-nil, doc_of_line_or_nil, docs_of-push}
-use Rattle.cedar_expression_documents.specs.Breaks.{break_if}
+use Rattle.cedar_expression_documents.specs.Inside.Breaks.{break_if}
 use Rattle.cedar_expression_documents.proofs.accesses.push_break.Goals as goal
 
 pub returns-in_ok-push : goal.returns-in_ok-push

@@ -3,7 +3,7 @@ use Rattle.std.proofs.Common.{rules, ◌≡◌, refl, ap, ◌∙◌, arith, of_z
 use Rattle.std.proofs.lemmas.Int.{ints}
 use Rattle.cedar_grammar.specs.Trees.{Label, none, leaf, branch, join}
 use Rattle.cedar_grammar.specs.TypedTrees.{plain_expr, if_expr, parts, yield, compare, has_or_like, is_type, is_in, member_of, literal, slot, reference, named, parens, list_empty, list_of, record_empty, record_of, init_of}
-use Rattle.cedar_tree.specs.Erased.{or_parts, expr_parts, relation_parts, add_parts, path_parts, addop_text, mult_parts, unary_parts, node, signs, primary_parts, access_parts}
+use Rattle.cedar_tree.specs.Erased.{or_parts, expr_parts, relation_parts, add_parts, path_parts, addop_text, mult_parts, unary_parts, node, sign_leaves, primary_parts, access_parts}
 use Rattle.cedar_leaf_documents.proofs.Opened.{opened_tree, opened_token, starts_here, ends_here, in_turn, freely, rewritten, nothing_behind, Always, Behind, opened_leaf, opened_variant}
 use Rattle.cedar_expression_documents.proofs.Primaries.{seen_plain, opened_literal, seen_literal, seen_slot, seen_ref, seen_name, seen_brackets, seen_list, seen_record, list_found, record_found, in_brackets, lists, no_items, only, records, not_both, some_inits, tests_empty, tests_full, seen_if}
 use Rattle.cedar_layout.specs.Layout.{◌·◌, line, nest, group}
@@ -22,10 +22,10 @@ use Rattle.cedar_layout.specs.Comments.{space}
 use Rattle.cedar_layout.specs.Value.{doc_of, docs_of}
 use Rattle.std.proofs.Math.Facts.{to_z-of_z}
 use Rattle.std.specs.Cmp.Derive.{both_true}
-use Rattle.cedar_expression_documents.specs.Signs.{member_in}
+use Rattle.cedar_expression_documents.specs.Inside.Signs.{member_in}
 use Rattle.cedar_expression_documents.proofs.AccessTrees.{at_indent, member_shown, access_at, walk_turn, walk_over, field_needs, index_needs, call_needs, call_shown}
 use Rattle.cedar_expression_documents.proofs.SignTokens.{opened_unary, unary_needs, unary_shown, view_of_unary}
-use Rattle.cedar_expression_documents.specs.Breaks.{form_before}
+use Rattle.cedar_expression_documents.specs.Inside.Breaks.{form_before}
 use Rattle.std.specs.Prelude.{pos, ◌&&◌}
 use Rattle.cedar_layout.specs.declared.layout.Document.TheVariants.{LineOrNil as LineOrNil'}
 use Rattle.cedar_expression_documents.proofs.LastTokens.{ends_with, closed}
@@ -459,14 +459,14 @@ unary_doc-returns-in_err-signs-clause-found _ c =
     let ps = places c.args.tokens.now in
     let u = out-Unary c.args.unary.now in
     missed c.from_residual.result _ _ _ c.from_residual.ensures.1 (c.in_err-signs.ensures.found (member_parts u.item.inner))
-    (λ h. unary_needs ps c.args.span c.args.unary.now ∙ and_false (has_own ps Label.unary (Some c.args.span) (signs u.op (node Label.member u.item.span (member_parts u.item.inner) none))) _ h)
+    (λ h. unary_needs ps c.args.span c.args.unary.now ∙ and_false (has_own ps Label.unary (Some c.args.span) (sign_leaves u.op (node Label.member u.item.span (member_parts u.item.inner) none))) _ h)
 
 pub unary_doc-returns-in_err-member-clause-found : goal.unary_doc-returns-in_err-member-clause-found
 unary_doc-returns-in_err-member-clause-found _ c =
     let ps = places c.args.tokens.now in
     let u = out-Unary c.args.unary.now in
     missed c.from_residual-in_err-member.result _ _ _ c.from_residual-in_err-member.ensures.1 c.in_err-member.ensures.found
-    (λ h. unary_needs ps c.args.span c.args.unary.now ∙ and_last (has_own ps Label.unary (Some c.args.span) (signs u.op (node Label.member u.item.span (member_parts u.item.inner) none))) _
+    (λ h. unary_needs ps c.args.span c.args.unary.now ∙ and_last (has_own ps Label.unary (Some c.args.span) (sign_leaves u.op (node Label.member u.item.span (member_parts u.item.inner) none))) _
     (as_before (λ qs. has_its_tokens qs (member_parts u.item.inner)) false c.args.tokens.now c.signs_doc.new.tokens c.in_ok-signs.ensures.kept h))
 
 pub unary_doc-returns-clause-found : goal.unary_doc-returns-clause-found

@@ -11,7 +11,7 @@ use Rattle.cedar_expression_documents.proofs.Chains.{MadeSoFar, breaking_sign, s
 use Rattle.cedar_tree.specs.NodeLists.{and_parts, access_items, item_trees, init_parts}
 use Rattle.cedar_grammar.specs.TypedTrees.{Tree, accesses, yield}
 use Rattle.cedar_layout.specs.Value.{docs_of}
-use Rattle.cedar_expression_documents.specs.Breaks.{form_before}
+use Rattle.cedar_expression_documents.specs.Inside.Breaks.{form_before}
 use Rattle.cedar_expression_documents.proofs.AccessTrees.{Walked}
 use Rattle.cedar_expression_documents.proofs.Commas.{Progress}
 use Rattle.cedar_grammar.specs.TypedTrees as kind

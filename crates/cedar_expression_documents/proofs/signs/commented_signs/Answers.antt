@@ -8,7 +8,7 @@ use Rattle.cedar_layout.specs.Layout.{nil, text, ◌·◌}
 use Rattle.cedar_layout.specs.Value.{doc_of}
 use Rattle.cedar_layout.specs.declared.layout.Document.TheVariants.{Nil as Nil'}
 use Rattle.cedar_layout.proofs.Values.{doc_of_seq, doc_of_nil, doc_of_text}
-use Rattle.cedar_expression_documents.specs.Signs.{signs_of}
+use Rattle.cedar_expression_documents.specs.Inside.Signs.{signs_of}
 use Rattle.cedar_expression_documents.proofs.SignTokens.{sign_step}
 use Rattle.cedar_expression_documents.proofs.signs.commented_signs.Goals as goal
 

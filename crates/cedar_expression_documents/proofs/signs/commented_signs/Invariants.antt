@@ -1,7 +1,7 @@
 use Rattle.std.proofs.Common.{◌≡◌, map, take}
 use Rattle.cedar_layout.specs.Lookups.{comment_parts}
 use Rattle.cedar_layout.specs.Value.{docs_of}
-use Rattle.cedar_expression_documents.specs.Signs.{signs_of}
+use Rattle.cedar_expression_documents.specs.Inside.Signs.{signs_of}
 use Rattle.cedar_expression_documents.proofs.signs.commented_signs.Given as goal
 
 abbrev pub invariant-loop-comment : goal.invariant-loop-comment

@@ -1,6 +1,6 @@
 use Rattle.std.proofs.Common.{map, ap, ◌∙◌, ◌∷◌}
 use Rattle.cedar_layout.specs.Lookups.{comment_parts, Shown}
-use Rattle.cedar_expression_documents.specs.Signs.{sign_count, signs_of}
+use Rattle.cedar_expression_documents.specs.Inside.Signs.{sign_count, signs_of}
 use Rattle.cedar_leaf_documents.proofs.Keeping.{kept_if_range_taken}
 use Rattle.cedar_expression_documents.proofs.SignTokens.{as_many, comments_counted, not_as_many, taken_between}
 use Rattle.cedar_expression_documents.proofs.signs.counted_signs_doc.Goals as goal

@@ -1,7 +1,7 @@
 use Rattle.std.proofs.Common.{◌≡◌, false, string_bytes, length, arith}
 use Rattle.std.specs.List.{flat_map}
 use Rattle.cedar_layout.specs.Layout.{print}
-use Rattle.cedar_layout.specs.Computed.{laid}
+use Rattle.cedar_layout.specs.Inside.Computed.{laid}
 use Rattle.cedar_layout.specs.Value.{doc_of}
 use Rattle.cedar_layout.proofs.Rule.{laid_is_the_layout}
 use Rattle.cedar_layout.proofs.Cuts.{cut_back}

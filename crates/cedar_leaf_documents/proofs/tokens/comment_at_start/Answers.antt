@@ -1,7 +1,7 @@
 use Rattle.std.proofs.Common.{◌≡◌, ◌∷◌, ◌++◌, [], None, ap, ◌∙◌, map, subst}
 use Rattle.std.specs.Prelude.{is_some, IsSomeAnd}
 use Rattle.cedar_layout.specs.Lookups.{comment_parts, emptied, shown, starts_at}
-use Rattle.cedar_leaf_documents.proofs.Focus.{taken, first_at_start}
+use Rattle.cedar_leaf_documents.proofs.LookedUp.{taken, first_at_start}
 use Rattle.cedar_leaf_documents.proofs.Found.{found_at_start}
 use Rattle.cedar_leaf_documents.proofs.Keeping.{kept_if_taken}
 use Rattle.cedar_leaf_documents.proofs.tokens.comment_at_start.Goals as goal

@@ -1,6 +1,6 @@
 use Rattle.cedar_layout.specs.Lookups.{starts_from, shown}
 use Rattle.std.proofs.Common.{map}
-use Rattle.cedar_leaf_documents.proofs.Focus.{taken, first_behind}
+use Rattle.cedar_leaf_documents.proofs.LookedUp.{taken, first_behind}
 use Rattle.cedar_leaf_documents.proofs.Keeping.{kept_if_taken}
 use Rattle.cedar_leaf_documents.proofs.Marks.{marked}
 use Rattle.cedar_leaf_documents.proofs.tokens.mark_after.Goals as goal

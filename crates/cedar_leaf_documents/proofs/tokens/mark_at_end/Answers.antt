@@ -1,6 +1,6 @@
 use Rattle.cedar_layout.specs.Lookups.{ends_at, shown}
 use Rattle.std.proofs.Common.{map}
-use Rattle.cedar_leaf_documents.proofs.Focus.{taken, first_at_end}
+use Rattle.cedar_leaf_documents.proofs.LookedUp.{taken, first_at_end}
 use Rattle.cedar_leaf_documents.proofs.Keeping.{kept_if_taken}
 use Rattle.cedar_leaf_documents.proofs.Marks.{marked}
 use Rattle.cedar_leaf_documents.proofs.tokens.mark_at_end.Goals as goal

@@ -13,7 +13,7 @@ use Rattle.cedar_leaf_documents.specs.Found.{has_its_tokens}
 use Rattle.cedar_policy_documents.specs.PartDocuments.{body_document}
 use Rattle.cedar_leaf_documents.specs.NodeDocuments.{text_of}
 use Rattle.cedar_leaf_documents.proofs.Flat.{flat}
-use Rattle.cedar_leaf_documents.proofs.Focus.{first_behind, taken}
+use Rattle.cedar_leaf_documents.proofs.LookedUp.{first_behind, taken}
 use Rattle.cedar_leaf_documents.proofs.Found.{as_before, missed}
 use Rattle.cedar_leaf_documents.proofs.Keeping.{kept_if_taken}
 use Rattle.cedar_leaf_documents.proofs.Opened.{GivesIf, in_turn, freely, rewritten, nothing_behind, Always, Behind}

@@ -13,7 +13,7 @@ use Rattle.cedar_canonical.specs.Table.{bare_token, lines_of_first, table}
 use Rattle.cedar_canonical.proofs.ByValue.{yield_map}
 use Rattle.cedar_leaf_documents.proofs.Flat.{flat}
 use Rattle.cedar_leaf_documents.proofs.Found.{as_before, missed}
-use Rattle.cedar_leaf_documents.proofs.Focus.{first_at_start, lines_taken}
+use Rattle.cedar_leaf_documents.proofs.LookedUp.{first_at_start, lines_taken}
 use Rattle.cedar_leaf_documents.proofs.Keeping.{kept_if_lines_taken}
 use Rattle.cedar_leaf_documents.proofs.Opened.{starts_here}
 use Rattle.cedar_policy_documents.proofs.FirstToken.{unled_nodes, unled_tokens, unled_leaves}

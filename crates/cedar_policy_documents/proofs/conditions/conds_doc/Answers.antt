@@ -4,12 +4,12 @@ use mir.Val.{to_z, of_z}
 use Rattle.std.proofs.lemmas.List.{drop_all, drop_more}
 use Rattle.std.specs.Vec.{vec_len}
 use Rattle.cedar_grammar.specs.Trees.{none}
-use Rattle.cedar_tree.specs.Erased.{cond_trees}
+use Rattle.cedar_tree.specs.Erased.{cond_trees, cond_parts}
 use Rattle.cedar_layout.specs.Lookups.{shown}
 use Rattle.cedar_layout.specs.declared.layout.Document.TheVariants.{Hard as Hard'}
 use Rattle.cedar_layout.proofs.Values.{doc_of_hard, doc_of_seq, is_nil, not_empty}
 use Rattle.cedar_leaf_documents.specs.Found.{has_its_tokens, places}
-use Rattle.cedar_policy_documents.specs.PartDocuments.{cond_parts, part_document}
+use Rattle.cedar_policy_documents.specs.PartDocuments.{part_document}
 use Rattle.cedar_leaf_documents.proofs.Found.{and_false, and_true, as_before, missed}
 use Rattle.cedar_policy_documents.proofs.PolicyRows.{Conditioned, Pushed, first, further, none_conditioned, one_conditioned, all_conditioned}
 use Rattle.cedar_policy_documents.proofs.conditions.conds_doc.Goals.{then-not-is_empty+in_ok-push, else-not-is_empty}

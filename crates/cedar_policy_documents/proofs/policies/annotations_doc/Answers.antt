@@ -1,13 +1,12 @@
 use Rattle.std.proofs.Common.{[], None, get_or, ap, ◌∙◌, refl, true, false, map, subst, drop, ◌+◌}
 use Rattle.std.proofs.lemmas.List.{drop_all, drop_more}
 use Rattle.cedar_grammar.specs.Trees.{none}
-use Rattle.cedar_tree.specs.Erased.{annotation_trees}
+use Rattle.cedar_tree.specs.Erased.{annotation_trees, annotation_parts}
 use Rattle.cedar_tree.specs.declared.tree.Annotation.{Annotation}
 use Rattle.cedar_tree.specs.declared.tree.Node.{Node}
 use Rattle.cedar_layout.proofs.Values.{doc_of_seq}
 use Rattle.cedar_layout.specs.Lookups.{shown}
 use Rattle.cedar_leaf_documents.specs.Found.{has_its_tokens, places}
-use Rattle.cedar_policy_documents.specs.PartDocuments.{annotation_parts}
 use Rattle.cedar_leaf_documents.proofs.Found.{and_false, and_true, as_before, missed}
 use Rattle.cedar_policy_documents.proofs.PolicyRows.{Annotated, none_annotated, one_annotated, all_annotated}
 use Rattle.cedar_policy_documents.proofs.policies.annotations_doc.Goals as goal

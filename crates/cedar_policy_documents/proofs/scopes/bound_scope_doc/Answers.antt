@@ -6,13 +6,14 @@ use Rattle.cedar_layout.specs.Layout.{◌·◌, hard, nest}
 use Rattle.cedar_layout.proofs.Values.{doc_of_hard}
 use Rattle.cedar_leaf_documents.specs.Found.{has_its_tokens}
 use Rattle.cedar_leaf_documents.specs.NodeDocuments.{as_leaf}
-use Rattle.cedar_policy_documents.specs.PartDocuments.{part_document, variable_parts}
+use Rattle.cedar_policy_documents.specs.PartDocuments.{part_document}
 use Rattle.cedar_canonical.specs.Table.{C}
 use Rattle.cedar_leaf_documents.proofs.Flat.{flat}
 use Rattle.cedar_leaf_documents.proofs.Found.{as_before, missed}
 use Rattle.cedar_leaf_documents.proofs.Opened.{freely, rewritten}
 use Rattle.cedar_policy_documents.proofs.ScopeTrees.{scope_in_turn}
 use Rattle.cedar_policy_documents.proofs.scopes.bound_scope_doc.Goals as goal
+use Rattle.cedar_tree.specs.Erased.{variable_parts}
 
 pub returns-clause-shows : goal.returns-clause-shows
 returns-clause-shows c p a r x y hp sp ha sa hr sr hx hy before after st =

@@ -6,7 +6,7 @@ use Rattle.cedar_tree.specs.declared.tree.Node.{Node}
 use Rattle.cedar_tree.specs.declared.tree.Policy.{Policy}
 use Rattle.cedar_policy_formatter.specs.Refused.{IsMemory}
 use Rattle.cedar_layout.specs.Lookups.{shown}
-use Rattle.cedar_policy_formatter.specs.Written.{IsPolicyText}
+use Rattle.cedar_policy_formatter.specs.Inside.Written.{IsPolicyText}
 use Rattle.cedar_policy_formatter.proofs.Outputs.{JoinedSoFar, joined_begun, joined_fails, joined_more, joined_ends}
 use Rattle.cedar_policy_formatter.proofs.fmt.joined_policies.Goals as goal
 

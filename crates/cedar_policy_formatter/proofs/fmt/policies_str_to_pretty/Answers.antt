@@ -10,7 +10,7 @@ use Rattle.cedar_canonical.specs.Canonical.{IsOutputOf}
 use Rattle.cedar_canonical.specs.Output.{closing_text}
 use Rattle.cedar_reading.proofs.Walking.{part_unit}
 use Rattle.cedar_pieces.specs.Pieces.{IsPiece, HasNoPiece}
-use Rattle.cedar_policy_formatter.specs.Written.{behind_feed}
+use Rattle.cedar_policy_formatter.specs.Inside.Written.{behind_feed}
 use Rattle.cedar_policy_formatter.proofs.Piecewise.{laid_begun, laid_more, laid_ends, rest_fails, piece_fails, placed_within}
 use Rattle.cedar_policy_formatter.proofs.OutputPolicies.{output_keeps_policies}
 use Rattle.cedar_policy_formatter.proofs.fmt.policies_str_to_pretty.Goals as goal
@@ -68,16 +68,16 @@ pieces-preserved c =
           (c.in_ok-push_layout.ensures ∙ ap (λ z. out ++ behind_feed (nat_lt 0 at) z) c.as_str.ensures.value);
     }
 
-pub behind-requires-in-Err-parse_policies-clause-place : goal.behind-requires-in-Err-parse_policies-clause-place
-behind-requires-in-Err-parse_policies-clause-place c =
-    placed_within c.range_from-rest.result.now _ c.in-Err-parse_policies.refusal (omega (arith, ap length c.range_from-rest.ensures.value, length-drop c.pieces.at c.args.ps.now)) c.in-Err-parse_policies.ensures.refusal
+pub behind-requires-in-Err-parse_at_once-clause-place : goal.behind-requires-in-Err-parse_at_once-clause-place
+behind-requires-in-Err-parse_at_once-clause-place c =
+    placed_within c.range_from-rest.result.now _ c.in-Err-parse_at_once.refusal (omega (arith, ap length c.range_from-rest.ensures.value, length-drop c.pieces.at c.args.ps.now)) c.in-Err-parse_at_once.ensures.refusal
 
-pub returns-in-Err-parse_policies-clause-answer : goal.returns-in-Err-parse_policies-clause-answer
-returns-in-Err-parse_policies-clause-answer c =
-    let refusal = c.in-Err-parse_policies.refusal in
-    subst (λ e. Refuses c.args.ps.now e) (sym c.behind-in-Err-parse_policies.ensures)
+pub returns-in-Err-parse_at_once-clause-answer : goal.returns-in-Err-parse_at_once-clause-answer
+returns-in-Err-parse_at_once-clause-answer c =
+    let refusal = c.in-Err-parse_at_once.refusal in
+    subst (λ e. Refuses c.args.ps.now e) (sym c.behind-in-Err-parse_at_once.ensures)
     (rest_fails c.args.config.now.line_width c.args.config.now.indent_width c.args.ps.now c.in_ok-check_tokens.ensures.tokens c.pieces.at (string_bytes c.pieces.text) c.pieces.invariant.laid refusal
-    (subst (λ z. Refuses z refusal) c.range_from-rest.ensures.value c.in-Err-parse_policies.ensures.refusal))
+    (subst (λ z. Refuses z refusal) c.range_from-rest.ensures.value c.in-Err-parse_at_once.ensures.refusal))
 
 -- the text is accepted, and its output is written
 ends : (c : goal.In_ok-push_closing) → Accepted c.args.ps.now × IsOutputOf c.args.config.now.line_width c.args.config.now.indent_width c.args.ps.now (string_bytes c.push_closing.new.text)
@@ -86,7 +86,7 @@ ends c =
     let at = c.pieces.at in
     let out = string_bytes c.pieces.text in
     let value = c.range_from-rest.ensures.value in
-    let accepted = c.tree_is_of_accepted.ensures c.range_from-rest.result.now c.in_default-parse_policies.field-0 c.in_default-parse_policies.ensures.tree in
+    let accepted = c.tree_is_of_accepted.ensures c.range_from-rest.result.now c.in_default-parse_at_once.field-0 c.in_default-parse_at_once.ensures.tree in
     laid_ends c.args.config.now.line_width c.args.config.now.indent_width text at out (string_bytes c.push_closing.new.text) c.in_ok-check_tokens.ensures.tokens c.pieces.invariant.laid
     (subst HasNoPiece c.range_from.ensures.value c.in_default.ensures.piece)
     (subst Accepted value accepted)

@@ -2,7 +2,7 @@ use Rattle.std.proofs.Common.{◌≡◌, ◌++◌}
 use Rattle.std.specs.Prelude.{string_bytes}
 use Rattle.cedar_tokens.specs.Tokens.{comments_left}
 use Rattle.cedar_canonical.specs.Output.{closing_text}
-use Rattle.cedar_policy_formatter.specs.Written.{behind_feed}
+use Rattle.cedar_policy_formatter.specs.Inside.Written.{behind_feed}
 use Rattle.cedar_policy_formatter.proofs.fmt.push_closing.Given as goal
 
 abbrev pub invariant-loop-comment : goal.invariant-loop-comment

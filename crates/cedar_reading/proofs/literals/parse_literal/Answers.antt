@@ -1,5 +1,5 @@
 use Rattle.std.proofs.Common.{subst, ◌∙◌}
-use Rattle.cedar_reading.specs.ReadingParts.{HasLiteral, is_literal}
+use Rattle.cedar_reading.specs.Inside.ReadingParts.{HasLiteral, is_literal}
 use Rattle.cedar_reading.proofs.Steps.{fails_as, first_begins, none_begins}
 use Rattle.cedar_reading.proofs.LiteralLaws.{literal_reads, literal_not}
 use Rattle.cedar_reading.proofs.literals.parse_literal.Goals as goal

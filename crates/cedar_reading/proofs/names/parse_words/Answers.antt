@@ -1,7 +1,7 @@
 use Rattle.std.proofs.Common.{sym, ◌∙◌, arith}
 use Rattle.std.proofs.lemmas.Result.{err_from_is_err_and}
 use Rattle.cedar_grammar.proofs.ReadingLaws.{both_fails}
-use Rattle.cedar_reading.specs.ReadingParts.{ident_reader, words_on, words_then}
+use Rattle.cedar_reading.specs.Inside.ReadingParts.{ident_reader, words_on, words_then}
 use Rattle.cedar_reading.proofs.Steps.{passes}
 use Rattle.cedar_reading.proofs.Paths.{name_stands}
 use Rattle.cedar_reading.proofs.Entities.{words_first, words_next, words_stuck, text_fails, words_text, words_end}

@@ -1,5 +1,5 @@
 use Rattle.std.proofs.Common.{◌-◌, ◌≤◌, length}
-use Rattle.cedar_reading.specs.ReadingSigns.{Leads}
+use Rattle.cedar_reading.specs.Inside.ReadingSigns.{Leads}
 use Rattle.cedar_reading.proofs.signs.past_signs.Given as goal
 
 abbrev pub invariant-signs : goal.invariant-signs

@@ -1,4 +1,4 @@
-use Rattle.cedar_text_laws.proofs.CleanTexts.{clean_reads}
+use Rattle.cedar_text_laws.proofs.CleanedTexts.{clean_reads}
 use Rattle.cedar_text_laws.proofs.laws.cleaning_keeps_the_list.Goals as goal
 
 pub returns : goal.returns

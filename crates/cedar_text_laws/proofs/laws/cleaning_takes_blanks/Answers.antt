@@ -1,4 +1,4 @@
-use Rattle.cedar_text_laws.proofs.CleanTexts.{clean_takes_blanks, clean_has_no_blank_line}
+use Rattle.cedar_text_laws.proofs.CleanedTexts.{clean_takes_blanks, clean_has_no_blank_line}
 use Rattle.cedar_text_laws.proofs.LostBlanks.{every_text_loses_blanks}
 use Rattle.cedar_text_laws.proofs.laws.cleaning_takes_blanks.Goals as goal
 

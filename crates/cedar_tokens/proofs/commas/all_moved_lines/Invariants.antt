@@ -1,7 +1,7 @@
 use Rattle.std.proofs.Common.{◌≡◌, ◌++◌, ◌∷◌, map, drop, None}
 use Rattle.std.specs.Option.{option_map}
 use Rattle.cedar_tokens.specs.Tokens.{decorated, trailing_text}
-use Rattle.cedar_tokens.specs.MovedLines.{moved_lines, lines_of}
+use Rattle.cedar_tokens.specs.Inside.MovedLines.{moved_lines, lines_of}
 use Rattle.cedar_tokens.proofs.commas.all_moved_lines.Given as goal
 
 abbrev pub invariant-loop-token : goal.invariant-loop-token

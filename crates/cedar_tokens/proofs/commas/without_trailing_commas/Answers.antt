@@ -1,7 +1,7 @@
 use Rattle.std.proofs.Common.{◌≡◌, ◌∷◌, None, Some, sym, ◌∙◌, rules}
 use Rattle.std.specs.Prelude.{vec_len, vec_capacity}
 use Rattle.std.specs.Vec.Iter.{into_iter_items}
-use Rattle.cedar_tokens.specs.MovedLines.{lines_left}
+use Rattle.cedar_tokens.specs.Inside.MovedLines.{lines_left}
 use Rattle.cedar_tokens.proofs.PlainSteps.{Reached, reached_dropped, reached_pass, reached_comma, reached_other}
 use Rattle.cedar_tokens.proofs.commas.without_trailing_commas.Goals as goal
 use Rattle.cedar_tokens.proofs.commas.without_trailing_commas.Goals.{in_default-take-via-in-Some-take+else-is_closing_bracket, in_default-take-via-in-None-1}

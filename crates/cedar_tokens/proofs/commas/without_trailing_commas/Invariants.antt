@@ -1,6 +1,6 @@
 use Rattle.std.specs.Prelude.{vec_len, vec_capacity}
 use Rattle.std.specs.Vec.Iter.{into_iter_items, into_iter_len}
-use Rattle.cedar_tokens.specs.MovedLines.{lines_left}
+use Rattle.cedar_tokens.specs.Inside.MovedLines.{lines_left}
 use Rattle.cedar_tokens.proofs.PlainSteps.{Reached}
 use Rattle.cedar_tokens.proofs.commas.without_trailing_commas.Given as goal
 

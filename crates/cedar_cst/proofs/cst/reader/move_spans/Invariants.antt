@@ -1,5 +1,5 @@
 use Rattle.std.proofs.Common.{◌≡◌, ◌++◌, map, take, drop}
-use Rattle.cedar_cst.specs.Parts.{moved_lexeme}
+use Rattle.cedar_cst.specs.Inside.Parts.{moved_lexeme}
 use Rattle.cedar_cst.proofs.cst.reader.move_spans.Given as goal
 
 abbrev pub invariant-loop-lexeme : goal.invariant-loop-lexeme

@@ -1,11 +1,11 @@
 use Rattle.std.proofs.Common.{◌≡◌, ◌+◌, length, map, arith, sym, ap, ◌∙◌, subst, Ok, Err}
 use Rattle.cedar_grammar.specs.Texts.{greatest_depth}
 use Rattle.cedar_grammar.specs.Reader.Lines.{set_to}
-use Rattle.cedar_reading.specs.Lexemes.{AreLexemes}
-use Rattle.cedar_reading.specs.Reading.{kind}
+use Rattle.cedar_reading.specs.Inside.Lexemes.{AreLexemes}
+use Rattle.cedar_reading.specs.Inside.Reading.{kind}
 use Rattle.cedar_tree.specs.declared.error.FormatError.TheVariants as E
-use Rattle.cedar_cst.specs.Parts.{moved_lexeme, place_before, HasPoliciesFrom, RefusesFrom}
-use Rattle.cedar_cst.specs.ReadingSet.{GivesSet}
+use Rattle.cedar_cst.specs.Inside.Parts.{moved_lexeme, place_before, HasPoliciesFrom, RefusesFrom}
+use Rattle.cedar_cst.specs.Inside.ReadingSet.{GivesSet}
 use Rattle.cedar_cst.proofs.Moved.{lexeme_inside, given_moved, part_tree, part_grammar, part_deep, part_tokens}
 use Rattle.cedar_cst.proofs.cst.reader.parse_part.Goals as goal
 

@@ -1,6 +1,5 @@
 use Rattle.std.proofs.Common.{rules, refl}
-use Rattle.cedar_tree.specs.Erased.{node}
-use Rattle.cedar_policy_documents.specs.PartDocuments.{annotation_parts}
+use Rattle.cedar_tree.specs.Erased.{node, annotation_parts}
 use Rattle.cedar_grammar.specs.Trees.{Label, none}
 use Rattle.cedar_leaf_documents.specs.Found.{has_its_tokens}
 use Rattle.cedar_documents.proofs.Answered.{Called, and_one, kept_after, none_after, order_after, shown_part}

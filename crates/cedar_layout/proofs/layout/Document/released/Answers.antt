@@ -1,6 +1,6 @@
 use Rattle.std.proofs.Common.{◌+◌, ap, ◌∙◌, sym}
 use Rattle.cedar_layout.specs.Nodes.{nodes}
-use Rattle.cedar_layout.specs.Releasing.{nested}
+use Rattle.cedar_layout.specs.Inside.Releasing.{nested}
 use Rattle.cedar_layout.proofs.Counts.{nodes_pos, nodes_nest, nodes_group}
 use Rattle.cedar_layout.proofs.Releasing.{leaf_released, inner_released, nested_leaf, nested_nest, nested_group}
 use Rattle.cedar_layout.proofs.layout.Document.released.Goals as goal

@@ -1,5 +1,5 @@
 use Rattle.std.proofs.Common.{arith, ap}
-use Rattle.cedar_layout.specs.Measuring.{nodes_of_item}
+use Rattle.cedar_layout.specs.Inside.Measuring.{nodes_of_item}
 use Rattle.cedar_layout.proofs.Counts.{nodes_to_take_pushed, nodes_pos}
 use Rattle.cedar_layout.proofs.layout.measure.measure.Goals as goal
 

@@ -1,7 +1,7 @@
 use Rattle.std.proofs.Common.{◌≡◌, ◌+◌, ◌≤◌, ◌++◌}
 use Rattle.cedar_layout.specs.Nodes.{nodes}
 use Rattle.cedar_layout.specs.Value.{doc_of}
-use Rattle.cedar_layout.specs.Measuring.{all_notes, items_of, notes_to_come, nodes_to_take, turns}
+use Rattle.cedar_layout.specs.Inside.Measuring.{all_notes, items_of, notes_to_come, nodes_to_take, turns}
 use Rattle.cedar_layout.proofs.layout.measure.measure.Given as goal
 
 -- the notes so far and those to come are those of the whole document, and likewise the steps

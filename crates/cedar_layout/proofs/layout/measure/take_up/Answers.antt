@@ -3,7 +3,7 @@ use Rattle.std.proofs.Math.Seq.{take-length}
 use Rattle.cedar_layout.specs.Value.{doc_of, docs_of}
 use Rattle.cedar_layout.specs.Layout.{columns}
 use Rattle.cedar_layout.specs.Nodes.{nodes}
-use Rattle.cedar_layout.specs.Measuring.{items_of, whole, nodes_of_all}
+use Rattle.cedar_layout.specs.Inside.Measuring.{items_of, whole, nodes_of_all}
 use Rattle.cedar_layout.proofs.Values.{doc_of_text, doc_of_seq, doc_of_nest, doc_of_group}
 use Rattle.cedar_layout.proofs.Counts.{nodes_of_all-take, nodes_seq, nodes_nest, nodes_group, nodes_to_take_pushed, turns_pushed}
 use Rattle.cedar_layout.proofs.Measuring.{InRange, push_step, seq_end, nest_pushed, group_pushed, text_step}

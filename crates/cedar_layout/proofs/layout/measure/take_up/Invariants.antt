@@ -1,6 +1,6 @@
 use Rattle.std.proofs.Common.{◌≡◌, ◌+◌, ◌*◌, take}
 use Rattle.cedar_layout.specs.Value.{docs_of}
-use Rattle.cedar_layout.specs.Measuring.{items_of, nodes_of_all, nodes_to_take, turns}
+use Rattle.cedar_layout.specs.Inside.Measuring.{items_of, nodes_of_all, nodes_to_take, turns}
 use Rattle.cedar_layout.proofs.Measuring.{IsPushed}
 use Rattle.cedar_layout.proofs.layout.measure.take_up.Given as goal
 

@@ -3,8 +3,8 @@ use Rattle.std.specs.List.{flat_map}
 use Rattle.cedar_layout.specs.Layout.{print}
 use Rattle.cedar_layout.specs.Nodes.{nodes}
 use Rattle.cedar_layout.specs.Value.{doc_of}
-use Rattle.cedar_layout.specs.Computed.{laid}
-use Rattle.cedar_layout.specs.Printing.{laid_all, notes_of, nodes_to_print, todos}
+use Rattle.cedar_layout.specs.Inside.Computed.{laid}
+use Rattle.cedar_layout.specs.Inside.Printing.{laid_all, notes_of, nodes_to_print, todos}
 use Rattle.cedar_layout.proofs.layout.print.print_document.Given as goal
 
 -- what was printed and what the stack prints is what the whole document prints, and likewise the steps

@@ -1,7 +1,7 @@
 use Rattle.std.proofs.Common.{◌≡◌, ◌++◌, ◌∷◌, [], List, ◌-◌, take, subst, sym, ap, ◌∙◌, arith}
 use Rattle.std.proofs.lemmas.List.{map-append}
 use Rattle.cedar_layout.specs.Value.{doc_of, docs_of}
-use Rattle.cedar_layout.specs.Printing.{Todo, PrintsSame, todo, todos}
+use Rattle.cedar_layout.specs.Inside.Printing.{Todo, PrintsSame, todo, todos}
 use Rattle.cedar_layout.proofs.Printing.{push_step, push_end}
 use Rattle.cedar_layout.proofs.Counts.{nodes_to_print_pushed, nodes_of_all-back}
 use Rattle.cedar_layout.proofs.layout.print.push_all.Goals as goal

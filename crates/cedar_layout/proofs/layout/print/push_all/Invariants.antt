@@ -1,7 +1,7 @@
 use Rattle.std.proofs.Common.{◌≡◌, ◌+◌, ◌++◌, ◌∷◌, [], take}
 use Rattle.cedar_layout.specs.Value.{docs_of}
-use Rattle.cedar_layout.specs.Measuring.{nodes_of_all}
-use Rattle.cedar_layout.specs.Printing.{PrintsSame, nodes_to_print, todos}
+use Rattle.cedar_layout.specs.Inside.Measuring.{nodes_of_all}
+use Rattle.cedar_layout.specs.Inside.Printing.{PrintsSame, nodes_to_print, todos}
 use Rattle.cedar_layout.proofs.layout.print.push_all.Given as goal
 
 abbrev pub invariant-loop-i : goal.invariant-loop-i

@@ -6,8 +6,8 @@ use Rattle.cedar_layout.specs.declared.layout.Document.{Document}
 use Rattle.cedar_layout.specs.Layout.{columns, written, space, nothing, broken, print, indented}
 use Rattle.cedar_layout.specs.Nodes.{nodes}
 use Rattle.cedar_layout.specs.Value.{doc_of}
-use Rattle.cedar_layout.specs.Measuring.{noted}
-use Rattle.cedar_layout.specs.Printing.{Todo, PrintsSame, notes_of, tail_of, todo, todos}
+use Rattle.cedar_layout.specs.Inside.Measuring.{noted}
+use Rattle.cedar_layout.specs.Inside.Printing.{Todo, PrintsSame, notes_of, tail_of, todo, todos}
 use Rattle.cedar_layout.proofs.Counts.{nodes_to_print_pushed, nodes_nest, nodes_group}
 use Rattle.cedar_layout.proofs.Printing.{nest_step, group_notes, group_pieces, group_fits, not_none, PrintsAs, prints_nil, prints_text, prints_hard, prints_space, prints_break, prints_nothing, prints_break_or_nil, leaf_notes, leaf_bytes, piece_bytes}
 use Rattle.cedar_layout.proofs.Values.{doc_of_nil, doc_of_text, doc_of_line, doc_of_line_or_nil, doc_of_hard, doc_of_nest, doc_of_group}

@@ -1,6 +1,6 @@
 use Rattle.std.proofs.Common.{◌-◌, ◌<◌, ◌≤◌, ℕ, length, drop}
 use Rattle.cedar_tokens.specs.Units.{BeginsNone}
-use Rattle.cedar_layout.specs.Seeking.{IsSought}
+use Rattle.cedar_layout.specs.Inside.Seeking.{IsSought}
 use Rattle.cedar_layout.proofs.utils.cleaning.find.Given as goal
 
 abbrev pub invariant-loop-start : goal.invariant-loop-start

@@ -1,7 +1,7 @@
 use Rattle.std.proofs.Common.{◌≡◌, ◌+◌, ◌-◌, ◌/◌, ◌<◌, ◌≤◌, ℕ, true, false, length, get_or, arith}
 use Rattle.std.specs.Prelude.{nat_le}
 use Rattle.std.proofs.lemmas.Bool.Decides.{nat_tests}
-use Rattle.cedar_layout.specs.Halving.{edge_of}
+use Rattle.cedar_layout.specs.Inside.Halving.{edge_of}
 use Rattle.cedar_layout.proofs.Halving.{below_middle, above_middle, halved, first_passing}
 use Rattle.cedar_layout.proofs.utils.lookups.count_before.Goals as goal
 

@@ -1,6 +1,6 @@
 use Rattle.std.proofs.Common.{◌-◌, ◌+◌, ◌<◌, ◌≤◌, ◌^◌, ℕ, length, get_or}
 use Rattle.cedar_tokens.specs.declared.token.WrappedToken.{WrappedToken}
-use Rattle.cedar_layout.specs.Halving.{edge_of}
+use Rattle.cedar_layout.specs.Inside.Halving.{edge_of}
 use Rattle.cedar_layout.proofs.utils.lookups.count_before.Given as goal
 
 -- the sought place is between low and high

@@ -1,6 +1,6 @@
 use Rattle.std.proofs.Common.{get_or, sym, ◌∙◌}
 use Rattle.cedar_layout.specs.Lookups.{starts_at}
-use Rattle.cedar_layout.proofs.Handing.{order_of_set, place_inside, led_at, none_named, shows_unled}
+use Rattle.cedar_layout.proofs.HandedOut.{order_of_set, place_inside, led_at, none_named, shows_unled}
 use Rattle.cedar_layout.proofs.utils.lookups.get_leading_comment_at_start_counted.Goals as goal
 
 pub returns-in_err-place-clause-answer : goal.returns-in_err-place-clause-answer

@@ -2,7 +2,7 @@ use Rattle.std.proofs.Common.{◌≡◌, ◌<◌, get_or, arith, length, map, sy
 use Rattle.std.proofs.lemmas.List.{length-map}
 use Rattle.std.proofs.Math.ListN.{length-set}
 use Rattle.cedar_layout.specs.Lookups.{shown}
-use Rattle.cedar_layout.proofs.Handing.{shows_emptied, same_parts}
+use Rattle.cedar_layout.proofs.HandedOut.{shows_emptied, same_parts}
 use Rattle.cedar_layout.proofs.Ranges.{left_step, got_step, element_is}
 use Rattle.cedar_layout.proofs.utils.lookups.take_all.Goals as goal
 

@@ -1,6 +1,6 @@
 use Rattle.std.proofs.Common.{get_or, sym, ◌∙◌}
-use Rattle.cedar_layout.specs.Halving.{is_sought}
-use Rattle.cedar_layout.proofs.Handing.{order_of_set, place_inside, handed_at, none_named, shows_emptied, same_parts}
+use Rattle.cedar_layout.specs.Inside.Halving.{is_sought}
+use Rattle.cedar_layout.proofs.HandedOut.{order_of_set, place_inside, handed_at, none_named, shows_emptied, same_parts}
 use Rattle.cedar_layout.proofs.utils.lookups.take_comment.Goals as goal
 
 pub returns-in_err-place-clause-answer : goal.returns-in_err-place-clause-answer

@@ -1,7 +1,7 @@
 use Rattle.std.proofs.Common.{length, ◌-◌, map, sym, ◌∙◌}
 use Rattle.cedar_layout.specs.Lookups.{comment_parts}
 use borrow.Rule.Slice.PartMut.{put_mid}
-use Rattle.cedar_layout.proofs.Handing.{order_of_range}
+use Rattle.cedar_layout.proofs.HandedOut.{order_of_range}
 use Rattle.cedar_layout.proofs.Ranges.{from_answer, from_left, from_refused, nothing_taken, ordered_rest}
 use Rattle.cedar_layout.proofs.utils.lookups.take_from.Goals as goal
 

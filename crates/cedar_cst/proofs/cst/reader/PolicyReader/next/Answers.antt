@@ -1,4 +1,4 @@
-use Rattle.std.proofs.Common.{◌≡◌, ◌≤◌, ◌<◌, ◌+◌, ◌-◌, ◌++◌, List, length, take, drop, slice_range, arith, sym, ap, ◌∙◌, subst}
+use Rattle.std.proofs.Common.{◌≡◌, ◌+◌, ◌-◌, ◌++◌, length, drop, slice_range, arith, sym, ap, subst}
 use Rattle.std.specs.Str.{IsCharBoundary}
 use Rattle.std.proofs.lemmas.List.{length-drop, take_all}
 use Rattle.std.proofs.lemmas.Result.{err_from_is_err_and}
@@ -6,8 +6,8 @@ use Rattle.std.proofs.lemmas.Str.{IsCharBoundary-from_rest}
 use Rattle.cedar_tree.specs.Refusals.{Refuses}
 use Rattle.cedar_reading.proofs.Walking.{part_unit}
 use Rattle.cedar_pieces.specs.Pieces.{IsFirstPiece, HasNoPiece}
-use Rattle.cedar_cst.specs.Parts.{HasPoliciesFrom, RefusesFrom}
-use Rattle.cedar_cst.specs.PolicyReaders.{Position, HasPolicies, HasRead}
+use Rattle.cedar_cst.specs.Inside.Parts.{HasPoliciesFrom, RefusesFrom}
+use Rattle.cedar_cst.specs.PolicyReaders.{Position, HasRead}
 use Rattle.cedar_cst.proofs.Readers.{reader_goes_on, read_more, read_all, rest_refuses, piece_refuses, only_policy}
 use Rattle.cedar_cst.proofs.cst.reader.PolicyReader.next.Goals as goal
 

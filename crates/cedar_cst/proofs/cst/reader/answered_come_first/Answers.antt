@@ -1,5 +1,0 @@
-use Rattle.cedar_cst.proofs.PartLaws.{answered_first}
-use Rattle.cedar_cst.proofs.cst.reader.answered_come_first.Goals as goal
-
-pub returns : goal.returns
-returns c = answered_first

@@ -1,0 +1,53 @@
+-- A part of a text, parsed with the places of the whole text. Only contracts of private functions cite these.
+use Rattle.std.specs.Prelude.{◌≡◌, ◌+◌, ◌-◌, ℕ, true, false, List, length}
+use Rattle.std.specs.List.{list_any, slice_get}
+use Rattle.cedar_tokens.specs.Split.{SplitsInto}
+use Rattle.cedar_tokens.specs.Places.{token_spans}
+use Rattle.cedar_tokens.specs.declared.token.Span.{Span}
+use Rattle.cedar_grammar.specs.Languages.{Many}
+use Rattle.cedar_grammar.specs.Grammar.{Policy}
+use Rattle.cedar_grammar.specs.Numbers.{is_too_large}
+use Rattle.cedar_grammar.specs.Placed.{Placed, with_places, kind_of_placed}
+use Rattle.cedar_grammar.specs.Texts.{greatest_depth, tokens, IsRefused}
+use Rattle.cedar_grammar.specs.TrailingCommas.{without_trailing}
+use Rattle.cedar_grammar.specs.Trees.{Label, Forest, yield}
+use Rattle.cedar_reading.specs.declared.lexeme.Lexeme.{Lexeme}
+use Rattle.cedar_reading.specs.Inside.Reading.{start_or}
+use Rattle.cedar_tree.specs.declared.error.FormatError.{FormatError}
+use Rattle.cedar_tree.specs.declared.error.FormatError.TheVariants.{Grammar, TooDeep}
+use Rattle.cedar_tree.specs.declared.tree.Node as Nodes
+use Rattle.cedar_tree.specs.declared.tree.Policy as Policies
+use Rattle.cedar_tree.specs.Erased.{policy_trees}
+use Rattle.cedar_tree.specs.NodeTrees.{spanned}
+use Rattle.cedar_tree.specs.Refusals.{RefusesTokens}
+
+-- the place, with so many more bytes before it
+abbrev pub moved_span : ℕ → Span → Span
+moved_span n s = record { start = n + s.start; end = n + s.end }
+
+abbrev pub moved_lexeme : ℕ → Lexeme → Lexeme
+moved_lexeme n l = record { kind = l.kind; text = l.text; span = moved_span n l.span }
+
+-- where the token starts from which on so many are left; or the end
+abbrev pub place_before : ℕ → List Lexeme → ℕ → ℕ
+place_before end lexemes left = start_or end (slice_get lexemes (length lexemes - left))
+
+-- the tokens of a part that has these units and begins at this byte, with their places
+abbrev pub placed_from : ℕ → List (List ℕ) → List Placed
+placed_from from units = with_places (tokens units) (token_spans from units)
+
+-- the part is accepted, and these are its policies, with the places of a text in which it begins at this byte
+pub record HasPoliciesFrom (from : ℕ) (part : List ℕ) (policies : List (Nodes.Node Policies.Policy)) : Type 0 where
+  pub units : List (List ℕ)
+  pub split : SplitsInto part units
+  pub fitting : list_any is_too_large units ≡ false
+  pub row : Forest Label Placed
+  pub among : Many (Policy kind_of_placed greatest_depth) row
+  pub leaves : yield row ≡ placed_from from units
+  pub nodes : policy_trees policies ≡ spanned (λ t. t.text) (λ t. t.span) (without_trailing kind_of_placed row)
+
+-- why the part is refused: the grammar refuses it, with the place in the text; or its tokens are refused
+abbrev pub RefusesFrom : ℕ → List ℕ → FormatError → Type 0
+RefusesFrom from part (Grammar p) = (q : ℕ) × (p ≡ from + q) × IsRefused part q false
+RefusesFrom from part (TooDeep p) = (q : ℕ) × (p ≡ from + q) × IsRefused part q true
+RefusesFrom from part e = RefusesTokens part e

@@ -1,5 +1,0 @@
-use Rattle.cedar_layout.proofs.Atoms.{choice_is_text}
-use Rattle.cedar_layout.proofs.layout.every_choice_prints_the_atoms.Goals as goal
-
-pub returns : goal.returns
-returns c = choice_is_text

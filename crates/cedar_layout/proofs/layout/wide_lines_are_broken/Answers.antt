@@ -1,5 +1,0 @@
-use Rattle.cedar_layout.proofs.Width.{layout_keeps_width}
-use Rattle.cedar_layout.proofs.layout.wide_lines_are_broken.Goals as goal
-
-pub returns : goal.returns
-returns c = layout_keeps_width

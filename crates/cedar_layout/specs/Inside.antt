@@ -1,0 +1,7 @@
+-- What only contracts below the formatter's own calls cite.
+pub mod Computed
+pub mod Measuring
+pub mod Printing
+pub mod Releasing
+pub mod Halving
+pub mod Seeking

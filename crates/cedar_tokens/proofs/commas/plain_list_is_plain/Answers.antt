@@ -1,5 +1,0 @@
-use Rattle.cedar_tokens.proofs.PlainTwice.{plain_twice}
-use Rattle.cedar_tokens.proofs.commas.plain_list_is_plain.Goals as goal
-
-pub returns : goal.returns
-returns c = plain_twice

@@ -1,0 +1,4 @@
+-- What only contracts below the formatter's own calls cite.
+pub mod Scanners
+pub mod FirstTokens
+pub mod MovedLines

@@ -1,0 +1,35 @@
+//! The laws of the lexis and of the decorated list: each says what follows from the definitions, and its body does nothing.
+ghost use Rattle.cedar_tokens.specs.Characters.{StringByCharacters};
+ghost use Rattle.cedar_tokens.specs.Listing.{ListingIsUnique};
+ghost use Rattle.cedar_tokens.specs.PlainList.{PlainListIsPlain};
+ghost use Rattle.cedar_tokens.specs.Split.{FaultIsUnique, FaultPreventsSplit, SplitIsUnique};
+
+/// A text splits into units in one way at most.
+pub fn split_is_unique()
+    ensures { SplitIsUnique }
+{}
+
+/// A text has one decorated list at most.
+pub fn listing_is_unique()
+    ensures { ListingIsUnique }
+{}
+
+/// Whether a text is a string can be read off its bytes or its characters.
+pub fn string_by_characters()
+    ensures { StringByCharacters }
+{}
+
+/// There is at most one first fault.
+pub fn fault_is_unique()
+    ensures { FaultIsUnique }
+{}
+
+/// A text that splits has no fault.
+pub fn fault_prevents_split()
+    ensures { FaultPreventsSplit }
+{}
+
+/// Where no two commas stand next to each other, taking the trailing commas out twice is taking them out once.
+pub fn plain_list_is_plain()
+    ensures { PlainListIsPlain }
+{}
