@@ -58,7 +58,9 @@ pub fn add_comment<'src>(
 {
     let leading = get_leading_comment_doc_from_str(alloc, comment.leading_comment())?;
     let trailing = get_trailing_comment_doc_from_str(alloc, comment.trailing_comment(), next_doc)?;
-    Ok(Document::Seq(vec![in alloc; leading, d, trailing]?))
+    // (where there is no comment, this is `d` alone)
+    let led = leading.append(alloc, d)?;
+    led.append(alloc, trailing)
 }
 
 /// `leftp`, `d` with its breaks indented by `offset` columns more, and `rightp`.
