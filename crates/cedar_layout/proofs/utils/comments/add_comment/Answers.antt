@@ -13,7 +13,7 @@ returns c =
     let trailing = doc_of c.in_ok-trailing.trailing in
     subst (λ x. IfOk c.append-2.result (λ r. doc_of r ≡ x))
     (ap (λ x. x · trailing) c.in_ok-led.ensures ∙ dot_assoc leading d trailing
-      ∙ joined_three leading _ d trailing _
-      (c.in_ok-leading.ensures ∙ ap lead_of c.leading_comment.ensures)
-      (c.in_ok-trailing.ensures ∙ ap (λ t. trail_of t (doc_of c.args.next_doc)) c.trailing_comment.ensures))
+    ∙ joined_three leading _ d trailing _
+    (c.in_ok-leading.ensures ∙ ap lead_of c.leading_comment.ensures)
+    (c.in_ok-trailing.ensures ∙ ap (λ t. trail_of t (doc_of c.args.next_doc)) c.trailing_comment.ensures))
     c.append-2.ensures
