@@ -17,12 +17,10 @@ use Rattle.cedar_grammar.specs.Reader.Reading.{Answer, done, stuck}
 use Rattle.cedar_grammar.specs.Reader.Lines.{set_to}
 use Rattle.cedar_grammar.proofs.RuleMaps.{each, relabel, answer_of, set_agrees}
 use Rattle.cedar_grammar.proofs.Relabelling.{each_map, map_map}
-use Rattle.cedar_tree.specs.declared.error.FormatError.{FormatError}
 use Rattle.cedar_tree.specs.declared.error.FormatError.TheVariants as E
 use Rattle.cedar_tree.specs.declared.tree.Policies.{Policies}
 use Rattle.cedar_tree.specs.Erased.{erase, variant, policy_trees}
 use Rattle.cedar_tree.specs.NodeTrees.{spanned}
-use Rattle.cedar_tree.specs.Refusals.{RefusesTokens}
 use Rattle.cedar_reading.specs.declared.lexeme.Lexeme.{Lexeme}
 use Rattle.cedar_reading.specs.declared.reading.Refusal.{Refusal}
 use Rattle.cedar_reading.specs.declared.reading.Refusal.TheVariants.{Grammar, TooDeep, OutOfMemory}
@@ -134,17 +132,6 @@ module _ (n : ℕ) where
 
     pub part_deep : (end left : ℕ) → end ≡ n + length part → GivesSet (Err (TooDeep left)) (set_to kind greatest_depth (map moved ls)) → RefusesFrom n part (E.TooDeep (place_before end (map moved ls) left))
     part_deep end left i h = (place_of part ls left, place_moved end left i, whole_deep part ls are left (set_unmoved (TooDeep left) (set_to kind greatest_depth ls) (subst (GivesSet (Err (TooDeep left))) agrees h)))
-
--- the part's tokens are refused
-pub part_tokens : (n : ℕ) (part : List ℕ) (e : FormatError) → RefusesTokens part e → RefusesFrom n part e
-part_tokens n part (E.UnknownCharacter p) r = r
-part_tokens n part (E.UnfinishedString p) r = r
-part_tokens n part (E.NumberTooLarge p) r = r
-part_tokens n part (E.Grammar p) r = absurd r
-part_tokens n part (E.TooDeep p) r = absurd r
-part_tokens n part E.NoDocument r = r
-part_tokens n part E.Unsound r = r
-part_tokens n part E.OutOfMemory r = r
 
 -- ---- bounds
 

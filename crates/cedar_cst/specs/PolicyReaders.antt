@@ -1,5 +1,5 @@
 -- How far a reader of policies has come, and the policies that it has answered.
-use Rattle.std.specs.Prelude.{◌≡◌, ◌≤◌, ℕ, false, List, ◌++◌, ◌⊎◌, ◌↔◌, length, take}
+use Rattle.std.specs.Prelude.{◌≡◌, ◌≤◌, ℕ, false, List, ◌⊎◌, ◌↔◌, length, take}
 use Rattle.std.specs.List.{list_any}
 use Rattle.std.specs.Str.{IsCharBoundary}
 use Rattle.cedar_tokens.specs.Split.{SplitsInto}

@@ -1,6 +1,6 @@
-use Rattle.std.proofs.Common.{◌≡◌, ◌<◌, ◌≤◌, ◌-◌, ◌++◌, length, arith, sym, ap, ◌∙◌, subst}
+use Rattle.std.proofs.Common.{◌<◌, ◌++◌, length, arith, sym, ap, subst}
 use Rattle.std.specs.Prelude.{[], ◌∷◌}
-use Rattle.cedar_cst.specs.PolicyReaders.{EndsPiece, HasPolicies, HasRead}
+use Rattle.cedar_cst.specs.PolicyReaders.{HasPolicies, HasRead}
 use Rattle.cedar_cst.proofs.Readers.{ends_inside}
 use Rattle.cedar_cst.proofs.cst.parse_policies.Goals as goal
 

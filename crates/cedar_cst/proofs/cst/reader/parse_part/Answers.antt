@@ -6,7 +6,7 @@ use Rattle.cedar_reading.specs.Inside.Reading.{kind}
 use Rattle.cedar_tree.specs.declared.error.FormatError.TheVariants as E
 use Rattle.cedar_cst.specs.Inside.Parts.{moved_lexeme, place_before, HasPoliciesFrom, RefusesFrom}
 use Rattle.cedar_cst.specs.Inside.ReadingSet.{GivesSet}
-use Rattle.cedar_cst.proofs.Moved.{lexeme_inside, given_moved, part_tree, part_grammar, part_deep, part_tokens}
+use Rattle.cedar_cst.proofs.Moved.{lexeme_inside, given_moved, part_tree, part_grammar, part_deep}
 use Rattle.cedar_cst.proofs.cst.reader.parse_part.Goals as goal
 
 pub move_spans-requires-clause-starts : goal.move_spans-requires-clause-starts
