@@ -6,10 +6,11 @@ use Rattle.std.specs.Str.{bytes_eq}
 use Rattle.std.proofs.Common.{refl, sym, ap, ◌∙◌, arith, cond}
 use Rattle.std.proofs.lemmas.Bool.Decides.{nat_tests}
 use Rattle.std.proofs.lemmas.Slice.Eq.{bytes_eq-Decides}
-use Rattle.cedar_tokens.specs.Units.{is_number}
+use Rattle.cedar_tokens.specs.Units.{is_number, keywords, slots, punctuators}
+use Rattle.cedar_tokens.specs.Inside.Scanners.{IsNotFixed}
 use Rattle.cedar_tokens.specs.Listing.{Decorated}
 use Rattle.cedar_tokens.specs.PlainList.{is_comma, is_closing_bracket, is_trailing_comma, touches, with_trailing_of, with_lines_of, plain_from}
-use Rattle.cedar_tokens.proofs.Prefixes.{and_parts}
+use Rattle.cedar_tokens.proofs.Prefixes.{and_parts, apart_from}
 use Rattle.cedar_grammar.specs.declared.kind.Kind.{Kind}
 use Rattle.cedar_grammar.specs.declared.kind.Kind.TheVariants as K
 use Rattle.cedar_grammar.specs.Kinds.{is, is_closing, begins}
@@ -85,6 +86,15 @@ kind_among-none (f ∷ fs) text (d, n) = ap (λ b. if b then f.kind else kind_am
     differ : (x : Bool) → bytes_eq f.text text ≡ x → x ≡ false
     differ true e = absurd (d (sym ((bytes_eq-Decides f.text text).0 e)))
     differ false e = refl
+
+-- a text that is no keyword, no slot and no punctuator has one of the other kinds
+pub kind_of-not_fixed : (text : List ℕ) → IsNotFixed text → kind_of text ≡ other_kind text
+unfolding keywords slots punctuators
+kind_of-not_fixed text (a, b, c) =
+    let k = apart_from keywords text a in
+    let s = apart_from slots text b in
+    let p = apart_from punctuators text c in
+    kind_among-none fixed_tokens text (k.0, (k.1.0, (k.1.1.0, (k.1.1.1.1.1.1.1.1.1.1.1.0, (k.1.1.1.1.1.1.1.1.1.1.1.1.0, (k.1.1.1.1.1.1.1.0, (k.1.1.1.1.1.1.1.1.1.1.0, (k.1.1.1.1.1.1.1.1.1.0, (k.1.1.1.1.1.1.1.1.0, (k.1.1.1.0, (k.1.1.1.1.0, (k.1.1.1.1.1.0, (k.1.1.1.1.1.1.0, (k.1.1.1.1.1.1.1.1.1.1.1.1.1.0, (k.1.1.1.1.1.1.1.1.1.1.1.1.1.1.0, (k.1.1.1.1.1.1.1.1.1.1.1.1.1.1.1.0, (k.1.1.1.1.1.1.1.1.1.1.1.1.1.1.1.1.0, (s.0, (s.1.0, (p.0, (p.1.0, (p.1.1.0, (p.1.1.1.0, (p.1.1.1.1.0, (p.1.1.1.1.1.0, (p.1.1.1.1.1.1.0, (p.1.1.1.1.1.1.1.0, (p.1.1.1.1.1.1.1.1.0, (p.1.1.1.1.1.1.1.1.1.0, (p.1.1.1.1.1.1.1.1.1.1.0, (p.1.1.1.1.1.1.1.1.1.1.1.0, (p.1.1.1.1.1.1.1.1.1.1.1.1.0, (p.1.1.1.1.1.1.1.1.1.1.1.1.1.0, (p.1.1.1.1.1.1.1.1.1.1.1.1.1.1.0, (p.1.1.1.1.1.1.1.1.1.1.1.1.1.1.1.0, (p.1.1.1.1.1.1.1.1.1.1.1.1.1.1.1.1.0, (p.1.1.1.1.1.1.1.1.1.1.1.1.1.1.1.1.1.0, (p.1.1.1.1.1.1.1.1.1.1.1.1.1.1.1.1.1.1.0, (p.1.1.1.1.1.1.1.1.1.1.1.1.1.1.1.1.1.1.1.0, (p.1.1.1.1.1.1.1.1.1.1.1.1.1.1.1.1.1.1.1.1.0, (p.1.1.1.1.1.1.1.1.1.1.1.1.1.1.1.1.1.1.1.1.1.0, (p.1.1.1.1.1.1.1.1.1.1.1.1.1.1.1.1.1.1.1.1.1.1.0, (p.1.1.1.1.1.1.1.1.1.1.1.1.1.1.1.1.1.1.1.1.1.1.1.0, (p.1.1.1.1.1.1.1.1.1.1.1.1.1.1.1.1.1.1.1.1.1.1.1.1.0, (p.1.1.1.1.1.1.1.1.1.1.1.1.1.1.1.1.1.1.1.1.1.1.1.1.1.0, tt)))))))))))))))))))))))))))))))))))))))))))))
 
 -- a number's kind
 abbrev none_numbers : List Fixed → Bool

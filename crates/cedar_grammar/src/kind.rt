@@ -1,8 +1,9 @@
 //! The kinds of tokens, and sets of them.
-ghost use Rattle.std.specs.Prelude.{◌≡◌};
+ghost use Rattle.std.specs.Prelude.{◌≡◌, ◌<◌, length, [], ◌∷◌, IfSome, IfNone};
 ghost use Rattle.cedar_grammar.specs.Kinds.{is_word, is_ident, is_variable, is_effect, is_cond_word, set_of};
 ghost use Rattle.cedar_grammar.specs.Reader.Rules.{expr_first};
 ghost use Rattle.cedar_grammar.specs.TokenKinds.{kind_of, other_kind};
+ghost use Rattle.cedar_tokens.specs.Inside.Scanners.{IsNotFixed};
 
 /// What kind a token is.
 #[derive(Clone, Copy, Debug, PartialEq, Eq)]
@@ -161,53 +162,98 @@ impl Kind {
 pub fn kind_of(text: &str) -> Kind
     ensures { result ≡ kind_of text.now }
 {
+    match fixed_kind(text) {
+        Some(kind) => kind,
+        None => kind_by_first_byte(text),
+    }
+}
+
+// The kind of the keyword, slot or punctuator whose source text is `text`. What it can be is told by its length first.
+#[tactic(auto, unfolding(cedar_tokens::specs::Units::keywords, cedar_tokens::specs::Units::slots, cedar_tokens::specs::Units::punctuators))]
+fn fixed_kind(text: &str) -> Option<Kind>
+    ensures fixed { IfSome result (λ k. k ≡ kind_of text.now) }
+    ensures other { IfNone result (IsNotFixed text.now) }
+{
+    match text.as_bytes() {
+        [byte] => kind_of_byte(*byte),
+        [first, second] => kind_of_two_bytes(*first, *second),
+        [_, _, _, ..] => kind_of_more(text),
+        [] => None,
+    }
+}
+
+#[tactic(auto, unfolding(cedar_tokens::specs::Units::keywords, cedar_tokens::specs::Units::slots, cedar_tokens::specs::Units::punctuators))]
+fn kind_of_byte(byte: u8) -> Option<Kind>
+    ensures fixed { IfSome result (λ k. k ≡ kind_of (byte ∷ [])) }
+    ensures other { IfNone result (IsNotFixed (byte ∷ [])) }
+{
+    match byte {
+        b'@' => Some(Kind::At),
+        b'.' => Some(Kind::Dot),
+        b',' => Some(Kind::Comma),
+        b';' => Some(Kind::SemiColon),
+        b':' => Some(Kind::Colon),
+        b'(' => Some(Kind::LParen),
+        b')' => Some(Kind::RParen),
+        b'{' => Some(Kind::LBrace),
+        b'}' => Some(Kind::RBrace),
+        b'[' => Some(Kind::LBracket),
+        b']' => Some(Kind::RBracket),
+        b'<' => Some(Kind::Lt),
+        b'>' => Some(Kind::Gt),
+        b'+' => Some(Kind::Add),
+        b'-' => Some(Kind::Dash),
+        b'*' => Some(Kind::Mul),
+        b'/' => Some(Kind::Div),
+        b'%' => Some(Kind::Modulo),
+        b'!' => Some(Kind::Neg),
+        _ => None,
+    }
+}
+
+#[tactic(auto, unfolding(cedar_tokens::specs::Units::keywords, cedar_tokens::specs::Units::slots, cedar_tokens::specs::Units::punctuators))]
+fn kind_of_two_bytes(first: u8, second: u8) -> Option<Kind>
+    ensures fixed { IfSome result (λ k. k ≡ kind_of (first ∷ second ∷ [])) }
+    ensures other { IfNone result (IsNotFixed (first ∷ second ∷ [])) }
+{
+    match (first, second) {
+        (b'i', b'f') => Some(Kind::If),
+        (b'i', b'n') => Some(Kind::In),
+        (b'i', b's') => Some(Kind::Is),
+        (b':', b':') => Some(Kind::DoubleColon),
+        (b'=', b'=') => Some(Kind::Equal),
+        (b'!', b'=') => Some(Kind::NotEqual),
+        (b'<', b'=') => Some(Kind::Le),
+        (b'>', b'=') => Some(Kind::Ge),
+        (b'|', b'|') => Some(Kind::Or),
+        (b'&', b'&') => Some(Kind::And),
+        _ => None,
+    }
+}
+
+fn kind_of_more(text: &str) -> Option<Kind>
+    requires { 2 < length text.now }
+    ensures fixed { IfSome result (λ k. k ≡ kind_of text.now) }
+    ensures other { IfNone result (IsNotFixed text.now) }
+{
     match text {
-        "true" => Kind::True,
-        "false" => Kind::False,
-        "if" => Kind::If,
-        "then" => Kind::Then,
-        "else" => Kind::Else,
-        "in" => Kind::In,
-        "is" => Kind::Is,
-        "like" => Kind::Like,
-        "has" => Kind::Has,
-        "permit" => Kind::Permit,
-        "forbid" => Kind::Forbid,
-        "when" => Kind::When,
-        "unless" => Kind::Unless,
-        "principal" => Kind::Principal,
-        "action" => Kind::Action,
-        "resource" => Kind::Resource,
-        "context" => Kind::Context,
-        "?principal" => Kind::PrincipalSlot,
-        "?resource" => Kind::ResourceSlot,
-        "@" => Kind::At,
-        "." => Kind::Dot,
-        "," => Kind::Comma,
-        ";" => Kind::SemiColon,
-        ":" => Kind::Colon,
-        "::" => Kind::DoubleColon,
-        "(" => Kind::LParen,
-        ")" => Kind::RParen,
-        "{" => Kind::LBrace,
-        "}" => Kind::RBrace,
-        "[" => Kind::LBracket,
-        "]" => Kind::RBracket,
-        "==" => Kind::Equal,
-        "!=" => Kind::NotEqual,
-        "<" => Kind::Lt,
-        "<=" => Kind::Le,
-        ">" => Kind::Gt,
-        ">=" => Kind::Ge,
-        "||" => Kind::Or,
-        "&&" => Kind::And,
-        "+" => Kind::Add,
-        "-" => Kind::Dash,
-        "*" => Kind::Mul,
-        "/" => Kind::Div,
-        "%" => Kind::Modulo,
-        "!" => Kind::Neg,
-        _ => kind_by_first_byte(text),
+        "true" => Some(Kind::True),
+        "false" => Some(Kind::False),
+        "then" => Some(Kind::Then),
+        "else" => Some(Kind::Else),
+        "like" => Some(Kind::Like),
+        "has" => Some(Kind::Has),
+        "permit" => Some(Kind::Permit),
+        "forbid" => Some(Kind::Forbid),
+        "when" => Some(Kind::When),
+        "unless" => Some(Kind::Unless),
+        "principal" => Some(Kind::Principal),
+        "action" => Some(Kind::Action),
+        "resource" => Some(Kind::Resource),
+        "context" => Some(Kind::Context),
+        "?principal" => Some(Kind::PrincipalSlot),
+        "?resource" => Some(Kind::ResourceSlot),
+        _ => None,
     }
 }
 

@@ -1,6 +1,6 @@
 -- What the lexer's own scanners look for. Only contracts of private functions cite these.
-use Rattle.std.specs.Prelude.{◌≡◌, ℕ, true, List, [], ◌∷◌}
-use Rattle.cedar_tokens.specs.Units.{is_one_of, slots, punctuators, is_string_rest}
+use Rattle.std.specs.Prelude.{◌≡◌, ℕ, true, false, List, [], ◌∷◌}
+use Rattle.cedar_tokens.specs.Units.{is_one_of, keywords, slots, punctuators, is_string_rest}
 
 abbrev pub IsSlot : List ℕ → Type 0
 IsSlot u = is_one_of slots u ≡ true
@@ -15,3 +15,7 @@ NoPair a bs = (b : ℕ) (rest : List ℕ) → bs ≡ b ∷ rest → ¬ (IsPunctu
 -- a string without its opening quote
 abbrev pub IsStringRest : List ℕ → Type 0
 IsStringRest u = is_string_rest u ≡ true
+
+-- the text is no keyword, no slot and no punctuator
+abbrev pub IsNotFixed : List ℕ → Type 0
+IsNotFixed text = (is_one_of keywords text ≡ false) × (is_one_of slots text ≡ false) × (is_one_of punctuators text ≡ false)
