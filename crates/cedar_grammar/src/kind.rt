@@ -1,9 +1,9 @@
 //! The kinds of tokens, and sets of them.
-ghost use Rattle.std.specs.Prelude.{◌≡◌, ◌<◌, length, [], ◌∷◌, IfSome, IfNone};
+ghost use Rattle.std.specs.Prelude.{◌≡◌, length, [], ◌∷◌, IfSome, IfNone};
 ghost use Rattle.cedar_grammar.specs.Kinds.{is_word, is_ident, is_variable, is_effect, is_cond_word, set_of};
 ghost use Rattle.cedar_grammar.specs.Reader.Rules.{expr_first};
 ghost use Rattle.cedar_grammar.specs.TokenKinds.{kind_of, other_kind};
-ghost use Rattle.cedar_tokens.specs.Inside.Scanners.{IsNotFixed};
+ghost use Rattle.cedar_tokens.specs.Inside.Scanners.{IsNotFixed, HasMoreBytes};
 
 /// What kind a token is.
 #[derive(Clone, Copy, Debug, PartialEq, Eq)]
@@ -177,7 +177,11 @@ fn fixed_kind(text: &str) -> Option<Kind>
     match text.as_bytes() {
         [byte] => kind_of_byte(*byte),
         [first, second] => kind_of_two_bytes(*first, *second),
-        [_, _, _, ..] => kind_of_more(text),
+        [_, _, _, _] => kind_of_four_bytes(text),
+        [_, _, _, _, _, _] => kind_of_six_bytes(text),
+        [_, _, _] => kind_of_more_bytes(text),
+        [_, _, _, _, _] => kind_of_more_bytes(text),
+        [_, _, _, _, _, _, _, ..] => kind_of_more_bytes(text),
         [] => None,
     }
 }
@@ -231,26 +235,47 @@ fn kind_of_two_bytes(first: u8, second: u8) -> Option<Kind>
     }
 }
 
-fn kind_of_more(text: &str) -> Option<Kind>
-    requires { 2 < length text.now }
+fn kind_of_four_bytes(text: &str) -> Option<Kind>
+    requires { length text.now ≡ 4 }
     ensures fixed { IfSome result (λ k. k ≡ kind_of text.now) }
     ensures other { IfNone result (IsNotFixed text.now) }
 {
     match text {
+        "when" => Some(Kind::When),
         "true" => Some(Kind::True),
-        "false" => Some(Kind::False),
         "then" => Some(Kind::Then),
-        "else" => Some(Kind::Else),
         "like" => Some(Kind::Like),
-        "has" => Some(Kind::Has),
+        "else" => Some(Kind::Else),
+        _ => None,
+    }
+}
+
+fn kind_of_six_bytes(text: &str) -> Option<Kind>
+    requires { length text.now ≡ 6 }
+    ensures fixed { IfSome result (λ k. k ≡ kind_of text.now) }
+    ensures other { IfNone result (IsNotFixed text.now) }
+{
+    match text {
+        "action" => Some(Kind::Action),
         "permit" => Some(Kind::Permit),
         "forbid" => Some(Kind::Forbid),
-        "when" => Some(Kind::When),
         "unless" => Some(Kind::Unless),
+        _ => None,
+    }
+}
+
+// Of three, five, or seven bytes or more.
+fn kind_of_more_bytes(text: &str) -> Option<Kind>
+    requires { HasMoreBytes text.now }
+    ensures fixed { IfSome result (λ k. k ≡ kind_of text.now) }
+    ensures other { IfNone result (IsNotFixed text.now) }
+{
+    match text {
         "principal" => Some(Kind::Principal),
-        "action" => Some(Kind::Action),
         "resource" => Some(Kind::Resource),
         "context" => Some(Kind::Context),
+        "has" => Some(Kind::Has),
+        "false" => Some(Kind::False),
         "?principal" => Some(Kind::PrincipalSlot),
         "?resource" => Some(Kind::ResourceSlot),
         _ => None,

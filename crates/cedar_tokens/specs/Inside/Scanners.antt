@@ -1,5 +1,5 @@
 -- What the lexer's own scanners look for. Only contracts of private functions cite these.
-use Rattle.std.specs.Prelude.{◌≡◌, ℕ, true, false, List, [], ◌∷◌}
+use Rattle.std.specs.Prelude.{◌≡◌, ◌≢◌, ◌<◌, ℕ, true, false, List, [], ◌∷◌, length}
 use Rattle.cedar_tokens.specs.Units.{is_one_of, keywords, slots, punctuators, is_string_rest}
 
 abbrev pub IsSlot : List ℕ → Type 0
@@ -19,3 +19,7 @@ IsStringRest u = is_string_rest u ≡ true
 -- the text is no keyword, no slot and no punctuator
 abbrev pub IsNotFixed : List ℕ → Type 0
 IsNotFixed text = (is_one_of keywords text ≡ false) × (is_one_of slots text ≡ false) × (is_one_of punctuators text ≡ false)
+
+-- three bytes, five, or seven or more
+abbrev pub HasMoreBytes : List ℕ → Type 0
+HasMoreBytes text = (2 < length text) × (length text ≢ 4) × (length text ≢ 6)
