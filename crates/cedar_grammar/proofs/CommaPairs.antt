@@ -13,7 +13,8 @@ use Rattle.cedar_grammar.specs.TrailingCommas.{drop_if, plain}
 use Rattle.cedar_grammar.specs.Reader.Rules.{Rule, never, empty, inner, leaf_of, nested, then, either, star, tail, node, shaped, items, entity, reference}
 use Rattle.cedar_grammar.proofs.RuleMeanings.{means}
 use Rattle.cedar_grammar.specs.Reader.Lines.{expr_rule, policy_rule}
-use Rattle.cedar_grammar.specs.Laws.{NoTwoCommas, CommasStandAlone, PlainIsPlain}
+use Rattle.cedar_tokens.specs.PlainList.{NoNeighbours}
+use Rattle.cedar_grammar.specs.Laws.{CommasStandAlone, PlainIsPlain}
 use Rattle.cedar_grammar.proofs.LanguageLaws.{yield_join}
 use Rattle.cedar_grammar.proofs.PlainLaws.{spelled, can_be_empty}
 use Rattle.cedar_grammar.proofs.Booleans.{and_both, and_none, no_both, or_left_true, or_right_true}
@@ -76,6 +77,9 @@ excluded false b h k = absurd cc
 not_false : (b : Bool) → not b ≡ false → b ≡ true
 not_false true h = refl
 not_false false h = absurd cc
+
+abbrev NoTwoCommas : {A : Type 0} → (A → Kind) → List A → Type 0
+NoTwoCommas kind ts = NoNeighbours (λ a. is K.Comma (kind a)) ts
 
 module _ {A : Type 0} (kind : A → Kind) where
   abbrev comma : List A → Bool

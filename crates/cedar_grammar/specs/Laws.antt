@@ -1,10 +1,10 @@
 -- Laws of the grammar.
-use Rattle.std.specs.Prelude.{◌≡◌, ℕ, suc, List, ◌⊎◌, map, [], ◌∷◌, false, ◌&&◌, ⊤}
+use Rattle.std.specs.Prelude.{◌≡◌, ℕ, suc, List, ◌⊎◌, map}
 use Rattle.std.specs.List.{flat_map}
 use Rattle.cedar_tokens.specs.Listing.{Decorated}
-use Rattle.cedar_tokens.specs.PlainList.{plain_list}
+use Rattle.cedar_tokens.specs.PlainList.{plain_list, NoNeighbours}
 use Rattle.cedar_grammar.specs.declared.kind.Kind.{Kind}
-use Rattle.cedar_grammar.specs.Kinds.{is, begins}
+use Rattle.cedar_grammar.specs.Kinds.{is}
 use Rattle.cedar_grammar.specs.Trees.{Label, Forest, yield}
 use Rattle.cedar_grammar.specs.Grammar.{G}
 use Rattle.cedar_grammar.specs.TokenKinds.{kind_of}
@@ -33,14 +33,9 @@ module _ {A : Type 0} (kind : A → Kind) where
   abbrev pub LeavesArePlain : Type 0
   LeavesArePlain = (d : ℕ) (ts : List A) (f : Forest Label A) → G kind d f ts → yield (without_trailing kind f) ≡ plain kind ts
 
-  -- no two commas stand next to each other
-  abbrev pub NoTwoCommas : List A → Type 0
-  NoTwoCommas [] = ⊤
-  NoTwoCommas (a ∷ ts) = ((is Kind.Comma (kind a) && begins kind (is Kind.Comma) ts) ≡ false) × NoTwoCommas ts
-
-  -- in a list of the grammar they don't
+  -- in a list of the grammar no two commas stand next to each other
   abbrev pub CommasStandAlone : Type 0
-  CommasStandAlone = (d : ℕ) (ts : List A) (f : Forest Label A) → G kind d f ts → NoTwoCommas ts
+  CommasStandAlone = (d : ℕ) (ts : List A) (f : Forest Label A) → G kind d f ts → NoNeighbours (λ a. is Kind.Comma (kind a)) ts
 
   -- so a list of the grammar without its trailing commas has none left
   abbrev pub PlainIsPlain : Type 0

@@ -52,11 +52,19 @@ kept_tokens [] = []
 kept_tokens (c ∷ []) = c ∷ []
 kept_tokens (c ∷ (b ∷ ts)) = if is_trailing_comma (decorated c) (decorated b) then kept_tokens (b ∷ ts) else c ∷ kept_tokens (b ∷ ts)
 
+-- the first of the list passes the test
+abbrev pub first_passes : {A : Type 0} → (A → Bool) → List A → Bool
+first_passes p [] = false
+first_passes p (a ∷ ts) = p a
+
+-- no two that pass the test stand next to each other
+abbrev pub NoNeighbours : {A : Type 0} → (A → Bool) → List A → Type 0
+NoNeighbours p [] = ⊤
+NoNeighbours p (a ∷ ts) = ((p a && first_passes p ts) ≡ false) × NoNeighbours p ts
+
 -- no two commas stand next to each other
 abbrev pub NoTwoCommas : List Decorated → Type 0
-NoTwoCommas [] = ⊤
-NoTwoCommas (c ∷ []) = ⊤
-NoTwoCommas (c ∷ (b ∷ ts)) = ((is_comma c.text && is_comma b.text) ≡ false) × NoTwoCommas (b ∷ ts)
+NoTwoCommas ts = NoNeighbours (λ t. is_comma t.text) ts
 
 -- where no two commas stand next to each other, a list without its trailing commas has none left
 -- (of `,,)` it keeps the first comma, which then stands before the bracket)

@@ -1,4 +1,4 @@
-use Rattle.std.proofs.Common.{◌≡◌, true, Bool, ℕ, List, nat_eq, nat_lt, length, ◌&&◌, not, arith}
+use Rattle.std.proofs.Common.{◌≡◌, true, Bool, ℕ, List, nat_eq, length, arith}
 use Rattle.std.proofs.lemmas.Bool.Decides.{nat_tests}
 use Rattle.cedar_tokens.specs.Units.{keywords, slots, punctuators}
 use Rattle.cedar_tokens.proofs.Prefixes.{not_one_of_passing}
