@@ -25,6 +25,9 @@ underscore = 95
 abbrev pub exclamation_mark : ℕ
 exclamation_mark = 33
 
+abbrev pub digit_zero : ℕ
+digit_zero = 48
+
 abbrev pub colon : ℕ
 colon = 58
 

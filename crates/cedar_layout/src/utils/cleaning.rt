@@ -3,6 +3,7 @@ ghost use Rattle.std.specs.Prelude.{◌≡◌, ◌+◌, ◌<◌, ◌≤◌, ◌=
 ghost use Rattle.std.specs.Char.{is_whitespace};
 ghost use Rattle.std.specs.List.{list_all, position};
 ghost use Rattle.std.specs.Str.{chars, IsCharBoundary};
+ghost use Rattle.cedar_tokens.specs.Bytes.{line_feed, space};
 ghost use Rattle.cedar_tokens.specs.Units.{FindsLongest, IsComment};
 ghost use Rattle.cedar_layout.specs.Cleaning.{FindsFirst, IsCleaned, IsKept, IsString, clean_piece, is_blank_line, last_or};
 ghost use Rattle.cedar_layout.specs.Inside.Seeking.{IsFirstLine, IsSought};
@@ -154,7 +155,7 @@ fn split_line(text: &str) -> (&str, &str)
 }
 
 fn line_feed_at(bytes: &[u8]) -> Option<usize>
-    ensures { result ≡ position (λ b. b == 10) bytes.now }
+    ensures { result ≡ position (λ b. b == line_feed) bytes.now }
 {
     bytes.iter().position(|byte| *byte == b'\n')
 }
@@ -173,7 +174,7 @@ fn has_blanks_alone(line: &str) -> bool
 }
 
 fn ends_in_line_feed(line: &[u8]) -> bool
-    ensures { result ≡ (last_or 32 line.now == 10) }
+    ensures { result ≡ (last_or space line.now == line_feed) }
 {
     match line.last() {
         Some(byte) => *byte == b'\n',
