@@ -22,7 +22,7 @@ use Rattle.cedar_pieces.proofs.Scans.{piece_more}
 use Rattle.cedar_pieces.proofs.Prefixes.{through, piece_positive, piece_inside, piece_before, piece_behind, piece_within, piece_alone, units_length}
 use Rattle.cedar_pieces.proofs.Accepted.{accepted_join, accepted_empty}
 use Rattle.cedar_pieces.proofs.Refusals.{parts_fit, rest_is_empty, piece_refused, rest_refused}
-use Rattle.cedar_policy_formatter.specs.Refused.{moved, IsPlacedWithin}
+use Rattle.cedar_policy_formatter.specs.Inside.Moved.{moved, IsPlacedWithin}
 use Rattle.cedar_policy_formatter.specs.Inside.Written.{behind_feed}
 use Rattle.cedar_policy_formatter.proofs.PieceOutputs.{outputs_join, outputs_close, closing_output}
 

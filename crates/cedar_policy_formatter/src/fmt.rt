@@ -16,7 +16,8 @@ ghost use Rattle.cedar_canonical.specs.Output.{closing_text};
 ghost use Rattle.cedar_policy_formatter.specs.Compared.{HaveEqualLists};
 ghost use Rattle.cedar_policy_formatter.specs.Inside.Written.{IsPolicyText, AreJoined, IsParted, IsPlainStream, behind_feed};
 ghost use Rattle.cedar_leaf_documents.specs.Kept.{KeepsTokens};
-ghost use Rattle.cedar_policy_formatter.specs.Refused.{IsMemory, IsPlacedWithin, RefusesOne, moved};
+ghost use Rattle.cedar_policy_formatter.specs.Refused.{IsMemory, RefusesOne};
+ghost use Rattle.cedar_policy_formatter.specs.Inside.Moved.{IsPlacedWithin, moved};
 ghost use Rattle.cedar_tree.specs.Refusals.{Refuses};
 ghost use Rattle.cedar_policy_formatter.specs.Texts.{IsTextOf, KeepsPolicies, FailsCheck};
 
