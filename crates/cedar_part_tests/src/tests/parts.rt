@@ -93,16 +93,77 @@ fn bodies(rt: HostRuntime) {
     }
 }
 
-// A text, and what its policies, taken in order, are rendered to. No comment is left.
-static POLICIES: [(&str, &[&str]); 2] = [
+// A text, a width, and what its policies, taken in order, are rendered to: not cleaned yet. No comment is left.
+static POLICIES: [(&str, usize, &[&str]); 16] = [
+    (
+        "permit(principal == User::\"a\",action,resource);",
+        80,
+        &["permit (\n  principal == User::\"a\",\n  action,\n  resource\n);"],
+    ),
+    (
+        "permit(principal == ?principal, action, resource);",
+        80,
+        &["permit (\n  principal == ?principal,\n  action,\n  resource\n);"],
+    ),
+    ("@id(\"x\")§;", 80, &["@id(\"x\")\n¶;"]),
+    (
+        "permit(principal, // p\naction,resource);",
+        80,
+        &["permit (principal, // p\n  action, resource);"],
+    ),
+    (
+        "§when{\"a\"\n// c\n== \"b\"};",
+        80,
+        &["¶\nwhen\n{\n  \"a\" \n  // c\n  == \"b\"\n};"],
+    ),
+    ("§when{\"a\n\n// b\"};", 80, &["¶\nwhen { \"a\n\n// b\" };"]),
+    ("§when{007==7};", 80, &["¶\nwhen { 7 == 7 };"]),
+    (
+        "§unless{principal has a.b&&resource.tags.contains(\"x\")};",
+        80,
+        &["¶\nunless { principal has a.b && resource.tags.contains(\"x\") };"],
+    ),
+    (
+        "§when{{a:1,\"b\":[2,-3]}==context&&principal is A::B in A::\"c\"};",
+        80,
+        &["¶\nwhen { { a: 1, \"b\": [2, -3] } == context && principal is A::B in A::\"c\" };"],
+    ),
+    (
+        "§when{if a::\"x\"==principal then true else false};",
+        30,
+        &[
+            "permit\n(principal, action, resource)\nwhen\n{\n  if\n    a::\"x\" == principal\n  then\n    true\n  else\n    false\n};",
+        ],
+    ),
+    (
+        "permit(principal,action in [A::\"x\",A::\"y\"],resource);",
+        20,
+        &["permit (\n  principal,\n  action in\n    [A::\"x\",\n     A::\"y\"],\n  resource\n);"],
+    ),
+    (
+        "permit(principal,action in [A::\"x\",A::\"y\"],resource);",
+        21,
+        &["permit (\n  principal,\n  action in\n    [A::\"x\", A::\"y\"],\n  resource\n);"],
+    ),
+    (
+        "permit(principal is A in ?principal,action,resource);",
+        18,
+        &["permit (\n  principal is A\n  in\n    ?principal,\n  action,\n  resource\n);"],
+    ),
+    (
+        "permit(principal is A in ?principal,action,resource);",
+        19,
+        &["permit (\n  principal is A in\n    ?principal,\n  action,\n  resource\n);"],
+    ),
     (
         "§when{f(1 // x\n// y\n)};",
+        80,
         &["¶\nwhen\n{\n  f(\n      1 // x\n      \n    \n    // y\n    )\n};"],
     ),
-    ("§; // t\n// l\n§;\n// e", &["¶; // t\n", "\n// l\n¶;"]),
+    ("§; // t\n// l\n§;\n// e", 80, &["¶; // t\n", "\n// l\n¶;"]),
 ];
 
-fn expect_policies(rt: &impl Abort, alloc: Global, text: &str, wants: &[&str]) {
+fn expect_policies(rt: &impl Abort, alloc: Global, text: &str, width: usize, wants: &[&str]) {
     let tree = parse_policies(alloc, text).expect(rt, text);
     let config = Config::default();
     let mut context = Context {
@@ -113,7 +174,7 @@ fn expect_policies(rt: &impl Abort, alloc: Global, text: &str, wants: &[&str]) {
     let mut rest = wants.iter();
     for policy in &tree.policies {
         let want = rest.next().expect(rt, text);
-        expect_policy(rt, alloc, policy, &mut context, want);
+        expect_policy(rt, alloc, policy, &mut context, width, want);
     }
     expect_no_comments(rt, &context.tokens);
 }
@@ -123,12 +184,13 @@ fn expect_policy<'a>(
     alloc: Global,
     policy: &Node<Policy<'a>>,
     context: &mut Context<'_, 'a>,
+    width: usize,
     want: &str,
 ) {
     assert!(rt; in_order(&context.tokens));
     let doc = policy.to_doc(alloc, context).expect(rt, want);
     let want = expand(rt, alloc, want);
-    expect_document(rt, alloc, doc, 80, want.as_str());
+    expect_document(rt, alloc, doc, width, want.as_str());
 }
 
 fn expect_no_comments(rt: &impl Abort, tokens: &[WrappedToken<'_>]) {
@@ -141,9 +203,9 @@ fn expect_no_comments(rt: &impl Abort, tokens: &[WrappedToken<'_>]) {
 
 #[test]
 fn policies(rt: HostRuntime) {
-    for (text, wants) in &POLICIES {
+    for (text, width, wants) in &POLICIES {
         let text = expand(&rt, rt.alloc(), text);
-        expect_policies(&rt, rt.alloc(), text.as_str(), wants);
+        expect_policies(&rt, rt.alloc(), text.as_str(), *width, wants);
     }
 }
 

@@ -135,6 +135,42 @@ fn expect_stream(rt: &impl Abort, alloc: Global, text: &str, plain: bool, want: 
     expect_text(rt, shown(rt, alloc, &tokens, closing).as_str(), want, text);
 }
 
+// The kinds of a text's tokens, each with a space behind it.
+static KINDS: [(&str, &str); 3] = [
+    ("// a\npermit // b\n// c\n(// d", "Permit LParen "),
+    ("truex 7a", "Identifier Number Identifier "),
+    ("\"permit\" permits", "Str Identifier "),
+];
+
+fn kind_name(token: &Token) -> &'static str {
+    match token {
+        Token::Permit => "Permit",
+        Token::LParen => "LParen",
+        Token::Identifier(_) => "Identifier",
+        Token::Number(_) => "Number",
+        Token::Str(_) => "Str",
+        _ => "another",
+    }
+}
+
+fn expect_kinds(rt: &impl Abort, alloc: Global, text: &str, want: &str) {
+    let stream = get_token_stream(alloc, text).expect(rt, text);
+    let (tokens, _closing) = stream.expect(rt, text);
+    let mut out = String::new(alloc);
+    for token in &tokens {
+        let name = kind_name(&token.token);
+        write!(out, "{name} ").expect(rt, "memory");
+    }
+    expect_text(rt, out.as_str(), want, text);
+}
+
+#[test]
+fn kinds(rt: HostRuntime) {
+    for (text, want) in &KINDS {
+        expect_kinds(&rt, rt.alloc(), text, want);
+    }
+}
+
 #[test]
 fn streams_token_by_token(rt: HostRuntime) {
     for (text, want) in &STREAMS {

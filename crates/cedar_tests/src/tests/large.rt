@@ -1,5 +1,6 @@
 //! Long texts and long chains.
 use super::*;
+use cedar_policy_formatter::is_formatted;
 
 // The parts of a text, and those of its layout.
 static LARGE: [(&[(&str, usize)], &[(&str, usize)]); 8] = [
@@ -42,17 +43,18 @@ static LARGE: [(&[(&str, usize)], &[(&str, usize)]); 8] = [
     (&[("§;", 10000)], &[("¶;\n\n", 9999), ("¶;\n", 1)]),
 ];
 
+fn expect_large(rt: &impl Abort, alloc: Global, parts: &[(&str, usize)], want: &[(&str, usize)]) {
+    let config = config(80, 2);
+    let text = joined(rt, alloc, parts);
+    let want = joined(rt, alloc, want);
+    expect_layout(rt, alloc, text.as_str(), &config, want.as_str());
+    let formatted = is_formatted(alloc, want.as_str(), &config);
+    expect_told(rt, formatted, Ok(true), want.as_str());
+}
+
 #[test]
 fn large_layouts(rt: HostRuntime) {
     for (parts, want) in &LARGE {
-        let text = joined(&rt, rt.alloc(), parts);
-        let want = joined(&rt, rt.alloc(), want);
-        expect_layout(
-            &rt,
-            rt.alloc(),
-            text.as_str(),
-            &config(80, 2),
-            want.as_str(),
-        );
+        expect_large(&rt, rt.alloc(), parts, want);
     }
 }
