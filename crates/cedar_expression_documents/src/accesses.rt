@@ -23,6 +23,8 @@ use cedar_tree::tree::{Ident, MemAccess, Node, Str};
 use std::alloc::{AllocError, Global};
 
 // A place to break before this access, if there is one between the access before and it.
+#[inline(never)]
+#[inline(never)]
 pub(crate) fn push_break<'src>(
     docs: &mut Vec<Document<'src>>,
     before: Option<&MemAccess<'src>>,
@@ -48,6 +50,8 @@ fn breaks_between(before: Option<&MemAccess<'_>>, access: &MemAccess<'_>) -> boo
 }
 
 // C(".") . C(id)
+#[inline(never)]
+#[inline(never)]
 pub(crate) fn field_doc<'src>(
     alloc: Global,
     field: &Node<Ident<'src>>,
@@ -65,6 +69,8 @@ pub(crate) fn field_doc<'src>(
 }
 
 // C("[") . C(str) . C("]")
+#[inline(never)]
+#[inline(never)]
 pub(crate) fn index_doc<'src>(
     alloc: Global,
     index: &Node<Str<'src>>,

@@ -41,7 +41,29 @@ use std::alloc::{AllocError, Global};
 
 /// The document of an `if`, or of operands of `||`.
 #[cycle(documents)]
+#[inline(never)]
 pub fn expr_doc<'src>(
+    alloc: Global,
+    expr: &Expr<'src>,
+    span: Span,
+    indent: isize,
+    tokens: &mut [WrappedToken<'src>],
+) -> Made<'src>
+    requires { AreInOrder tokens.old }
+    ensures kept { KeepsTokens tokens.old tokens.new }
+    ensures found { Finds result (has_its_tokens (places tokens.old) (expr_parts expr.now)) }
+    ensures shows { (t : Tree Shown kind.expr) → IsAt span (yield t) → IsNodeOf (expr_parts expr.now) t → Shows result tokens.old tokens.new (yield t) (document indent t) }
+{
+    match expr {
+        Expr::If(..) => if_doc(alloc, expr, span, indent, tokens),
+        Expr::Or(or) => or_doc(alloc, &or.inner, indent, tokens),
+    }
+}
+
+// An `if` stands in a function of its own, since it needs much of the stack; any other expression is as above.
+#[cycle(documents)]
+#[inline(never)]
+fn if_doc<'src>(
     alloc: Global,
     expr: &Expr<'src>,
     span: Span,
@@ -80,6 +102,7 @@ pub fn expr_doc<'src>(
 
 /// `e1 . space . C("||", line) . e2 . space . C("||", line) . e3 ..`
 #[cycle(documents)]
+#[inline(never)]
 pub fn or_doc<'src>(
     alloc: Global,
     or: &Or<'src>,
@@ -107,6 +130,7 @@ pub fn or_doc<'src>(
 
 /// `e1 . space . C("&&", line) . e2 . space . C("&&", line) . e3 ..`
 #[cycle(documents)]
+#[inline(never)]
 pub fn and_doc<'src>(
     alloc: Global,
     and: &And<'src>,
@@ -134,6 +158,7 @@ pub fn and_doc<'src>(
 
 /// One operand, or two with a comparison, `has`, `like` or `is` between them.
 #[cycle(documents)]
+#[inline(never)]
 pub fn relation_doc<'src>(
     alloc: Global,
     relation: &Relation<'src>,
@@ -187,6 +212,7 @@ pub fn relation_doc<'src>(
 
 // left . space . C(op) . space . b, where `left` is the document of the operand at `before`
 #[cycle(documents)]
+#[inline(never)]
 fn comparison_doc<'src>(
     alloc: Global,
     right: &Node<Add<'src>>,
@@ -209,6 +235,7 @@ fn comparison_doc<'src>(
 
 // group(left . line . C(op) . line . nest(i, b)), where the operator is `has` or `like`
 #[cycle(documents)]
+#[inline(never)]
 fn keyword_doc<'src>(
     alloc: Global,
     right: &Node<Add<'src>>,
@@ -251,6 +278,7 @@ fn is_doc<'src>(
 
 // group(left . space . C("is") . space . nest(i, type) . line . C("in") . space . nest(i, b))
 #[cycle(documents)]
+#[inline(never)]
 fn is_in_doc<'src>(
     alloc: Global,
     entity: &Node<Add<'src>>,
@@ -277,6 +305,7 @@ fn is_in_doc<'src>(
 
 /// `group(e1 . space . C(op) . line . e2 . space . C(op) . line . e3 ..)`
 #[cycle(documents)]
+#[inline(never)]
 pub fn add_doc<'src>(
     alloc: Global,
     add: &Add<'src>,
@@ -304,6 +333,7 @@ pub fn add_doc<'src>(
 
 /// `group(e1 . space . C("*") . line . e2 . space . C("*") . line . e3 ..)`
 #[cycle(documents)]
+#[inline(never)]
 pub fn mult_doc<'src>(
     alloc: Global,
     mult: &Mult<'src>,
@@ -337,6 +367,7 @@ pub fn mult_doc<'src>(
 
 /// `C(sign)` for each sign in order, then the member.
 #[cycle(documents)]
+#[inline(never)]
 pub fn unary_doc<'src>(
     alloc: Global,
     unary: &Unary<'src>,
@@ -356,6 +387,7 @@ pub fn unary_doc<'src>(
 
 /// `group(item . nest(i, accesses))`
 #[cycle(documents)]
+#[inline(never)]
 pub fn member_doc<'src>(
     alloc: Global,
     member: &Member<'src>,
@@ -374,6 +406,7 @@ pub fn member_doc<'src>(
 
 // The accesses; `line_` stands before each but the first and but a call after a field.
 #[cycle(documents)]
+#[inline(never)]
 fn accesses_doc<'src>(
     alloc: Global,
     accesses: &[Node<MemAccess<'src>>],
@@ -397,6 +430,7 @@ fn accesses_doc<'src>(
 
 /// A field, a call or an index.
 #[cycle(documents)]
+#[inline(never)]
 pub fn access_doc<'src>(
     alloc: Global,
     access: &MemAccess<'src>,
@@ -418,6 +452,7 @@ pub fn access_doc<'src>(
 
 // C("(") . nest(i, line_ . args) . line_ . C(")"), and without arguments C("(") . C(")")
 #[cycle(documents)]
+#[inline(never)]
 fn call_doc<'src>(
     alloc: Global,
     arguments: &[Node<Expr<'src>>],
@@ -441,6 +476,7 @@ fn call_doc<'src>(
 
 /// A literal, an entity, a name, a slot, or what stands between brackets.
 #[cycle(documents)]
+#[inline(never)]
 pub fn primary_doc<'src>(
     alloc: Global,
     primary: &Primary<'src>,
@@ -468,6 +504,7 @@ pub fn primary_doc<'src>(
 
 // group(C("(") . nest(1, e) . C(")"))
 #[cycle(documents)]
+#[inline(never)]
 fn parens_doc<'src>(
     alloc: Global,
     inside: &Node<Expr<'src>>,
@@ -489,6 +526,7 @@ fn parens_doc<'src>(
 
 // C("[") . nest(1, items) . C("]")
 #[cycle(documents)]
+#[inline(never)]
 fn list_doc<'src>(
     alloc: Global,
     items: &[Node<Expr<'src>>],
@@ -509,6 +547,7 @@ fn list_doc<'src>(
 
 // C("{") . nest(i, group(line . inits . line)) . C("}"), and of no inits C("{") . C("}")
 #[cycle(documents)]
+#[inline(never)]
 fn record_doc<'src>(
     alloc: Global,
     inits: &[Node<RecInit<'src>>],
@@ -532,6 +571,7 @@ fn record_doc<'src>(
 
 // Expressions joined by C(",") . line
 #[cycle(documents)]
+#[inline(never)]
 fn items_doc<'src>(
     alloc: Global,
     items: &[Node<Expr<'src>>],
@@ -556,6 +596,7 @@ fn items_doc<'src>(
 
 // Keys and values joined by C(",") . line
 #[cycle(documents)]
+#[inline(never)]
 fn inits_doc<'src>(
     alloc: Global,
     inits: &[Node<RecInit<'src>>],
@@ -580,6 +621,7 @@ fn inits_doc<'src>(
 
 /// `key . C(":") . space . value`
 #[cycle(documents)]
+#[inline(never)]
 pub fn init_doc<'src>(
     alloc: Global,
     init: &RecInit<'src>,

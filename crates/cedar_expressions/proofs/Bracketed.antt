@@ -12,7 +12,7 @@ use Rattle.cedar_grammar.specs.Trees.{Label, Forest, none, leaf, branch, join, y
 use Rattle.cedar_grammar.specs.TrailingCommas.{without_trailing, drop_if, closes_next}
 use Rattle.cedar_grammar.specs.Reader.Reading.{Answer, Reader, done, stuck, both, tree, one}
 use Rattle.cedar_grammar.proofs.ReadingLaws.{both_done, both_fails, both_then_fails, tree_done, tree_fails}
-use Rattle.cedar_tree.specs.Erased.{Erased, variant, access_parts, primary_parts}
+use Rattle.cedar_tree.specs.Erased.{Erased, access_parts, primary_parts}
 use Rattle.cedar_reading.specs.Inside.Lexemes.{lexeme_nodes}
 use Rattle.cedar_tree.specs.NodeTrees.{is_node, span_of}
 use Rattle.cedar_reading.specs.Inside.Reading.{kind, Fails, Stands, IsMade, PassesOn, FollowedBy, GivesNode}

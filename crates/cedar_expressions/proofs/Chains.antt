@@ -11,9 +11,9 @@ use Rattle.cedar_grammar.specs.Reader.Reading.{Answer, Reader, done, stuck, both
 use Rattle.cedar_grammar.proofs.ReadingLaws.{Takes, both_done, both_then_fails, both_takes, token_takes}
 use Rattle.cedar_tree.specs.Erased.{Erased, node, addop_text}
 use Rattle.cedar_tree.specs.NodeTrees.{is_node}
-use Rattle.cedar_reading.specs.Inside.Reading.{kind, Keeps, Fails, Stands, GivesNode, PassesOn, addop_kind}
-use Rattle.cedar_reading.specs.Inside.ReadingParts.{Makes}
-use Rattle.cedar_nodes.specs.Inside.ReadingExprs.{operands_end, IsChainOf, IsBeside}
+use Rattle.cedar_reading.specs.Inside.Reading.{kind, Keeps, Fails, Stands, GivesNode, addop_kind}
+use Rattle.cedar_nodes.specs.Inside.Boxed.{signed}
+use Rattle.cedar_nodes.specs.Inside.ReadingExprs.{operands_end, IsChainOf}
 use Rattle.cedar_tree.specs.NodeLists.{operand_trees}
 use Rattle.cedar_reading.specs.declared.lexeme.Lexeme.{Lexeme}
 use Rattle.cedar_reading.specs.declared.reading.Refusal.{Refusal}
@@ -39,24 +39,13 @@ pub plain_operand : {X : Type 0} (l : Label) (parts : X → Erased) (read : Resu
 plain_operand l parts (Ok x) a g = (g.0, g.1, g.2, tt)
 plain_operand l parts (Err e) a g = g
 
-pub signed_operand : {S X : Type 0} (s : S) (l : Label) (parts : X → Erased) (read : Result (Node X × Bor (List Lexeme)) Refusal) (result : Result ((S × Node X) × Bor (List Lexeme)) Refusal) (a : Answer Lexeme) → GivesNode l parts read a → PassesOn read result
-    → Makes (IsBeside s) read result → GivesOperand (λ y. y.1) (λ y. y.0 ≡ s) l parts result a
-signed_operand s l parts (Ok x) (Ok y) a g p m = (
-  g.0,
-  g.1 ∙ ap (λ (z : Bor (List Lexeme)). done (branch l g.0 none) z.now) (sym p),
-  rw m g.2,
-  rw m refl,
-)
-signed_operand s l parts (Ok x) (Err e) a g p m = rw p tt
-signed_operand s l parts (Err f) (Ok y) a g p m = absurd p
-signed_operand s l parts (Err f) (Err e) a g p m = rw p g
+pub signed_operand : {S X : Type 0} (s : S) (l : Label) (parts : X → Erased) (read : Result (Node X × Bor (List Lexeme)) Refusal) (a : Answer Lexeme) → GivesNode l parts read a → GivesOperand (λ y. y.1) (λ y. y.0 ≡ s) l parts (signed s read) a
+signed_operand s l parts (Ok x) a g = (g.0, g.1, g.2, refl)
+signed_operand s l parts (Err e) a g = g
 
-pub signed_shorter : {S X : Type 0} (read : Result (Node X × Bor (List Lexeme)) Refusal) (result : Result ((S × Node X) × Bor (List Lexeme)) Refusal) (old new : List (S × Node X)) (rest : Bor (List Lexeme)) (u : Unit {0}) (m : ℕ) → IfOk read (λ x. length x.1.now < m)
-    → PassesOn read result → Keeps result old new rest (Ok u) → length rest.now < m
-signed_shorter (Ok x) (Ok y) old new rest u m h p k = rw (k.1, p) h
-signed_shorter (Ok x) (Err e) old new rest u m h p k = absurd k
-signed_shorter (Err f) (Ok y) old new rest u m h p k = absurd p
-signed_shorter (Err f) (Err e) old new rest u m h p k = absurd k
+pub signed_shorter : {S X : Type 0} (s : S) (read : Result (Node X × Bor (List Lexeme)) Refusal) (old new : List (S × Node X)) (rest : Bor (List Lexeme)) (u : Unit {0}) (m : ℕ) → IfOk read (λ x. length x.1.now < m) → Keeps (signed s read) old new rest (Ok u) → length rest.now < m
+signed_shorter s (Ok x) old new rest u m h k = rw k.1 h
+signed_shorter s (Err e) old new rest u m h k = absurd k
 
 -- the signs of sums
 pub addop_between : (op : AddOp) → Between (addop_kind op) (addop_text op)

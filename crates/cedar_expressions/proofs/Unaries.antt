@@ -1,5 +1,5 @@
 -- A member behind its signs.
-use Rattle.std.specs.Prelude.{◌≡◌, ℕ, List, Result, Ok, Err, Option, IfOk}
+use Rattle.std.specs.Prelude.{List, Result, Ok, Err, Option}
 use Rattle.std.specs.Borrow.{Bor}
 use Rattle.std.proofs.Common.{refl, sym, ap, ◌∙◌}
 use Rattle.cedar_grammar.specs.Trees.{Label, Forest, none, branch, join}
@@ -25,17 +25,17 @@ module _ (M : Reader Lexeme) where
   abbrev pub unary_reader : Reader Lexeme
   unary_reader = tree Label.unary (both (flat signs_rule) M)
 
-  pub unary_gives : (ts : List Lexeme) (op : Option NegOp) (rest : Bor (List Lexeme)) (start : ℕ) (read : Result (Node Member.Member × Bor (List Lexeme)) Refusal) (result : Result (Node Unary.Unary × Bor (List Lexeme)) Refusal)
-      → GivesSigns ts (op, rest) → GivesNode Label.member member_parts read (M rest.now) → IfOk read (λ x. start ≡ signs_start op ts x.0.span.start) → PassesOn read result → Makes (IsUnaryOf start op) read result
+  pub unary_gives : (ts : List Lexeme) (op : Option NegOp) (rest : Bor (List Lexeme)) (read : Result (Node Member.Member × Bor (List Lexeme)) Refusal) (result : Result (Node Unary.Unary × Bor (List Lexeme)) Refusal)
+      → GivesSigns ts (op, rest) → GivesNode Label.member member_parts read (M rest.now) → PassesOn read result → Makes (λ m n. IsUnaryOf (signs_start op ts m.span.start) op m n) read result
       → GivesNode Label.unary unary_parts result (unary_reader ts)
-  unary_gives ts op rest start (Ok x) (Ok y) g m e p k =
+  unary_gives ts op rest (Ok x) (Ok y) g m p k =
       let h : Forest Label Lexeme = branch Label.member m.0 none in
       let f : Forest Label Lexeme = join g.0 h in (
         f,
         tree_done Label.unary _ ts f x.1.now (both_done (flat signs_rule) M ts g.0 rest.now h x.1.now g.1 m.1) ∙ ap (λ (z : Bor (List Lexeme)). done (branch Label.unary f none) z.now) (sym p),
-        row_span _ _ _ _ (sym (k.1 ∙ ap (λ z. record { start = z; end = x.0.span.end }) e)) (row_parts _ _ _ _ k.0 (g.2 x.0.span _ h (row_node Label.member x.0.span _ m.0 refl m.2))),
+        row_span _ _ _ _ (sym k.1) (row_parts _ _ _ _ k.0 (g.2 x.0.span _ h (row_node Label.member x.0.span _ m.0 refl m.2))),
       )
-  unary_gives ts op rest start (Ok x) (Err q) g m e p k = rw p tt
-  unary_gives ts op rest start (Err q) (Ok y) g m e p k = absurd p
-  unary_gives ts op rest start (Err q) (Err w) g m e p k =
+  unary_gives ts op rest (Ok x) (Err q) g m p k = rw p tt
+  unary_gives ts op rest (Err q) (Ok y) g m p k = absurd p
+  unary_gives ts op rest (Err q) (Err w) g m p k =
       rw p (passes q _ _ m (λ b r i. tree_fails Label.unary _ ts b r (both_then_fails (flat signs_rule) M ts g.0 rest.now b r g.1 i)))

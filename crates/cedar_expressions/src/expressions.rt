@@ -6,33 +6,33 @@ ghost use Rattle.cedar_grammar.specs.declared.kind.Kind.TheVariants as K;
 ghost use Rattle.cedar_grammar.specs.Reader.Rules.{inner, leaf_of, items, reference};
 ghost use Rattle.cedar_grammar.specs.Reader.Lines.{◌▸◌, one_of, maybe, path, call_parts, call, init, item, member_rule, unary_rule, mult_rule, add_rule, relation_rule, and_rule, or_rule, expr_rule};
 ghost use Rattle.cedar_tree.specs.Erased.{expr_parts, or_parts, relation_parts, add_parts, mult_parts, unary_parts, access_parts, primary_parts};
-ghost use Rattle.cedar_reading.specs.Inside.Reading.{GivesNode, GivesBehind, relop_kind};
+ghost use Rattle.cedar_reading.specs.Inside.ReadingParts.{literal_rule};
+ghost use Rattle.cedar_nodes.specs.Inside.Boxed.{unboxed, unboxed_first, unboxed_second, unboxed_operand};
+ghost use Rattle.cedar_reading.specs.Inside.Reading.{flat, GivesNode, GivesBehind, relop_kind};
 ghost use Rattle.cedar_nodes.specs.Inside.ReadingItems.{GivesItems};
 ghost use Rattle.cedar_nodes.specs.Inside.ReadingExprs.{at_depth, if_rule, bracket_rule, GivesSigned, GivesTypeTest, GivesItem};
 ghost use Rattle.cedar_tree.specs.NodeLists.{and_parts, init_parts, member_parts};
 
 use cedar_grammar::kind::Kind;
-use cedar_nodes::nodes::{
-    add_node, and_node, beside, beside_one, call_node, compared_node, has_node, if_node, init_node,
-    is_node, like_node, list_node, lone_primary, lone_relation, member_node, mult_node, or_expr,
-    or_node, parens_node, record_node, unary_node, with_type,
+use cedar_nodes::boxed::{
+    boxed_add, boxed_and, boxed_compared, boxed_expr, boxed_has, boxed_init, boxed_is, boxed_item,
+    boxed_key, boxed_like, boxed_list, boxed_lone, boxed_member, boxed_mult, boxed_or,
+    boxed_parens, boxed_record, boxed_type, boxed_unary, boxed_uncalled, keep_boxed, keep_signed,
+    let_go,
 };
-use cedar_reading::accesses::{
-    begins_access, begins_call, parse_access, parse_has_field, parse_pattern,
-};
+use cedar_nodes::nodes::{beside, beside_one, call_node, if_node, lone_primary};
+use cedar_reading::accesses::{begins_access, begins_call, parse_access};
 use cedar_reading::lexeme::Lexeme;
 use cedar_reading::literals::parse_literal;
 use cedar_reading::names::{
-    begins_identifier, begins_key, entity_node, is_lone_variable, name_primary, parse_key,
-    parse_path, parse_words,
+    begins_identifier, begins_key, entity_node, is_lone_variable, name_primary, parse_path,
+    parse_words,
 };
 use cedar_reading::reading::{
     Parsed, begins, begins_bracket, begins_expression, expect, followed_by, keep, past, refuse,
     skip, start_of, too_deep,
 };
-use cedar_reading::signs::{
-    begins_comparison, parse_comparison_sign, past_sum_sign, read_signs, signed_start,
-};
+use cedar_reading::signs::{begins_comparison, parse_comparison_sign, past_sum_sign, read_signs};
 use cedar_tree::tree::{
     Add, And, Expr, MemAccess, Member, Mult, MultOp, Name, Node, Or, Primary, RecInit, RelOp,
     Relation, Unary,
@@ -41,6 +41,7 @@ use std::alloc::Global;
 
 /// An expression.
 #[cycle(parser)]
+#[inline(never)]
 pub fn parse_expr<'t, 'src>(
     alloc: Global,
     tokens: &'t [Lexeme<'src>],
@@ -55,11 +56,12 @@ pub fn parse_expr<'t, 'src>(
         }
         return parse_if(alloc, tokens, depth - 1);
     }
-    or_expr(alloc, parse_or(alloc, tokens, depth))
+    boxed_expr(parse_or(alloc, tokens, depth))
 }
 
 // `if`, `then` and `else`.
 #[cycle(parser)]
+#[inline(never)]
 fn parse_if<'t, 'src>(
     alloc: Global,
     tokens: &'t [Lexeme<'src>],
@@ -76,6 +78,7 @@ fn parse_if<'t, 'src>(
 
 // A keyword, and the expression after it.
 #[cycle(parser)]
+#[inline(never)]
 fn parse_branch<'t, 'src>(
     alloc: Global,
     tokens: &'t [Lexeme<'src>],
@@ -93,91 +96,97 @@ fn parse_branch<'t, 'src>(
 
 // Operands of `||`.
 #[cycle(parser)]
+#[inline(never)]
 fn parse_or<'t, 'src>(
     alloc: Global,
     tokens: &'t [Lexeme<'src>],
     depth: usize,
-) -> Parsed<'t, 'src, Node<Or<'src>>>
+) -> Parsed<'t, 'src, Box<Node<Or<'src>>>>
     ensures shorter { IfOk result (λ x. length x.1.now < length tokens.now) }
-    ensures reads { GivesNode Label.or or_parts result (at_depth depth or_rule tokens.now) }
+    ensures reads { GivesNode Label.or or_parts (unboxed result) (at_depth depth or_rule tokens.now) }
 {
     let (first, mut rest) = parse_and(alloc, tokens, depth)?;
     let mut extended = Vec::new(alloc);
     'operands: while let Some(after) = past(rest, Kind::Or) {
-        match keep(parse_and(alloc, after, depth), &mut extended, &mut rest) {
+        match keep_boxed(parse_and(alloc, after, depth), &mut extended, &mut rest) {
             Ok(()) => {}
             Err(refusal) => {
-                drop(first);
+                let_go(first);
+                let_go(extended);
                 return Err(refusal);
             }
         }
     }
-    Ok((or_node(first, extended), rest))
+    Ok((boxed_or(alloc, first, extended)?, rest))
 }
 
 // Operands of `&&`.
 #[cycle(parser)]
+#[inline(never)]
 fn parse_and<'t, 'src>(
     alloc: Global,
     tokens: &'t [Lexeme<'src>],
     depth: usize,
-) -> Parsed<'t, 'src, Node<And<'src>>>
+) -> Parsed<'t, 'src, Box<Node<And<'src>>>>
     ensures shorter { IfOk result (λ x. length x.1.now < length tokens.now) }
-    ensures reads { GivesNode Label.and and_parts result (at_depth depth and_rule tokens.now) }
+    ensures reads { GivesNode Label.and and_parts (unboxed result) (at_depth depth and_rule tokens.now) }
 {
     let (first, mut rest) = parse_relation(alloc, tokens, depth)?;
     let mut extended = Vec::new(alloc);
     'operands: while let Some(after) = past(rest, Kind::And) {
-        match keep(
+        match keep_boxed(
             parse_relation(alloc, after, depth),
             &mut extended,
             &mut rest,
         ) {
             Ok(()) => {}
             Err(refusal) => {
-                drop(first);
+                let_go(first);
+                let_go(extended);
                 return Err(refusal);
             }
         }
     }
-    Ok((and_node(first, extended), rest))
+    Ok((boxed_and(alloc, first, extended)?, rest))
 }
 
 // One operand; or two with a comparison, `has`, `like` or `is` between them.
 #[cycle(parser)]
+#[inline(never)]
 fn parse_relation<'t, 'src>(
     alloc: Global,
     tokens: &'t [Lexeme<'src>],
     depth: usize,
-) -> Parsed<'t, 'src, Node<Relation<'src>>>
+) -> Parsed<'t, 'src, Box<Node<Relation<'src>>>>
     ensures shorter { IfOk result (λ x. length x.1.now < length tokens.now) }
-    ensures reads { GivesNode Label.relation relation_parts result (at_depth depth relation_rule tokens.now) }
+    ensures reads { GivesNode Label.relation relation_parts (unboxed result) (at_depth depth relation_rule tokens.now) }
 {
     let (target, rest) = parse_add(alloc, tokens, depth)?;
     if begins_comparison(rest) {
-        return compared_node(target, parse_compared(alloc, rest, depth));
+        return boxed_compared(alloc, target, parse_compared(alloc, rest, depth));
     }
     if begins(rest, Kind::Has) {
-        return has_node(target, parse_has_field(alloc, rest));
+        return boxed_has(alloc, target, rest);
     }
     if begins(rest, Kind::Like) {
-        return like_node(target, parse_pattern(alloc, rest));
+        return boxed_like(alloc, target, rest);
     }
     if begins(rest, Kind::Is) {
-        return is_node(target, parse_type_test(alloc, rest, depth));
+        return boxed_is(alloc, target, parse_type_test(alloc, rest, depth));
     }
-    Ok((lone_relation(target), rest))
+    Ok((boxed_lone(alloc, target)?, rest))
 }
 
 // A comparison's sign, and its second operand.
 #[cycle(parser)]
+#[inline(never)]
 fn parse_compared<'t, 'src>(
     alloc: Global,
     tokens: &'t [Lexeme<'src>],
     depth: usize,
-) -> Parsed<'t, 'src, (RelOp, Node<Add<'src>>)>
+) -> Parsed<'t, 'src, (RelOp, Box<Node<Add<'src>>>)>
     ensures shorter { IfOk result (λ x. length x.1.now < length tokens.now) }
-    ensures reads { GivesSigned relop_kind Label.add add_parts result (at_depth depth (leaf_of is_comparison ▸ add_rule) tokens.now) }
+    ensures reads { GivesSigned relop_kind Label.add add_parts (unboxed_second result) (at_depth depth (leaf_of is_comparison ▸ add_rule) tokens.now) }
 {
     let (op, rest) = parse_comparison_sign(tokens)?;
     beside(op, parse_add(alloc, rest, depth))
@@ -185,96 +194,102 @@ fn parse_compared<'t, 'src>(
 
 // `is`, a type, and perhaps `in` and an operand.
 #[cycle(parser)]
+#[inline(never)]
 fn parse_type_test<'t, 'src>(
     alloc: Global,
     tokens: &'t [Lexeme<'src>],
     depth: usize,
-) -> Parsed<'t, 'src, (Node<Name<'src>>, Option<Node<Add<'src>>>)>
+) -> Parsed<'t, 'src, (Node<Name<'src>>, Option<Box<Node<Add<'src>>>>)>
     ensures shorter { IfOk result (λ x. length x.1.now < length tokens.now) }
-    ensures reads { GivesTypeTest result (at_depth depth (one_of K.Is ▸ path ▸ maybe (one_of K.In ▸ add_rule)) tokens.now) }
+    ensures reads { GivesTypeTest (unboxed_operand result) (at_depth depth (one_of K.Is ▸ path ▸ maybe (one_of K.In ▸ add_rule)) tokens.now) }
 {
     let (_, rest) = expect(tokens, Kind::Is)?;
     let (entity_type, rest) = parse_path(alloc, rest)?;
     match past(rest, Kind::In) {
-        Some(after) => with_type(entity_type, parse_add(alloc, after, depth)),
+        Some(after) => boxed_type(entity_type, parse_add(alloc, after, depth)),
         None => Ok(((entity_type, None), rest)),
     }
 }
 
 // Operands of `+` and `-`.
 #[cycle(parser)]
+#[inline(never)]
 fn parse_add<'t, 'src>(
     alloc: Global,
     tokens: &'t [Lexeme<'src>],
     depth: usize,
-) -> Parsed<'t, 'src, Node<Add<'src>>>
+) -> Parsed<'t, 'src, Box<Node<Add<'src>>>>
     ensures shorter { IfOk result (λ x. length x.1.now < length tokens.now) }
-    ensures reads { GivesNode Label.add add_parts result (at_depth depth add_rule tokens.now) }
+    ensures reads { GivesNode Label.add add_parts (unboxed result) (at_depth depth add_rule tokens.now) }
 {
     let (first, mut rest) = parse_mult(alloc, tokens, depth)?;
     let mut extended = Vec::new(alloc);
     'operands: while let Some((op, after)) = past_sum_sign(rest) {
-        let read = beside(op, parse_mult(alloc, after, depth));
-        match keep(read, &mut extended, &mut rest) {
+        let read = parse_mult(alloc, after, depth);
+        match keep_signed(op, read, &mut extended, &mut rest) {
             Ok(()) => {}
             Err(refusal) => {
-                drop(first);
+                let_go(first);
+                let_go(extended);
                 return Err(refusal);
             }
         }
     }
-    Ok((add_node(first, extended), rest))
+    Ok((boxed_add(alloc, first, extended)?, rest))
 }
 
 // Operands of `*`.
 #[cycle(parser)]
+#[inline(never)]
 fn parse_mult<'t, 'src>(
     alloc: Global,
     tokens: &'t [Lexeme<'src>],
     depth: usize,
-) -> Parsed<'t, 'src, Node<Mult<'src>>>
+) -> Parsed<'t, 'src, Box<Node<Mult<'src>>>>
     ensures shorter { IfOk result (λ x. length x.1.now < length tokens.now) }
-    ensures reads { GivesNode Label.mult mult_parts result (at_depth depth mult_rule tokens.now) }
+    ensures reads { GivesNode Label.mult mult_parts (unboxed result) (at_depth depth mult_rule tokens.now) }
 {
     let (first, mut rest) = parse_unary(alloc, tokens, depth)?;
     let mut extended = Vec::new(alloc);
     'operands: while let Some(after) = past(rest, Kind::Mul) {
-        let read = beside(MultOp::Times, parse_unary(alloc, after, depth));
-        match keep(read, &mut extended, &mut rest) {
+        let read = parse_unary(alloc, after, depth);
+        match keep_signed(MultOp::Times, read, &mut extended, &mut rest) {
             Ok(()) => {}
             Err(refusal) => {
-                drop(first);
+                let_go(first);
+                let_go(extended);
                 return Err(refusal);
             }
         }
     }
-    Ok((mult_node(first, extended), rest))
+    Ok((boxed_mult(alloc, first, extended)?, rest))
 }
 
 // A member behind at most four `!` or at most four `-`.
 #[cycle(parser)]
+#[inline(never)]
 fn parse_unary<'t, 'src>(
     alloc: Global,
     tokens: &'t [Lexeme<'src>],
     depth: usize,
-) -> Parsed<'t, 'src, Node<Unary<'src>>>
+) -> Parsed<'t, 'src, Box<Node<Unary<'src>>>>
     ensures shorter { IfOk result (λ x. length x.1.now < length tokens.now) }
-    ensures reads { GivesNode Label.unary unary_parts result (at_depth depth unary_rule tokens.now) }
+    ensures reads { GivesNode Label.unary unary_parts (unboxed result) (at_depth depth unary_rule tokens.now) }
 {
     let (op, rest) = read_signs(tokens);
-    let read = parse_member(alloc, rest, depth);
-    unary_node(signed_start(tokens, op, &read), op, read)
+    boxed_unary(alloc, tokens, op, parse_member(alloc, rest, depth))
 }
 
 // A primary and what is accessed in it.
 #[cycle(parser)]
+#[inline(never)]
 fn parse_member<'t, 'src>(
     alloc: Global,
     tokens: &'t [Lexeme<'src>],
     depth: usize,
-) -> Parsed<'t, 'src, Node<Member<'src>>>
+) -> Parsed<'t, 'src, Box<Node<Member<'src>>>>
     ensures shorter { IfOk result (λ x. length x.1.now < length tokens.now) }
-    ensures reads { GivesNode Label.member member_parts result (at_depth depth member_rule tokens.now) }
+    ensures reads { GivesNode Label.member member_parts (unboxed result) (at_depth depth member_rule tokens.now) }
 {
     let ((item, mut access), mut rest) = parse_item(alloc, tokens, depth)?;
     'accesses: while begins_access(rest) {
@@ -284,33 +299,47 @@ fn parse_member<'t, 'src>(
             keep(parse_call(alloc, rest, depth), &mut access, &mut rest)?;
         }
     }
-    Ok((member_node(item, access), rest))
+    Ok((boxed_member(alloc, item, access)?, rest))
 }
 
 // A primary; and where it is a path that is called, the call.
 #[cycle(parser)]
+#[inline(never)]
 fn parse_item<'t, 'src>(
     alloc: Global,
     tokens: &'t [Lexeme<'src>],
     depth: usize,
-) -> Parsed<'t, 'src, (Node<Primary<'src>>, Vec<Node<MemAccess<'src>>>)>
+) -> Parsed<'t, 'src, (Box<Node<Primary<'src>>>, Vec<Node<MemAccess<'src>>>)>
     ensures shorter { IfOk result (λ x. length x.1.now < length tokens.now) }
-    ensures reads { GivesItem result (at_depth depth item tokens.now) }
+    ensures reads { GivesItem (unboxed_first result) (at_depth depth item tokens.now) }
 {
     if begins_identifier(tokens) {
-        return parse_reference(alloc, tokens, depth);
+        return boxed_item(alloc, parse_reference(alloc, tokens, depth));
     }
     if !begins_bracket(tokens) {
-        return lone_primary(alloc, parse_literal(tokens));
+        return literal_item(alloc, tokens);
     }
     if depth == 0 {
         return Err(too_deep(tokens));
     }
-    lone_primary(alloc, parse_bracket(alloc, tokens, depth - 1))
+    boxed_uncalled(alloc, parse_bracket(alloc, tokens, depth - 1))
+}
+
+// A literal.
+#[inline(never)]
+fn literal_item<'t, 'src>(
+    alloc: Global,
+    tokens: &'t [Lexeme<'src>],
+) -> Parsed<'t, 'src, (Box<Node<Primary<'src>>>, Vec<Node<MemAccess<'src>>>)>
+    ensures shorter { IfOk result (λ x. length x.1.now < length tokens.now) }
+    ensures reads { GivesItem (unboxed_first result) (flat literal_rule tokens.now) }
+{
+    boxed_item(alloc, lone_primary(alloc, parse_literal(tokens)))
 }
 
 // A variable, an entity, or a path and its call. A path alone that is no variable is refused at the token after it.
 #[cycle(parser)]
+#[inline(never)]
 fn parse_reference<'t, 'src>(
     alloc: Global,
     tokens: &'t [Lexeme<'src>],
@@ -335,6 +364,7 @@ fn parse_reference<'t, 'src>(
 
 // The arguments of a call, in brackets.
 #[cycle(parser)]
+#[inline(never)]
 fn parse_call<'t, 'src>(
     alloc: Global,
     tokens: &'t [Lexeme<'src>],
@@ -353,6 +383,7 @@ fn parse_call<'t, 'src>(
 
 // Expressions with commas between them, and perhaps one behind the last; or none.
 #[cycle(parser)]
+#[inline(never)]
 fn parse_exprs<'t, 'src>(
     alloc: Global,
     tokens: &'t [Lexeme<'src>],
@@ -374,30 +405,29 @@ fn parse_exprs<'t, 'src>(
 
 // A parenthesis, a list or a record.
 #[cycle(parser)]
+#[inline(never)]
 fn parse_bracket<'t, 'src>(
     alloc: Global,
     tokens: &'t [Lexeme<'src>],
     depth: usize,
-) -> Parsed<'t, 'src, Node<Primary<'src>>>
+) -> Parsed<'t, 'src, Box<Node<Primary<'src>>>>
     ensures shorter { IfOk result (λ x. length x.1.now < length tokens.now) }
-    ensures reads { GivesNode Label.primary primary_parts result (at_depth (suc depth) bracket_rule tokens.now) }
+    ensures reads { GivesNode Label.primary primary_parts (unboxed result) (at_depth (suc depth) bracket_rule tokens.now) }
 {
     let start = start_of(tokens);
     if let Some(after) = past(tokens, Kind::LParen) {
-        let read = parse_expr(alloc, after, depth);
-        return parens_node(alloc, start, followed_by(read, Kind::RParen));
+        return boxed_parens(alloc, start, parse_expr(alloc, after, depth));
     }
     if let Some(after) = past(tokens, Kind::LBracket) {
-        let read = parse_exprs(alloc, after, depth);
-        return list_node(start, followed_by(read, Kind::RBracket));
+        return boxed_list(alloc, start, parse_exprs(alloc, after, depth));
     }
     let (_, rest) = expect(tokens, Kind::LBrace)?;
-    let read = parse_inits(alloc, rest, depth);
-    record_node(start, followed_by(read, Kind::RBrace))
+    boxed_record(alloc, start, parse_inits(alloc, rest, depth))
 }
 
 // Entries of a record with commas between them, and perhaps one behind the last; or none.
 #[cycle(parser)]
+#[inline(never)]
 fn parse_inits<'t, 'src>(
     alloc: Global,
     tokens: &'t [Lexeme<'src>],
@@ -409,7 +439,7 @@ fn parse_inits<'t, 'src>(
     let mut inits = Vec::new(alloc);
     let mut rest = tokens;
     'inits: while begins_key(rest) {
-        keep(parse_init(alloc, rest, depth), &mut inits, &mut rest)?;
+        keep_boxed(parse_init(alloc, rest, depth), &mut inits, &mut rest)?;
         if !skip(&mut rest, Kind::Comma) {
             return Ok((inits, rest));
         }
@@ -419,14 +449,15 @@ fn parse_inits<'t, 'src>(
 
 // A key, `:`, and its value.
 #[cycle(parser)]
+#[inline(never)]
 fn parse_init<'t, 'src>(
     alloc: Global,
     tokens: &'t [Lexeme<'src>],
     depth: usize,
-) -> Parsed<'t, 'src, Node<RecInit<'src>>>
+) -> Parsed<'t, 'src, Box<Node<RecInit<'src>>>>
     ensures shorter { IfOk result (λ x. length x.1.now < length tokens.now) }
-    ensures reads { GivesNode Label.rec_init init_parts result (at_depth (suc depth) init tokens.now) }
+    ensures reads { GivesNode Label.rec_init init_parts (unboxed result) (at_depth (suc depth) init tokens.now) }
 {
-    let ((key, _), rest) = followed_by(parse_key(alloc, tokens), Kind::Colon)?;
-    init_node(key, parse_expr(alloc, rest, depth))
+    let (key, rest) = boxed_key(alloc, tokens)?;
+    boxed_init(alloc, key, parse_expr(alloc, rest, depth))
 }

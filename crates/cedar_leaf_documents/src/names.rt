@@ -22,6 +22,7 @@ use cedar_tree::tree::{AddOp, Literal, Name, Ref, RelOp, Slot};
 use std::alloc::Global;
 
 /// `C(token)`: `text` between the comments of the token that starts where the part does.
+#[inline(never)]
 pub fn leaf_doc<'src>(
     alloc: Global,
     text: &'src str,
@@ -38,6 +39,7 @@ pub fn leaf_doc<'src>(
 }
 
 /// Identifiers `C(id)` joined by `C("::")`.
+#[inline(never)]
 pub fn name_doc<'src>(
     alloc: Global,
     name: &Name<'src>,
@@ -58,6 +60,7 @@ pub fn name_doc<'src>(
 }
 
 /// `path . C("::") . C(str)`
+#[inline(never)]
 pub fn ref_doc<'src>(
     alloc: Global,
     entity: &Ref<'src>,

@@ -10,6 +10,7 @@ use cedar_layout::utils::add_brackets;
 use std::alloc::{AllocError, Global};
 
 /// `nest(i, line . doc)`
+#[inline(never)]
 pub fn below<'src>(
     alloc: Global,
     doc: Document<'src>,
@@ -21,6 +22,7 @@ pub fn below<'src>(
 }
 
 /// `left . space . C(op) . space . right`
+#[inline(never)]
 pub fn comparison_row<'src>(
     alloc: Global,
     left: Document<'src>,
@@ -34,6 +36,7 @@ pub fn comparison_row<'src>(
 }
 
 /// `group(left . line . C(word) . line . nest(i, right))`
+#[inline(never)]
 pub fn keyword_row<'src>(
     alloc: Global,
     left: Document<'src>,
@@ -49,6 +52,7 @@ pub fn keyword_row<'src>(
 }
 
 /// `group(left . space . C("is") . space . nest(i, type))`
+#[inline(never)]
 pub fn is_row<'src>(
     alloc: Global,
     left: Document<'src>,
@@ -70,6 +74,7 @@ pub fn is_row<'src>(
 }
 
 /// `group(left . space . C("is") . space . nest(i, type) . line . C("in") . space . nest(i, right))`
+#[inline(never)]
 pub fn is_in_row<'src>(
     alloc: Global,
     left: Document<'src>,
@@ -98,6 +103,7 @@ pub fn is_in_row<'src>(
 }
 
 /// `C("(") . nest(i, line_ . items) . line_ . C(")")`
+#[inline(never)]
 pub fn call_row<'src>(
     alloc: Global,
     opening: Document<'src>,
@@ -112,6 +118,7 @@ pub fn call_row<'src>(
 }
 
 /// `group(C("(") . nest(1, inside) . C(")"))`
+#[inline(never)]
 pub fn parens_row<'src>(
     alloc: Global,
     opening: Document<'src>,
@@ -125,6 +132,7 @@ pub fn parens_row<'src>(
 }
 
 /// `C("[") . nest(1, items) . C("]")`
+#[inline(never)]
 pub fn list_row<'src>(
     alloc: Global,
     opening: Document<'src>,
@@ -137,6 +145,7 @@ pub fn list_row<'src>(
 }
 
 /// `C("{") . nest(i, group(line . inits . line)) . C("}")`
+#[inline(never)]
 pub fn record_row<'src>(
     alloc: Global,
     opening: Document<'src>,

@@ -3,7 +3,7 @@ ghost use Rattle.std.specs.Prelude.{◌≡◌, MatchResult, box_value, codes};
 ghost use Rattle.cedar_reading.specs.Inside.Reading.{PassesOn};
 ghost use Rattle.cedar_reading.specs.Inside.ReadingParts.{Makes, IsOrExprOf};
 ghost use Rattle.cedar_nodes.specs.Inside.ReadingItems.{IsListOf};
-ghost use Rattle.cedar_nodes.specs.Inside.ReadingExprs.{end_of_last, IsOrOf, IsAndOf, IsAddOf, IsMultOf, IsMemberOf, IsUnaryOf, IsLoneRelationOf, IsComparedOf, IsWordOf, IsTypeTestOf, IsCallOf, IsParensOf, IsRecordOf, IsInitOf, IsIfOf, IsBeside, IsBesideOne, IsTyped, IsUncalled, type_test_end};
+ghost use Rattle.cedar_nodes.specs.Inside.ReadingExprs.{end_of_last, IsOrOf, IsAndOf, IsAddOf, IsMultOf, IsMemberOf, IsUnaryOf, IsLoneRelationOf, IsComparedOf, IsWordOf, IsTypeTestOf, IsCallOf, IsParensOf, IsRecordOf, IsInitOf, IsIfOf, IsBeside, IsBesideOne, IsUncalled, type_test_end};
 ghost use Rattle.cedar_reading.specs.declared.reading.Refusal.TheVariants.{OutOfMemory};
 
 use cedar_reading::accesses::accesses_end;
@@ -178,18 +178,6 @@ pub fn beside_one<'t, 'src, S: Drop, T: Drop>(
     let mut items = Vec::new(alloc);
     items.push(item)?;
     Ok(((first, items), rest))
-}
-
-/// A type, and the operand behind `in`.
-pub fn with_type<'t, 'src>(
-    entity_type: Node<Name<'src>>,
-    read: Parsed<'t, 'src, Node<Add<'src>>>,
-) -> Parsed<'t, 'src, (Node<Name<'src>>, Option<Node<Add<'src>>>)>
-    ensures passes { PassesOn read.entry result }
-    ensures made { Makes (IsTyped entity_type.entry) read.entry result }
-{
-    let (operand, rest) = read?;
-    Ok(((entity_type, Some(operand)), rest))
 }
 
 /// One operand alone.

@@ -41,29 +41,43 @@ use Rattle.cedar_expression_documents.proofs.expressions.+documents.Goals as goa
 
 -- expr_doc
 
+pub expr_doc-returns-in-If-clause-shows : goal.expr_doc-returns-in-If-clause-shows
+expr_doc-returns-in-If-clause-shows _ c t at e =
+    let fits : to_z w64 (of_z w64 c.args.indent) ≡ c.args.indent = omega (arith, ints) in
+    simp fits at (c.if_doc.ensures.shows t at e)
+
 pub expr_doc-returns-in-Or-clause-shows : goal.expr_doc-returns-in-Or-clause-shows
 expr_doc-returns-in-Or-clause-shows _ c (plain_expr o) at e =
     let fits : to_z w64 (of_z w64 c.args.indent) ≡ c.args.indent = omega (arith, ints) in
     let q = opened_tree Label.or c.in-Or.or.value.span _ _ o none refl (seen_plain c.args.expr.now _ e c.in-Or.or c.in-Or.is) in
-    simp fits at (c.or_doc.ensures.shows o (ap (λ n. or_parts n.inner) c.deref-in-Or.ensures ∙ q.0))
+    simp fits at (c.or_doc.ensures.shows o (ap (λ n. or_parts n.inner) c.deref.ensures ∙ q.0))
 expr_doc-returns-in-Or-clause-shows _ c (if_expr i p t a f b) at e = let h = seen_plain c.args.expr.now _ e c.in-Or.or c.in-Or.is in absurd cc
 
-pub expr_doc-returns-in_err-condition-in-If-clause-found : goal.expr_doc-returns-in_err-condition-in-If-clause-found
-expr_doc-returns-in_err-condition-in-If-clause-found _ c =
+-- if_doc
+
+pub if_doc-returns-in-Or-clause-shows : goal.if_doc-returns-in-Or-clause-shows
+if_doc-returns-in-Or-clause-shows _ c (plain_expr o) at e =
+    let fits : to_z w64 (of_z w64 c.args.indent) ≡ c.args.indent = omega (arith, ints) in
+    let q = opened_tree Label.or c.in-Or.or.value.span _ _ o none refl (seen_plain c.args.expr.now _ e c.in-Or.or c.in-Or.is) in
+    simp fits at (c.or_doc.ensures.shows o (ap (λ n. or_parts n.inner) c.deref-in-Or.ensures ∙ q.0))
+if_doc-returns-in-Or-clause-shows _ c (if_expr i p t a f b) at e = let h = seen_plain c.args.expr.now _ e c.in-Or.or c.in-Or.is in absurd cc
+
+pub if_doc-returns-in_err-condition-in-If-clause-found : goal.if_doc-returns-in_err-condition-in-If-clause-found
+if_doc-returns-in_err-condition-in-If-clause-found _ c =
     let seen = seen_if c.args.expr.now c.in-If.test c.in-If.yes c.in-If.no _ _ _ c.in-If.is c.deref.ensures refl refl in
     missed _ _ _ _ c.from_residual-in_err-condition-in-If.ensures.1 c.in_err-condition-in-If.ensures.found
     (λ h. ap (has_its_tokens (places c.args.tokens.now)) (sym seen) ∙ rw (as_before (λ s. has_its_tokens s (expr_parts c.deref.result.now.inner)) _ _ _ c.in_ok-if_word-in-If.ensures.kept h) refl)
 
-pub expr_doc-returns-in_err-first-in-If-clause-found : goal.expr_doc-returns-in_err-first-in-If-clause-found
-expr_doc-returns-in_err-first-in-If-clause-found _ c =
+pub if_doc-returns-in_err-first-in-If-clause-found : goal.if_doc-returns-in_err-first-in-If-clause-found
+if_doc-returns-in_err-first-in-If-clause-found _ c =
     let seen = seen_if c.args.expr.now c.in-If.test c.in-If.yes c.in-If.no _ _ _ c.in-If.is c.deref.ensures c.deref-in-If-3.ensures refl in
     let e = as_before (λ s. has_its_tokens s (expr_parts c.deref.result.now.inner)) _ _ _ c.in_ok-if_word-in-If.ensures.kept c.in_ok-condition-in-If.ensures.found in
     let kept = c.in_ok-then_word-in-If.ensures.kept ∙ c.in_ok-condition-in-If.ensures.kept ∙ c.in_ok-if_word-in-If.ensures.kept in
     missed _ _ _ _ c.from_residual-in_err-first-in-If.ensures.1 c.in_err-first-in-If.ensures.found
     (λ h. ap (has_its_tokens (places c.args.tokens.now)) (sym seen) ∙ rw (e, as_before (λ s. has_its_tokens s (expr_parts c.deref-in-If-3.result.now.inner)) _ _ _ kept h) refl)
 
-pub expr_doc-returns-in_err-second-in-If-clause-found : goal.expr_doc-returns-in_err-second-in-If-clause-found
-expr_doc-returns-in_err-second-in-If-clause-found _ c =
+pub if_doc-returns-in_err-second-in-If-clause-found : goal.if_doc-returns-in_err-second-in-If-clause-found
+if_doc-returns-in_err-second-in-If-clause-found _ c =
     let seen = seen_if c.args.expr.now c.in-If.test c.in-If.yes c.in-If.no _ _ _ c.in-If.is c.deref.ensures c.deref-in-If-3.ensures c.deref-in-If-6.ensures in
     let kept = c.in_ok-then_word-in-If.ensures.kept ∙ c.in_ok-condition-in-If.ensures.kept ∙ c.in_ok-if_word-in-If.ensures.kept in
     let e1 = as_before (λ s. has_its_tokens s (expr_parts c.deref.result.now.inner)) _ _ _ c.in_ok-if_word-in-If.ensures.kept c.in_ok-condition-in-If.ensures.found in
@@ -71,8 +85,8 @@ expr_doc-returns-in_err-second-in-If-clause-found _ c =
     missed _ _ _ _ c.from_residual-in_err-second-in-If.ensures.1 c.in_err-second-in-If.ensures.found
     (λ h. ap (has_its_tokens (places c.args.tokens.now)) (sym seen) ∙ rw (e1, e2, as_before (λ s. has_its_tokens s (expr_parts c.deref-in-If-6.result.now.inner)) _ _ _ (c.in_ok-else_word-in-If.ensures.kept ∙ c.in_ok-first-in-If.ensures.kept ∙ kept) h) refl)
 
-pub expr_doc-returns-in_ok-group-in-If-clause-found : goal.expr_doc-returns-in_ok-group-in-If-clause-found
-expr_doc-returns-in_ok-group-in-If-clause-found _ c =
+pub if_doc-returns-in_ok-group-in-If-clause-found : goal.if_doc-returns-in_ok-group-in-If-clause-found
+if_doc-returns-in_ok-group-in-If-clause-found _ c =
     let seen = seen_if c.args.expr.now c.in-If.test c.in-If.yes c.in-If.no _ _ _ c.in-If.is c.deref.ensures c.deref-in-If-3.ensures c.deref-in-If-6.ensures in
     let kept = c.in_ok-then_word-in-If.ensures.kept ∙ c.in_ok-condition-in-If.ensures.kept ∙ c.in_ok-if_word-in-If.ensures.kept in
     ap (has_its_tokens (places c.args.tokens.now)) (sym seen) ∙ rw (
@@ -81,10 +95,10 @@ expr_doc-returns-in_ok-group-in-If-clause-found _ c =
       as_before (λ s. has_its_tokens s (expr_parts c.deref-in-If-6.result.now.inner)) _ _ _ (c.in_ok-else_word-in-If.ensures.kept ∙ c.in_ok-first-in-If.ensures.kept ∙ kept) c.in_ok-second-in-If.ensures.found,
     ) refl
 
-pub expr_doc-returns-in_ok-group-in-If-clause-shows : goal.expr_doc-returns-in_ok-group-in-If-clause-shows
-expr_doc-returns-in_ok-group-in-If-clause-shows _ c (plain_expr o) at e =
+pub if_doc-returns-in_ok-group-in-If-clause-shows : goal.if_doc-returns-in_ok-group-in-If-clause-shows
+if_doc-returns-in_ok-group-in-If-clause-shows _ c (plain_expr o) at e =
     let h = seen_if c.args.expr.now c.in-If.test c.in-If.yes c.in-If.no _ _ _ c.in-If.is refl refl refl ∙ e in absurd cc
-expr_doc-returns-in_ok-group-in-If-clause-shows _ c (if_expr i p t a f b) at e =
+if_doc-returns-in_ok-group-in-If-clause-shows _ c (if_expr i p t a f b) at e =
     let w = to_z w64 (of_z w64 c.args.indent) in
     let fits : w ≡ c.args.indent = omega (arith, ints) in
     let test = c.deref-in-If-2.result.now.span in
@@ -845,14 +859,14 @@ member_doc-accesses_doc-requires _ c = (search (rules, Or.the_lemmas), order_kep
 pub unary_doc-member_doc-requires : goal.unary_doc-member_doc-requires
 unary_doc-member_doc-requires _ c = (search (rules, Or.the_lemmas), order_kept _ _ (c.in_ok-signs.ensures.kept) c.requires)
 
-pub expr_doc-expr_doc-requires : goal.expr_doc-expr_doc-requires
-expr_doc-expr_doc-requires _ c = (search (rules, Or.the_lemmas), order_kept _ _ (c.in_ok-if_word-in-If.ensures.kept) c.requires)
+pub if_doc-expr_doc-requires : goal.if_doc-expr_doc-requires
+if_doc-expr_doc-requires _ c = (search (rules, Or.the_lemmas), order_kept _ _ (c.in_ok-if_word-in-If.ensures.kept) c.requires)
 
-pub expr_doc-expr_doc-requires-in-If : goal.expr_doc-expr_doc-requires-in-If
-expr_doc-expr_doc-requires-in-If _ c = (search (rules, Or.the_lemmas), order_kept _ _ (c.in_ok-then_word-in-If.ensures.kept ∙ c.in_ok-condition-in-If.ensures.kept ∙ c.in_ok-if_word-in-If.ensures.kept) c.requires)
+pub if_doc-expr_doc-requires-in-If : goal.if_doc-expr_doc-requires-in-If
+if_doc-expr_doc-requires-in-If _ c = (search (rules, Or.the_lemmas), order_kept _ _ (c.in_ok-then_word-in-If.ensures.kept ∙ c.in_ok-condition-in-If.ensures.kept ∙ c.in_ok-if_word-in-If.ensures.kept) c.requires)
 
-pub expr_doc-expr_doc-requires-in-If-2 : goal.expr_doc-expr_doc-requires-in-If-2
-expr_doc-expr_doc-requires-in-If-2 _ c = (search (rules, Or.the_lemmas), order_kept _ _ (c.in_ok-else_word-in-If.ensures.kept ∙ c.in_ok-first-in-If.ensures.kept ∙ c.in_ok-then_word-in-If.ensures.kept ∙ c.in_ok-condition-in-If.ensures.kept ∙ c.in_ok-if_word-in-If.ensures.kept) c.requires)
+pub if_doc-expr_doc-requires-in-If-2 : goal.if_doc-expr_doc-requires-in-If-2
+if_doc-expr_doc-requires-in-If-2 _ c = (search (rules, Or.the_lemmas), order_kept _ _ (c.in_ok-else_word-in-If.ensures.kept ∙ c.in_ok-first-in-If.ensures.kept ∙ c.in_ok-then_word-in-If.ensures.kept ∙ c.in_ok-condition-in-If.ensures.kept ∙ c.in_ok-if_word-in-If.ensures.kept) c.requires)
 
 pub relation_doc-comparison_doc-requires : goal.relation_doc-comparison_doc-requires
 relation_doc-comparison_doc-requires _ c = (search (rules, Or.the_lemmas), order_kept _ _ (c.in_ok-first-in-Common.ensures.kept) c.requires)

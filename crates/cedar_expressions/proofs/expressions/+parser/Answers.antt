@@ -1,4 +1,4 @@
-use Rattle.std.specs.Prelude.{◌≡◌, ◌||◌, ◌-◌, suc, true, codes}
+use Rattle.std.specs.Prelude.{◌≡◌, ◌||◌, ◌-◌, suc, true, box_value, codes}
 use Rattle.std.proofs.Common.{refl, sym, ap, ◌∙◌, arith, subst}
 use Rattle.std.proofs.lemmas.Result.{err_from_is_err_and}
 use Rattle.cedar_grammar.specs.declared.kind.Kind.TheVariants as K
@@ -10,11 +10,13 @@ use Rattle.cedar_grammar.specs.Reader.Lines.{maybe, path, init, item, call, acce
 use Rattle.cedar_grammar.proofs.ReadingLaws.{tree_fails, both_fails}
 use Rattle.cedar_tree.specs.Erased.{addop_text, expr_parts, or_parts, relation_parts, add_parts, mult_parts, unary_parts, access_parts, primary_parts}
 use Rattle.cedar_reading.specs.Inside.Reading.{kind, flat, addop_kind, relop_kind, first_place}
-use Rattle.cedar_reading.specs.Inside.ReadingParts.{literal_rule, key_rule, Makes, TellsVariable}
+use Rattle.cedar_reading.specs.Inside.ReadingParts.{key_rule, Makes, TellsVariable}
 use Rattle.cedar_nodes.specs.Inside.ReadingItems.{StandsItems, IsListOf}
 use Rattle.cedar_tree.specs.NodeLists.{and_parts, init_parts, item_trees}
 use Rattle.cedar_nodes.specs.Inside.ReadingExprs.{at_depth, if_rule, bracket_rule, IsParensOf, IsRecordOf}
 use Rattle.cedar_tree.specs.declared.tree.MultOp.{MultOp}
+use Rattle.cedar_nodes.specs.Inside.Boxed.{unboxed, unboxed_first, unboxed_second, unboxed_operand, unboxed_option, signed}
+use Rattle.cedar_expressions.proofs.Boxes.{passes_left, passes_right, passes_both, mapped_shorter, beside_unboxed, item_boxed}
 use Rattle.cedar_reading.proofs.Steps.{passes, fails_as, gives_as, is_itself, first_begins, token_at, token_not}
 use Rattle.cedar_reading.proofs.Rows.{row_parts, row_span}
 use Rattle.cedar_expressions.proofs.Chains.{plain_operand, signed_operand, signed_shorter, addop_between, addop_begins, operand_kept, operand_fails, operands_first, operands_next, operands_stuck, operands_done}
@@ -28,7 +30,6 @@ use Rattle.cedar_expressions.proofs.Branches.{if_test_fails, if_yes_fails, if_no
 use Rattle.cedar_expressions.proofs.Primaries.{add_at, compared_at, has_at, like_at, type_at, begins_turn, has_between, like_between, expr_takes, one_begins, one_first, call_stuck, brackets_none, or_gives, signed_gives, item_as, lone_item}
 use Rattle.cedar_expressions.proofs.Unaries.{unary_gives}
 use Rattle.cedar_expressions.proofs.References.{reference_fails, reference_entity, reference_called, reference_variable, reference_stops, call_refuses}
-use Rattle.cedar_reading.proofs.Followed.{followed_fails, followed_done}
 use Rattle.cedar_expressions.proofs.Depths.{depth_takes, expr_at}
 use Rattle.cedar_expressions.proofs.expressions.+parser.Goals as goal
 
@@ -40,27 +41,27 @@ parse_or-returns-in_err-first-clause-reads _ c =
 pub parse_or-operands-init : goal.parse_or-operands-init
 parse_or-operands-init _ c =
     let h = c.in_ok-first.ensures.reads in
-    (c.in_ok-first.ensures.shorter, operands_first Label.and and_parts (λ _. codes "||") (λ n. n) Label.or (is K.Or) (at_depth c.args.depth and_rule) refl c.in_ok-first.first _ _ _ h.0 h.1 h.2 c.new-extended.ensures.items)
+    (c.in_ok-first.ensures.shorter, operands_first Label.and and_parts (λ _. codes "||") (λ n. n) Label.or (is K.Or) (at_depth c.args.depth and_rule) refl c.in_ok-first.first.value _ _ _ h.0 h.1 h.2 c.new-extended.ensures.items)
 
 pub parse_or-operands-preserved : goal.parse_or-operands-preserved
 parse_or-operands-preserved _ c =
     let i = c.operands.invariant in
     let d = c.in-Some.ensures.token in
-    let g = plain_operand Label.and and_parts c.parse_and-in-Some.result _ c.parse_and-in-Some.ensures.reads in
-    let y = operand_kept Label.and and_parts (λ _. codes "||") (λ n. n) (λ n. Unit {0}) c.parse_and-in-Some.result _ _ c.keep.new.rest c.in-Ok.field-0 _ g c.in-Ok.ensures in
-    let s = keep_shorter c.parse_and-in-Some.result _ _ c.keep.new.rest c.in-Ok.field-0 _ c.parse_and-in-Some.ensures.shorter c.in-Ok.ensures in
+    let g = plain_operand Label.and and_parts (unboxed c.parse_and-in-Some.result) _ c.parse_and-in-Some.ensures.reads in
+    let y = operand_kept Label.and and_parts (λ _. codes "||") (λ n. n) (λ n. Unit {0}) (unboxed c.parse_and-in-Some.result) _ _ c.keep_boxed.new.rest c.in-Ok.field-0 _ g c.in-Ok.ensures in
+    let s = keep_shorter (unboxed c.parse_and-in-Some.result) _ _ c.keep_boxed.new.rest c.in-Ok.field-0 _ (mapped_shorter (λ b. box_value b) c.parse_and-in-Some.result _ c.parse_and-in-Some.ensures.shorter) c.in-Ok.ensures in
     let b = c.in-Some.ensures.shorter in
     (omega (arith, s, b, i.0), operands_next Label.and and_parts (λ _. codes "||") (λ n. n) Label.or (is K.Or) (at_depth c.args.depth and_rule) refl (depth_takes c.args.depth and_rule refl refl) _ _ _ _ _ _ _ d.0 K.Or y.0 y.1 i.1 d.1 d.2 refl (record { comma = refl; number = refl; closing = refl; shows = λ u. refl }) y.2 y.3 y.5)
 
 pub parse_or-returns-in-Err-clause-reads : goal.parse_or-returns-in-Err-clause-reads
 parse_or-returns-in-Err-clause-reads _ c =
     let d = c.in-Some.ensures.token in
-    let g = plain_operand Label.and and_parts c.parse_and-in-Some.result _ c.parse_and-in-Some.ensures.reads in
-    (passes _ _ _ (operand_fails Label.and and_parts (λ _. codes "||") (λ n. n) (λ n. Unit {0}) c.parse_and-in-Some.result _ _ _ _ _ g c.in-Err.ensures)
+    let g = plain_operand Label.and and_parts (unboxed c.parse_and-in-Some.result) _ c.parse_and-in-Some.ensures.reads in
+    (passes _ _ _ (operand_fails Label.and and_parts (λ _. codes "||") (λ n. n) (λ n. Unit {0}) (unboxed c.parse_and-in-Some.result) _ _ _ _ _ g c.in-Err.ensures)
     (λ x r e. operands_stuck Label.and and_parts (λ _. codes "||") (λ n. n) Label.or (is K.Or) (at_depth c.args.depth and_rule) _ _ _ _ _ d.0 K.Or x r c.operands.invariant.1 d.1 d.2 refl e))
 
 pub parse_or-returns-clause-reads : goal.parse_or-returns-clause-reads
-parse_or-returns-clause-reads _ c = operands_done Label.and and_parts (λ _. codes "||") (λ n. n) Label.or (is K.Or) (at_depth c.args.depth and_rule) or_parts _ _ c.or_node.result _ _ c.operands.invariant.1 c.in_default.ensures.token c.or_node.ensures
+parse_or-returns-clause-reads _ c = operands_done Label.and and_parts (λ _. codes "||") (λ n. n) Label.or (is K.Or) (at_depth c.args.depth and_rule) or_parts _ _ c.in_ok-boxed_or.field-0.value _ _ c.operands.invariant.1 c.in_default.ensures.token c.in_ok-boxed_or.ensures
 
 pub parse_and-returns-in_err-first-clause-reads : goal.parse_and-returns-in_err-first-clause-reads
 parse_and-returns-in_err-first-clause-reads _ c =
@@ -70,27 +71,27 @@ parse_and-returns-in_err-first-clause-reads _ c =
 pub parse_and-operands-init : goal.parse_and-operands-init
 parse_and-operands-init _ c =
     let h = c.in_ok-first.ensures.reads in
-    (c.in_ok-first.ensures.shorter, operands_first Label.relation relation_parts (λ _. codes "&&") (λ n. n) Label.and (is K.And) (at_depth c.args.depth relation_rule) refl c.in_ok-first.first _ _ _ h.0 h.1 h.2 c.new-extended.ensures.items)
+    (c.in_ok-first.ensures.shorter, operands_first Label.relation relation_parts (λ _. codes "&&") (λ n. n) Label.and (is K.And) (at_depth c.args.depth relation_rule) refl c.in_ok-first.first.value _ _ _ h.0 h.1 h.2 c.new-extended.ensures.items)
 
 pub parse_and-operands-preserved : goal.parse_and-operands-preserved
 parse_and-operands-preserved _ c =
     let i = c.operands.invariant in
     let d = c.in-Some.ensures.token in
-    let g = plain_operand Label.relation relation_parts c.parse_relation-in-Some.result _ c.parse_relation-in-Some.ensures.reads in
-    let y = operand_kept Label.relation relation_parts (λ _. codes "&&") (λ n. n) (λ n. Unit {0}) c.parse_relation-in-Some.result _ _ c.keep.new.rest c.in-Ok.field-0 _ g c.in-Ok.ensures in
-    let s = keep_shorter c.parse_relation-in-Some.result _ _ c.keep.new.rest c.in-Ok.field-0 _ c.parse_relation-in-Some.ensures.shorter c.in-Ok.ensures in
+    let g = plain_operand Label.relation relation_parts (unboxed c.parse_relation-in-Some.result) _ c.parse_relation-in-Some.ensures.reads in
+    let y = operand_kept Label.relation relation_parts (λ _. codes "&&") (λ n. n) (λ n. Unit {0}) (unboxed c.parse_relation-in-Some.result) _ _ c.keep_boxed.new.rest c.in-Ok.field-0 _ g c.in-Ok.ensures in
+    let s = keep_shorter (unboxed c.parse_relation-in-Some.result) _ _ c.keep_boxed.new.rest c.in-Ok.field-0 _ (mapped_shorter (λ b. box_value b) c.parse_relation-in-Some.result _ c.parse_relation-in-Some.ensures.shorter) c.in-Ok.ensures in
     let b = c.in-Some.ensures.shorter in
     (omega (arith, s, b, i.0), operands_next Label.relation relation_parts (λ _. codes "&&") (λ n. n) Label.and (is K.And) (at_depth c.args.depth relation_rule) refl (depth_takes c.args.depth relation_rule refl refl) _ _ _ _ _ _ _ d.0 K.And y.0 y.1 i.1 d.1 d.2 refl (record { comma = refl; number = refl; closing = refl; shows = λ u. refl }) y.2 y.3 y.5)
 
 pub parse_and-returns-in-Err-clause-reads : goal.parse_and-returns-in-Err-clause-reads
 parse_and-returns-in-Err-clause-reads _ c =
     let d = c.in-Some.ensures.token in
-    let g = plain_operand Label.relation relation_parts c.parse_relation-in-Some.result _ c.parse_relation-in-Some.ensures.reads in
-    (passes _ _ _ (operand_fails Label.relation relation_parts (λ _. codes "&&") (λ n. n) (λ n. Unit {0}) c.parse_relation-in-Some.result _ _ _ _ _ g c.in-Err.ensures)
+    let g = plain_operand Label.relation relation_parts (unboxed c.parse_relation-in-Some.result) _ c.parse_relation-in-Some.ensures.reads in
+    (passes _ _ _ (operand_fails Label.relation relation_parts (λ _. codes "&&") (λ n. n) (λ n. Unit {0}) (unboxed c.parse_relation-in-Some.result) _ _ _ _ _ g c.in-Err.ensures)
     (λ x r e. operands_stuck Label.relation relation_parts (λ _. codes "&&") (λ n. n) Label.and (is K.And) (at_depth c.args.depth relation_rule) _ _ _ _ _ d.0 K.And x r c.operands.invariant.1 d.1 d.2 refl e))
 
 pub parse_and-returns-clause-reads : goal.parse_and-returns-clause-reads
-parse_and-returns-clause-reads _ c = operands_done Label.relation relation_parts (λ _. codes "&&") (λ n. n) Label.and (is K.And) (at_depth c.args.depth relation_rule) and_parts _ _ c.and_node.result _ _ c.operands.invariant.1 c.in_default.ensures.token c.and_node.ensures
+parse_and-returns-clause-reads _ c = operands_done Label.relation relation_parts (λ _. codes "&&") (λ n. n) Label.and (is K.And) (at_depth c.args.depth relation_rule) and_parts _ _ c.in_ok-boxed_and.field-0.value _ _ c.operands.invariant.1 c.in_default.ensures.token c.in_ok-boxed_and.ensures
 
 pub parse_mult-returns-in_err-first-clause-reads : goal.parse_mult-returns-in_err-first-clause-reads
 parse_mult-returns-in_err-first-clause-reads _ c =
@@ -100,27 +101,27 @@ parse_mult-returns-in_err-first-clause-reads _ c =
 pub parse_mult-operands-init : goal.parse_mult-operands-init
 parse_mult-operands-init _ c =
     let h = c.in_ok-first.ensures.reads in
-    (c.in_ok-first.ensures.shorter, operands_first Label.unary unary_parts (λ _. codes "*") (λ x. x.1) Label.mult (is K.Mul) (at_depth c.args.depth unary_rule) refl c.in_ok-first.first _ _ _ h.0 h.1 h.2 c.new-extended.ensures.items)
+    (c.in_ok-first.ensures.shorter, operands_first Label.unary unary_parts (λ _. codes "*") (λ x. x.1) Label.mult (is K.Mul) (at_depth c.args.depth unary_rule) refl c.in_ok-first.first.value _ _ _ h.0 h.1 h.2 c.new-extended.ensures.items)
 
 pub parse_mult-operands-preserved : goal.parse_mult-operands-preserved
 parse_mult-operands-preserved _ c =
     let i = c.operands.invariant in
     let d = c.in-Some.ensures.token in
-    let g = signed_operand MultOp.Times Label.unary unary_parts c.parse_unary-in-Some.result c.beside-read.result _ c.parse_unary-in-Some.ensures.reads c.beside-read.ensures.passes c.beside-read.ensures.made in
-    let y = operand_kept Label.unary unary_parts (λ _. codes "*") (λ x. x.1) (λ y. y.0 ≡ MultOp.Times) c.beside-read.result _ _ c.keep.new.rest c.in-Ok.field-0 _ g c.in-Ok.ensures in
-    let s = signed_shorter c.parse_unary-in-Some.result c.beside-read.result _ _ c.keep.new.rest c.in-Ok.field-0 _ c.parse_unary-in-Some.ensures.shorter c.beside-read.ensures.passes c.in-Ok.ensures in
+    let g = signed_operand MultOp.Times Label.unary unary_parts (unboxed c.parse_unary-read.result) _ c.parse_unary-read.ensures.reads in
+    let y = operand_kept Label.unary unary_parts (λ _. codes "*") (λ x. x.1) (λ y. y.0 ≡ MultOp.Times) (signed MultOp.Times (unboxed c.parse_unary-read.result)) _ _ c.keep_signed.new.rest c.in-Ok.field-0 _ g c.in-Ok.ensures in
+    let s = signed_shorter MultOp.Times (unboxed c.parse_unary-read.result) _ _ c.keep_signed.new.rest c.in-Ok.field-0 _ (mapped_shorter (λ b. box_value b) c.parse_unary-read.result _ c.parse_unary-read.ensures.shorter) c.in-Ok.ensures in
     let b = c.in-Some.ensures.shorter in
     (omega (arith, s, b, i.0), operands_next Label.unary unary_parts (λ _. codes "*") (λ x. x.1) Label.mult (is K.Mul) (at_depth c.args.depth unary_rule) refl (depth_takes c.args.depth unary_rule refl refl) _ _ _ _ _ _ _ d.0 K.Mul y.0 y.1 i.1 d.1 d.2 refl (record { comma = refl; number = refl; closing = refl; shows = λ u. refl }) y.2 y.3 y.5)
 
 pub parse_mult-returns-in-Err-clause-reads : goal.parse_mult-returns-in-Err-clause-reads
 parse_mult-returns-in-Err-clause-reads _ c =
     let d = c.in-Some.ensures.token in
-    let g = signed_operand MultOp.Times Label.unary unary_parts c.parse_unary-in-Some.result c.beside-read.result _ c.parse_unary-in-Some.ensures.reads c.beside-read.ensures.passes c.beside-read.ensures.made in
-    (passes _ _ _ (operand_fails Label.unary unary_parts (λ _. codes "*") (λ x. x.1) (λ y. y.0 ≡ MultOp.Times) c.beside-read.result _ _ _ _ _ g c.in-Err.ensures)
+    let g = signed_operand MultOp.Times Label.unary unary_parts (unboxed c.parse_unary-read.result) _ c.parse_unary-read.ensures.reads in
+    (passes _ _ _ (operand_fails Label.unary unary_parts (λ _. codes "*") (λ x. x.1) (λ y. y.0 ≡ MultOp.Times) (signed MultOp.Times (unboxed c.parse_unary-read.result)) _ _ _ _ _ g c.in-Err.ensures)
     (λ x r e. operands_stuck Label.unary unary_parts (λ _. codes "*") (λ x. x.1) Label.mult (is K.Mul) (at_depth c.args.depth unary_rule) _ _ _ _ _ d.0 K.Mul x r c.operands.invariant.1 d.1 d.2 refl e))
 
 pub parse_mult-returns-clause-reads : goal.parse_mult-returns-clause-reads
-parse_mult-returns-clause-reads _ c = operands_done Label.unary unary_parts (λ _. codes "*") (λ x. x.1) Label.mult (is K.Mul) (at_depth c.args.depth unary_rule) mult_parts _ _ c.mult_node.result _ _ c.operands.invariant.1 c.in_default.ensures.token c.mult_node.ensures
+parse_mult-returns-clause-reads _ c = operands_done Label.unary unary_parts (λ _. codes "*") (λ x. x.1) Label.mult (is K.Mul) (at_depth c.args.depth unary_rule) mult_parts _ _ c.in_ok-boxed_mult.field-0.value _ _ c.operands.invariant.1 c.in_default.ensures.token c.in_ok-boxed_mult.ensures
 
 pub parse_add-returns-in_err-first-clause-reads : goal.parse_add-returns-in_err-first-clause-reads
 parse_add-returns-in_err-first-clause-reads _ c =
@@ -130,27 +131,27 @@ parse_add-returns-in_err-first-clause-reads _ c =
 pub parse_add-operands-init : goal.parse_add-operands-init
 parse_add-operands-init _ c =
     let h = c.in_ok-first.ensures.reads in
-    (c.in_ok-first.ensures.shorter, operands_first Label.mult mult_parts (λ x. addop_text x.0) (λ x. x.1) Label.add (λ x. is K.Add x || is K.Dash x) (at_depth c.args.depth mult_rule) refl c.in_ok-first.first _ _ _ h.0 h.1 h.2 c.new-extended.ensures.items)
+    (c.in_ok-first.ensures.shorter, operands_first Label.mult mult_parts (λ x. addop_text x.0) (λ x. x.1) Label.add (λ x. is K.Add x || is K.Dash x) (at_depth c.args.depth mult_rule) refl c.in_ok-first.first.value _ _ _ h.0 h.1 h.2 c.new-extended.ensures.items)
 
 pub parse_add-operands-preserved : goal.parse_add-operands-preserved
 parse_add-operands-preserved _ c =
     let i = c.operands.invariant in
     let d = c.in-Some.ensures.reads in
-    let g = signed_operand c.in-Some.op Label.mult mult_parts c.parse_mult-in-Some.result c.beside-read.result _ c.parse_mult-in-Some.ensures.reads c.beside-read.ensures.passes c.beside-read.ensures.made in
-    let y = operand_kept Label.mult mult_parts (λ x. addop_text x.0) (λ x. x.1) (λ y. y.0 ≡ c.in-Some.op) c.beside-read.result _ _ c.keep.new.rest c.in-Ok.field-0 _ g c.in-Ok.ensures in
-    let s = signed_shorter c.parse_mult-in-Some.result c.beside-read.result _ _ c.keep.new.rest c.in-Ok.field-0 _ c.parse_mult-in-Some.ensures.shorter c.beside-read.ensures.passes c.in-Ok.ensures in
+    let g = signed_operand c.in-Some.op Label.mult mult_parts (unboxed c.parse_mult-read.result) _ c.parse_mult-read.ensures.reads in
+    let y = operand_kept Label.mult mult_parts (λ x. addop_text x.0) (λ x. x.1) (λ y. y.0 ≡ c.in-Some.op) (signed c.in-Some.op (unboxed c.parse_mult-read.result)) _ _ c.keep_signed.new.rest c.in-Ok.field-0 _ g c.in-Ok.ensures in
+    let s = signed_shorter c.in-Some.op (unboxed c.parse_mult-read.result) _ _ c.keep_signed.new.rest c.in-Ok.field-0 _ (mapped_shorter (λ b. box_value b) c.parse_mult-read.result _ c.parse_mult-read.ensures.shorter) c.in-Ok.ensures in
     let b = c.in-Some.ensures.shorter in
     (omega (arith, s, b, i.0), operands_next Label.mult mult_parts (λ x. addop_text x.0) (λ x. x.1) Label.add (λ x. is K.Add x || is K.Dash x) (at_depth c.args.depth mult_rule) refl (depth_takes c.args.depth mult_rule refl refl) _ _ _ _ _ _ _ d.0 (addop_kind c.in-Some.op) y.0 y.1 i.1 d.1 d.2 (addop_begins c.in-Some.op) (rw y.4 (addop_between c.in-Some.op)) y.2 y.3 y.5)
 
 pub parse_add-returns-in-Err-clause-reads : goal.parse_add-returns-in-Err-clause-reads
 parse_add-returns-in-Err-clause-reads _ c =
     let d = c.in-Some.ensures.reads in
-    let g = signed_operand c.in-Some.op Label.mult mult_parts c.parse_mult-in-Some.result c.beside-read.result _ c.parse_mult-in-Some.ensures.reads c.beside-read.ensures.passes c.beside-read.ensures.made in
-    (passes _ _ _ (operand_fails Label.mult mult_parts (λ x. addop_text x.0) (λ x. x.1) (λ y. y.0 ≡ c.in-Some.op) c.beside-read.result _ _ _ _ _ g c.in-Err.ensures)
+    let g = signed_operand c.in-Some.op Label.mult mult_parts (unboxed c.parse_mult-read.result) _ c.parse_mult-read.ensures.reads in
+    (passes _ _ _ (operand_fails Label.mult mult_parts (λ x. addop_text x.0) (λ x. x.1) (λ y. y.0 ≡ c.in-Some.op) (signed c.in-Some.op (unboxed c.parse_mult-read.result)) _ _ _ _ _ g c.in-Err.ensures)
     (λ x r e. operands_stuck Label.mult mult_parts (λ x. addop_text x.0) (λ x. x.1) Label.add (λ x. is K.Add x || is K.Dash x) (at_depth c.args.depth mult_rule) _ _ _ _ _ d.0 (addop_kind c.in-Some.op) x r c.operands.invariant.1 d.1 d.2 (addop_begins c.in-Some.op) e))
 
 pub parse_add-returns-clause-reads : goal.parse_add-returns-clause-reads
-parse_add-returns-clause-reads _ c = operands_done Label.mult mult_parts (λ x. addop_text x.0) (λ x. x.1) Label.add (λ x. is K.Add x || is K.Dash x) (at_depth c.args.depth mult_rule) add_parts _ _ c.add_node.result _ _ c.operands.invariant.1 c.in_default.ensures.reads c.add_node.ensures
+parse_add-returns-clause-reads _ c = operands_done Label.mult mult_parts (λ x. addop_text x.0) (λ x. x.1) Label.add (λ x. is K.Add x || is K.Dash x) (at_depth c.args.depth mult_rule) add_parts _ _ c.in_ok-boxed_add.field-0.value _ _ c.operands.invariant.1 c.in_default.ensures.reads c.in_ok-boxed_add.ensures
 
 -- Expressions.
 pub parse_expr-returns-then-begins-clause-reads : goal.parse_expr-returns-then-begins-clause-reads
@@ -160,7 +161,7 @@ parse_expr-returns-then-begins-clause-reads _ c =
 
 pub parse_expr-returns-clause-reads : goal.parse_expr-returns-clause-reads
 parse_expr-returns-clause-reads _ c =
-    gives_as Label.expr expr_parts c.or_expr.result _ _ (or_gives (at_depth c.args.depth or_rule) c.parse_or.result c.or_expr.result _ c.parse_or.ensures.reads c.or_expr.ensures.passes c.or_expr.ensures.made)
+    gives_as Label.expr expr_parts c.boxed_expr.result _ _ (or_gives (at_depth c.args.depth or_rule) (unboxed c.parse_or.result) c.boxed_expr.result _ c.parse_or.ensures.reads (passes_left (λ b. box_value b) c.parse_or.result _ c.boxed_expr.ensures.passes) c.boxed_expr.ensures.made)
     (or_reads c.args.depth _ (sym c.begins.ensures ∙ c.if-begins.false))
 
 pub parse_branch-returns-in-Some-clause-reads : goal.parse_branch-returns-in-Some-clause-reads
@@ -205,36 +206,36 @@ parse_relation-returns-in_err-target-clause-reads _ c =
 pub parse_relation-returns-then-begins_comparison-clause-reads : goal.parse_relation-returns-then-begins_comparison-clause-reads
 parse_relation-returns-then-begins_comparison-clause-reads _ c =
     let h = c.in_ok-target.ensures.reads in
-    compared_gives (add_at c.args.depth) (compared_at c.args.depth) has_at like_at (type_at c.args.depth) _ _ c.in_ok-target.target h.0 h.1 h.2 c.parse_compared.result c.compared_node.result (sym c.begins_comparison.ensures ∙ c.if-begins_comparison.true)
-    c.parse_compared.ensures.reads c.compared_node.ensures.passes c.compared_node.ensures.made
+    compared_gives (add_at c.args.depth) (compared_at c.args.depth) has_at like_at (type_at c.args.depth) _ _ c.in_ok-target.target.value h.0 h.1 h.2 (unboxed_second c.parse_compared.result) (unboxed c.boxed_compared.result) (sym c.begins_comparison.ensures ∙ c.if-begins_comparison.true)
+    c.parse_compared.ensures.reads (passes_both (λ p. (p.0, box_value p.1)) (λ b. box_value b) c.parse_compared.result c.boxed_compared.result c.boxed_compared.ensures.passes) c.boxed_compared.ensures.made
 
 pub parse_relation-returns-then-begins-clause-reads : goal.parse_relation-returns-then-begins-clause-reads
 parse_relation-returns-then-begins-clause-reads _ c =
     let h = c.in_ok-target.ensures.reads in
-    word_gives (add_at c.args.depth) (compared_at c.args.depth) has_at like_at (type_at c.args.depth) _ _ c.in_ok-target.target h.0 h.1 h.2 K.Has (codes "has") has_at c.parse_has_field.result c.has_node.result has_between
+    word_gives (add_at c.args.depth) (compared_at c.args.depth) has_at like_at (type_at c.args.depth) _ _ c.in_ok-target.target.value h.0 h.1 h.2 K.Has (codes "has") has_at c.boxed_has.ensures.reads.0 (unboxed c.boxed_has.result) has_between
     (has_reads (add_at c.args.depth) (compared_at c.args.depth) has_at like_at (type_at c.args.depth) _ (sym c.begins_comparison.ensures ∙ c.if-begins_comparison.false) (sym c.begins.ensures ∙ c.if-begins.true))
-    c.parse_has_field.ensures.reads c.has_node.ensures.passes c.has_node.ensures.made
+    c.boxed_has.ensures.reads.1 c.boxed_has.ensures.reads.2 c.boxed_has.ensures.reads.3
 
 pub parse_relation-returns-then-begins-2-clause-reads : goal.parse_relation-returns-then-begins-2-clause-reads
 parse_relation-returns-then-begins-2-clause-reads _ c =
     let h = c.in_ok-target.ensures.reads in
-    word_gives (add_at c.args.depth) (compared_at c.args.depth) has_at like_at (type_at c.args.depth) _ _ c.in_ok-target.target h.0 h.1 h.2 K.Like (codes "like") like_at c.parse_pattern.result c.like_node.result like_between
+    word_gives (add_at c.args.depth) (compared_at c.args.depth) has_at like_at (type_at c.args.depth) _ _ c.in_ok-target.target.value h.0 h.1 h.2 K.Like (codes "like") like_at c.boxed_like.ensures.reads.0 (unboxed c.boxed_like.result) like_between
     (like_reads (add_at c.args.depth) (compared_at c.args.depth) has_at like_at (type_at c.args.depth) _ (sym c.begins_comparison.ensures ∙ c.if-begins_comparison.false) (sym c.begins.ensures ∙ c.if-begins.false) (sym c.begins-2.ensures ∙ c.if-begins-2.true))
-    c.parse_pattern.ensures.reads c.like_node.ensures.passes c.like_node.ensures.made
+    c.boxed_like.ensures.reads.1 c.boxed_like.ensures.reads.2 c.boxed_like.ensures.reads.3
 
 pub parse_relation-returns-then-begins-3-clause-reads : goal.parse_relation-returns-then-begins-3-clause-reads
 parse_relation-returns-then-begins-3-clause-reads _ c =
     let h = c.in_ok-target.ensures.reads in
-    type_gives (add_at c.args.depth) (compared_at c.args.depth) has_at like_at (type_at c.args.depth) _ _ c.in_ok-target.target h.0 h.1 h.2 c.parse_type_test.result c.is_node.result
+    type_gives (add_at c.args.depth) (compared_at c.args.depth) has_at like_at (type_at c.args.depth) _ _ c.in_ok-target.target.value h.0 h.1 h.2 (unboxed_operand c.parse_type_test.result) (unboxed c.boxed_is.result)
     (is_reads (add_at c.args.depth) (compared_at c.args.depth) has_at like_at (type_at c.args.depth) _ (sym c.begins_comparison.ensures ∙ c.if-begins_comparison.false) (sym c.begins.ensures ∙ c.if-begins.false) (sym c.begins-2.ensures ∙ c.if-begins-2.false) (sym c.begins-3.ensures ∙ c.if-begins-3.true))
-    c.parse_type_test.ensures.reads c.is_node.ensures.passes c.is_node.ensures.made
+    c.parse_type_test.ensures.reads (passes_both (λ p. (p.0, unboxed_option p.1)) (λ b. box_value b) c.parse_type_test.result c.boxed_is.result c.boxed_is.ensures.passes) c.boxed_is.ensures.made
 
 pub parse_relation-returns-clause-reads : goal.parse_relation-returns-clause-reads
 parse_relation-returns-clause-reads _ c =
     let h = c.in_ok-target.ensures.reads in
-    lone_gives (add_at c.args.depth) (compared_at c.args.depth) has_at like_at (type_at c.args.depth) _ _ c.in_ok-target.target h.0 h.1 h.2 c.lone_relation.result c.in_ok-target.rest refl
+    lone_gives (add_at c.args.depth) (compared_at c.args.depth) has_at like_at (type_at c.args.depth) _ _ c.in_ok-target.target.value h.0 h.1 h.2 c.in_ok-boxed_lone.field-0.value c.in_ok-target.rest refl
     (none_reads (add_at c.args.depth) (compared_at c.args.depth) has_at like_at (type_at c.args.depth) _ (sym c.begins_comparison.ensures ∙ c.if-begins_comparison.false) (sym c.begins.ensures ∙ c.if-begins.false) (sym c.begins-2.ensures ∙ c.if-begins-2.false) (sym c.begins-3.ensures ∙ c.if-begins-3.false))
-    c.lone_relation.ensures
+    c.in_ok-boxed_lone.ensures
 
 pub parse_compared-returns-in_err-op-clause-reads : goal.parse_compared-returns-in_err-op-clause-reads
 parse_compared-returns-in_err-op-clause-reads _ c =
@@ -244,7 +245,7 @@ parse_compared-returns-in_err-op-clause-reads _ c =
 pub parse_compared-returns-clause-reads : goal.parse_compared-returns-clause-reads
 parse_compared-returns-clause-reads _ c =
     let h = c.in_ok-op.ensures.reads in
-    signed_gives relop_kind (token kind is_comparison) (add_at c.args.depth) Label.add add_parts c.in_ok-op.op h.0 _ _ c.parse_add.result c.beside.result h.1 h.2 c.parse_add.ensures.reads c.beside.ensures.passes c.beside.ensures.made
+    signed_gives relop_kind (token kind is_comparison) (add_at c.args.depth) Label.add add_parts c.in_ok-op.op h.0 _ _ (unboxed c.parse_add.result) (unboxed_second c.beside.result) h.1 h.2 c.parse_add.ensures.reads (passes_both (λ b. box_value b) (λ p. (p.0, box_value p.1)) c.parse_add.result c.beside.result c.beside.ensures.passes) (beside_unboxed c.in_ok-op.op c.parse_add.result c.beside.result c.beside.ensures.made)
 
 pub parse_type_test-returns-in_err-rest-clause-reads : goal.parse_type_test-returns-in_err-rest-clause-reads
 parse_type_test-returns-in_err-rest-clause-reads _ c =
@@ -261,7 +262,7 @@ parse_type_test-returns-in-Some-clause-reads _ c =
     let o = c.in_ok-rest.ensures.reads in
     let h = c.in_ok-entity_type.ensures.reads in
     let d = c.in-Some.ensures.token in
-    type_in (flat path) (add_at c.args.depth) _ _ _ o.0 o.1 c.in_ok-entity_type.entity_type h.0 _ h.1 h.2 d.0 _ c.parse_add.result c.with_type.result d.1 d.2 c.parse_add.ensures.reads c.with_type.ensures.passes c.with_type.ensures.made
+    type_in (flat path) (add_at c.args.depth) _ _ _ o.0 o.1 c.in_ok-entity_type.entity_type h.0 _ h.1 h.2 d.0 _ (unboxed c.parse_add.result) (unboxed_operand c.boxed_type.result) d.1 d.2 c.parse_add.ensures.reads (passes_both (λ b. box_value b) (λ p. (p.0, unboxed_option p.1)) c.parse_add.result c.boxed_type.result c.boxed_type.ensures.passes) c.boxed_type.ensures.made
 
 pub parse_type_test-returns-in-None-clause-reads : goal.parse_type_test-returns-in-None-clause-reads
 parse_type_test-returns-in-None-clause-reads _ c =
@@ -278,7 +279,7 @@ parse_member-returns-in_err-item-clause-reads _ c =
 pub parse_member-accesses-init : goal.parse_member-accesses-init
 parse_member-accesses-init _ c =
     let h = c.in_ok-item.ensures.reads in
-    (c.in_ok-item.ensures.shorter, accesses_first (at_depth c.args.depth item) begins_turn (at_depth c.args.depth access_rule) c.in_ok-item.item _ _ _ h.0 h.1 h.2)
+    (c.in_ok-item.ensures.shorter, accesses_first (at_depth c.args.depth item) begins_turn (at_depth c.args.depth access_rule) c.in_ok-item.item.value _ _ _ h.0 h.1 h.2)
 
 -- Calls and brackets.
 pub parse_call-returns-in_err-open-clause-reads : goal.parse_call-returns-in_err-open-clause-reads
@@ -298,18 +299,18 @@ parse_call-returns-clause-reads _ c =
 -- Items.
 pub parse_item-returns-then-begins_identifier-clause-reads : goal.parse_item-returns-then-begins_identifier-clause-reads
 parse_item-returns-then-begins_identifier-clause-reads _ c =
-    item_as c.parse_reference.result _ _ c.parse_reference.ensures.reads (item_word c.args.depth c.args.tokens.now (sym c.begins_identifier.ensures ∙ c.if-begins_identifier.true))
+    item_as (unboxed_first c.boxed_item.result) _ _ (item_boxed c.parse_reference.result c.boxed_item.result _ c.parse_reference.ensures.reads c.boxed_item.ensures.passes c.boxed_item.ensures.made) (item_word c.args.depth c.args.tokens.now (sym c.begins_identifier.ensures ∙ c.if-begins_identifier.true))
 
 pub parse_item-returns-then-not-begins_bracket-clause-reads : goal.parse_item-returns-then-not-begins_bracket-clause-reads
 parse_item-returns-then-not-begins_bracket-clause-reads _ c =
     let h = brackets_none c.args.tokens.now (sym c.begins_bracket.ensures ∙ c.if-not-begins_bracket.true) in
-    item_as c.lone_primary.result _ _ (lone_item (flat literal_rule) c.parse_literal.result c.lone_primary.result c.args.tokens.now c.parse_literal.ensures.reads c.lone_primary.ensures.passes c.lone_primary.ensures.made)
+    item_as (unboxed_first c.literal_item.result) _ _ c.literal_item.ensures.reads
     (item_literal c.args.depth c.args.tokens.now (sym c.begins_identifier.ensures ∙ c.if-begins_identifier.false) h.0 h.1 h.2)
 
 pub parse_item-returns-clause-reads : goal.parse_item-returns-clause-reads
 parse_item-returns-clause-reads _ c =
     let e = depth_back c.args.depth (omega (arith, c.if-depth-eq0.false)) in
-    item_as c.lone_primary-2.result _ _ (lone_item (at_depth (suc (c.args.depth - 1)) bracket_rule) c.parse_bracket.result c.lone_primary-2.result c.args.tokens.now c.parse_bracket.ensures.reads c.lone_primary-2.ensures.passes c.lone_primary-2.ensures.made)
+    item_as (unboxed_first c.boxed_uncalled.result) _ _ (lone_item (at_depth (suc (c.args.depth - 1)) bracket_rule) (unboxed c.parse_bracket.result) (unboxed_first c.boxed_uncalled.result) c.args.tokens.now c.parse_bracket.ensures.reads (passes_both (λ b. box_value b) (λ p. (box_value p.0, p.1)) c.parse_bracket.result c.boxed_uncalled.result c.boxed_uncalled.ensures.passes) c.boxed_uncalled.ensures.made)
     (subst (λ d. at_depth d item c.args.tokens.now ≡ at_depth (suc (c.args.depth - 1)) bracket_rule c.args.tokens.now) e (bracket_reads (c.args.depth - 1) c.args.tokens.now (sym c.begins_bracket.ensures ∙ c.if-not-begins_bracket.false)))
 
 -- Brackets.
@@ -317,18 +318,20 @@ pub parse_bracket-returns-in-Some-clause-reads : goal.parse_bracket-returns-in-S
 parse_bracket-returns-in-Some-clause-reads _ c =
     let d = c.in-Some.ensures.token in
     let t = is_itself K.LParen d.0.kind (sym d.2) in
-    gives_as Label.primary primary_parts c.parens_node.result _ _ (parens_gives (expr_to kind c.args.depth) c.parse_expr-read.result c.followed_by.result c.parens_node.result _ _ d.0 (token_at (is K.LParen) _ d.0 _ d.1 t) d.2
-    (gives_as Label.expr expr_parts c.parse_expr-read.result _ _ c.parse_expr-read.ensures.reads (expr_at c.args.depth _)) c.followed_by.ensures.reads c.parens_node.ensures.passes (subst (λ z. Makes (IsParensOf z) c.followed_by.result c.parens_node.result) (c.start_of-start.ensures ∙ ap first_place d.1) c.parens_node.ensures.made))
+    let m = c.boxed_parens.ensures.made in
+    gives_as Label.primary primary_parts (unboxed c.boxed_parens.result) _ _ (parens_gives (expr_to kind c.args.depth) c.parse_expr.result m.0 (unboxed c.boxed_parens.result) _ _ d.0 (token_at (is K.LParen) _ d.0 _ d.1 t) d.2
+    (gives_as Label.expr expr_parts c.parse_expr.result _ _ c.parse_expr.ensures.reads (expr_at c.args.depth _)) m.1 m.2 (subst (λ z. Makes (IsParensOf z) m.0 (unboxed c.boxed_parens.result)) (c.start_of-start.ensures ∙ ap first_place d.1) m.3))
     (round_reads c.args.depth _ (first_begins (is K.LParen) _ d.0 _ d.1 ∙ t))
 
 pub parse_bracket-returns-in-Some-past-clause-reads : goal.parse_bracket-returns-in-Some-past-clause-reads
 parse_bracket-returns-in-Some-past-clause-reads _ c =
     let d = c.in-Some-past.ensures.token in
     let t = is_itself K.LBracket d.0.kind (sym d.2) in
+    let m = c.boxed_list.ensures.made in
     let P = at_depth (suc c.args.depth) (maybe (items inner)) in
     let Q = enclosed_reader Label.expr expr_parts (codes "[") (codes "]") K.LBracket K.RBracket square P in
-    let g = enclosed_gives Label.expr expr_parts (codes "[") (codes "]") K.LBracket K.RBracket square P c.parse_exprs-read.result c.followed_by-in-Some-past.result _ _ d.0 (token_at (is K.LBracket) _ d.0 _ d.1 t) d.2 c.parse_exprs-read.ensures.reads c.followed_by-in-Some-past.ensures.reads in
-    gives_as Label.primary primary_parts c.list_node.result _ _ (primary_gives Label.expr expr_parts (codes "[") (codes "]") Label.list refl Q _ c.followed_by-in-Some-past.result c.list_node.result _ g c.list_node.ensures.passes (subst (λ z. Makes (IsListOf z) c.followed_by-in-Some-past.result c.list_node.result) (c.start_of-start.ensures ∙ ap first_place d.1) c.list_node.ensures.made))
+    let g = enclosed_gives Label.expr expr_parts (codes "[") (codes "]") K.LBracket K.RBracket square P c.parse_exprs.result m.0 _ _ d.0 (token_at (is K.LBracket) _ d.0 _ d.1 t) d.2 c.parse_exprs.ensures.reads m.1 in
+    gives_as Label.primary primary_parts (unboxed c.boxed_list.result) _ _ (primary_gives Label.expr expr_parts (codes "[") (codes "]") Label.list refl Q _ m.0 (unboxed c.boxed_list.result) _ g m.2 (subst (λ z. Makes (IsListOf z) m.0 (unboxed c.boxed_list.result)) (c.start_of-start.ensures ∙ ap first_place d.1) m.3))
     (square_reads c.args.depth _ c.in_default.ensures.token (first_begins (is K.LBracket) _ d.0 _ d.1 ∙ t))
 
 pub parse_bracket-returns-in_err-rest-clause-reads : goal.parse_bracket-returns-in_err-rest-clause-reads
@@ -339,23 +342,24 @@ parse_bracket-returns-in_err-rest-clause-reads _ c =
 pub parse_bracket-returns-clause-reads : goal.parse_bracket-returns-clause-reads
 parse_bracket-returns-clause-reads _ c =
     let h = c.in_ok-rest.ensures.reads in
+    let m = c.boxed_record.ensures.made in
     let P = at_depth (suc c.args.depth) (maybe (items init)) in
     let Q = enclosed_reader Label.rec_init init_parts (codes "{") (codes "}") K.LBrace K.RBrace curly P in
-    let g = enclosed_gives Label.rec_init init_parts (codes "{") (codes "}") K.LBrace K.RBrace curly P c.parse_inits-read.result c.followed_by-2.result _ _ c.in_ok-rest.field-0-0 h.0 h.1 c.parse_inits-read.ensures.reads c.followed_by-2.ensures.reads in
-    gives_as Label.primary primary_parts c.record_node.result _ _ (primary_gives Label.rec_init init_parts (codes "{") (codes "}") Label.fields refl Q _ c.followed_by-2.result c.record_node.result _ g c.record_node.ensures.passes (subst (λ z. Makes (IsRecordOf z) c.followed_by-2.result c.record_node.result) (c.start_of-start.ensures ∙ one_first K.LBrace _ _ _ h.0) c.record_node.ensures.made))
+    let g = enclosed_gives Label.rec_init init_parts (codes "{") (codes "}") K.LBrace K.RBrace curly P c.parse_inits.result m.0 _ _ c.in_ok-rest.field-0-0 h.0 h.1 c.parse_inits.ensures.reads m.1 in
+    gives_as Label.primary primary_parts (unboxed c.boxed_record.result) _ _ (primary_gives Label.rec_init init_parts (codes "{") (codes "}") Label.fields refl Q _ m.0 (unboxed c.boxed_record.result) _ g m.2 (subst (λ z. Makes (IsRecordOf z) m.0 (unboxed c.boxed_record.result)) (c.start_of-start.ensures ∙ one_first K.LBrace _ _ _ h.0) m.3))
     (curly_reads c.args.depth _ c.in_default.ensures.token c.in_default-past.ensures.token)
 
 -- Entries of records.
 pub parse_init-returns-in_err-key-clause-reads : goal.parse_init-returns-in_err-key-clause-reads
 parse_init-returns-in_err-key-clause-reads _ c =
     let p = err_from_is_err_and c.from_residual.result c.from_residual.ensures.1 in
-    rw (p.1, p.2) (passes _ _ _ (followed_fails Label.primary primary_parts K.Colon (flat key_rule) _ c.parse_key.result _ c.parse_key.ensures.reads c.in_err-key.ensures.reads) (λ x r e. init_fails (expr_to kind c.args.depth) (flat key_rule) _ x r e))
+    rw (p.1, p.2) (passes _ _ _ c.in_err-key.ensures.reads (λ x r e. init_fails (expr_to kind c.args.depth) (flat key_rule) _ x r e))
 
 pub parse_init-returns-clause-reads : goal.parse_init-returns-clause-reads
 parse_init-returns-clause-reads _ c =
-    let v = c.in_ok-key in
-    let q = followed_done Label.primary primary_parts K.Colon (flat key_rule) _ c.parse_key.result ((v.key, _), v.rest) c.parse_key.ensures.reads v.ensures.reads in
-    init_gives (expr_to kind c.args.depth) (flat key_rule) v.key q.0 q.1 _ _ c.parse_expr.result c.init_node.result q.2 q.3 q.4 (gives_as Label.expr expr_parts c.parse_expr.result _ _ c.parse_expr.ensures.reads (expr_at c.args.depth _)) c.init_node.ensures.passes c.init_node.ensures.made
+    let h = c.in_ok-key.ensures.reads in
+    init_gives (expr_to kind c.args.depth) (flat key_rule) c.in_ok-key.key.value h.0 h.1 _ _ c.parse_expr.result (unboxed c.boxed_init.result) h.2 h.3 h.4 (gives_as Label.expr expr_parts c.parse_expr.result _ _ c.parse_expr.ensures.reads (expr_at c.args.depth _)) (passes_right (λ b. box_value b) c.parse_expr.result c.boxed_init.result c.boxed_init.ensures.passes)
+    c.boxed_init.ensures.made
 
 pub parse_exprs-items-init : goal.parse_exprs-items-init
 parse_exprs-items-init _ c = (omega arith, items_first Label.expr expr_parts expr_first (expr_to kind c.args.depth) _ _ c.new-items.ensures.items)
@@ -401,24 +405,24 @@ pub parse_inits-inits-preserved : goal.parse_inits-inits-preserved
 parse_inits-inits-preserved _ c =
     let i = c.inits.invariant in
     let g = c.parse_init.ensures.reads in
-    let k = keep_done Label.rec_init init_parts c.parse_init.result _ _ c.keep.new.rest c.in_ok-keep.field-0 _ g c.in_ok-keep.ensures in
-    let s = keep_shorter c.parse_init.result _ _ c.keep.new.rest c.in_ok-keep.field-0 _ c.parse_init.ensures.shorter c.in_ok-keep.ensures in
+    let k = keep_done Label.rec_init init_parts (unboxed c.parse_init.result) _ _ c.keep_boxed.new.rest c.in_ok-keep_boxed.field-0 _ g c.in_ok-keep_boxed.ensures in
+    let s = keep_shorter (unboxed c.parse_init.result) _ _ c.keep_boxed.new.rest c.in_ok-keep_boxed.field-0 _ (mapped_shorter (λ b. box_value b) c.parse_init.result _ c.parse_init.ensures.shorter) c.in_ok-keep_boxed.ensures in
     let t = c.skip.ensures.shorter in
     let d = c.skip.ensures.token.2 c.if-not-skip.false in
     (omega (arith, s, t, i.0), items_next Label.rec_init init_parts (λ x. is_ident x || is K.Str x) (at_depth (suc c.args.depth) init) refl (depth_takes (suc c.args.depth) init refl refl) _ _ _ _ _ _ k.0 k.1 d.0 i.1 (sym c.begins_key.ensures ∙ c.inits-test.true) k.2 k.3 d.1 d.2 k.4)
 
-pub parse_inits-returns-in_err-keep-clause-reads : goal.parse_inits-returns-in_err-keep-clause-reads
-parse_inits-returns-in_err-keep-clause-reads _ c =
+pub parse_inits-returns-in_err-keep_boxed-clause-reads : goal.parse_inits-returns-in_err-keep_boxed-clause-reads
+parse_inits-returns-in_err-keep_boxed-clause-reads _ c =
     let p = err_from_is_err_and c.from_residual.result c.from_residual.ensures.1 in
     let g = c.parse_init.ensures.reads in
-    rw (p.1, p.2) (passes _ _ _ (keep_fails Label.rec_init init_parts c.parse_init.result _ _ _ _ _ g c.in_err-keep.ensures)
+    rw (p.1, p.2) (passes _ _ _ (keep_fails Label.rec_init init_parts (unboxed c.parse_init.result) _ _ _ _ _ g c.in_err-keep_boxed.ensures)
     (λ x r e. items_stuck Label.rec_init init_parts (λ x. is_ident x || is K.Str x) (at_depth (suc c.args.depth) init) _ _ _ x r c.inits.invariant.1 (sym c.begins_key.ensures ∙ c.inits-test.true) e))
 
 pub parse_inits-returns-then-not-skip-clause-reads : goal.parse_inits-returns-then-not-skip-clause-reads
 parse_inits-returns-then-not-skip-clause-reads _ c =
     let i = c.inits.invariant.1 in
     let g = c.parse_init.ensures.reads in
-    let k = keep_done Label.rec_init init_parts c.parse_init.result _ _ c.keep.new.rest c.in_ok-keep.field-0 _ g c.in_ok-keep.ensures in
+    let k = keep_done Label.rec_init init_parts (unboxed c.parse_init.result) _ _ c.keep_boxed.new.rest c.in_ok-keep_boxed.field-0 _ g c.in_ok-keep_boxed.ensures in
     let n = c.if-not-skip.true in
     let row = join i.row (branch Label.rec_init k.1 none) in (
       row,
@@ -434,7 +438,7 @@ parse_inits-returns-clause-reads _ c =
 -- Members behind signs.
 pub parse_unary-returns-clause-reads : goal.parse_unary-returns-clause-reads
 parse_unary-returns-clause-reads _ c =
-    unary_gives (at_depth c.args.depth member_rule) _ c.read_signs-op.result.0 c.read_signs-op.result.1 _ c.parse_member-read.result c.unary_node.result c.read_signs-op.ensures.reads c.parse_member-read.ensures.reads c.signed_start.ensures c.unary_node.ensures.passes c.unary_node.ensures.made
+    unary_gives (at_depth c.args.depth member_rule) _ c.read_signs-op.result.0 c.read_signs-op.result.1 (unboxed c.parse_member.result) (unboxed c.boxed_unary.result) c.read_signs-op.ensures.reads c.parse_member.ensures.reads (passes_both (λ b. box_value b) (λ b. box_value b) c.parse_member.result c.boxed_unary.result c.boxed_unary.ensures.passes) c.boxed_unary.ensures.made
 
 -- References.
 pub parse_reference-returns-in_err-name-clause-reads : goal.parse_reference-returns-in_err-name-clause-reads
@@ -449,8 +453,8 @@ parse_member-accesses-preserved _ c =
     let s = keep_shorter c.parse_access.result _ _ c.keep.new.rest c.in_ok-keep.field-0 _ c.parse_access.ensures.shorter c.in_ok-keep.ensures in
     (omega (arith, s, i.0), member_plain c.args.depth _ _ _ _ _ _ _ k.0 k.1 i.1 (sym c.begins_access.ensures ∙ c.accesses-test.true) c.begins-callable.ensures k.2 k.3 k.4 (sym c.begins_call.ensures ∙ c.if-begins_call.false))
 
-pub parse_member-accesses-preserved-in-Continue-branch-3 : goal.parse_member-accesses-preserved-in-Continue-branch-3
-parse_member-accesses-preserved-in-Continue-branch-3 _ c =
+pub parse_member-accesses-preserved-in_ok-keep-2 : goal.parse_member-accesses-preserved-in_ok-keep-2
+parse_member-accesses-preserved-in_ok-keep-2 _ c =
     let i = c.accesses.invariant in
     let k = keep_done Label.access access_parts c.parse_access.result _ _ c.keep.new.rest c.in_ok-keep.field-0 _ c.parse_access.ensures.reads c.in_ok-keep.ensures in
     let s = keep_shorter c.parse_access.result _ _ c.keep.new.rest c.in_ok-keep.field-0 _ c.parse_access.ensures.shorter c.in_ok-keep.ensures in
@@ -474,7 +478,7 @@ parse_member-returns-in_err-keep-2-clause-reads _ c =
 pub parse_member-returns-clause-reads : goal.parse_member-returns-clause-reads
 parse_member-returns-clause-reads _ c =
     let i = c.accesses.invariant.1 in
-    let h = c.member_node.ensures in
+    let h = c.in_ok-boxed_member.ensures in
     (i.row, accesses_end (at_depth c.args.depth item) begins_turn (at_depth c.args.depth access_rule) _ _ _ _ i (sym c.begins_access.ensures ∙ c.accesses-test.false), row_span _ _ _ _ (sym h.1) (row_parts _ _ _ _ h.0 i.stands))
 
 pub parse_reference-returns-in-Some-clause-reads : goal.parse_reference-returns-in-Some-clause-reads
