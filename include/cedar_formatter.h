@@ -14,7 +14,7 @@
  *   may run at the same time; nothing is kept from one call to the next.
  * - No call is made from a signal handler, or in the forked child of a process with threads.
  * - malloc, realloc and free are of one allocator, and align a block of N bytes to each power of two up to 16 that divides N.
- * - The stack has 2.5 MiB left, for a text of 128 nested brackets. (A thread's stack may be smaller than the process's.)
+ * - The stack has 1 MiB left, for a text of 128 nested brackets. (A thread's stack may be smaller than the process's.)
  */
 #ifndef CEDAR_FORMATTER_H
 #define CEDAR_FORMATTER_H
