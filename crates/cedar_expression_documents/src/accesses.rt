@@ -24,7 +24,6 @@ use std::alloc::{AllocError, Global};
 
 // A place to break before this access, if there is one between the access before and it.
 #[inline(never)]
-#[inline(never)]
 pub(crate) fn push_break<'src>(
     docs: &mut Vec<Document<'src>>,
     before: Option<&MemAccess<'src>>,
@@ -51,7 +50,6 @@ fn breaks_between(before: Option<&MemAccess<'_>>, access: &MemAccess<'_>) -> boo
 
 // C(".") . C(id)
 #[inline(never)]
-#[inline(never)]
 pub(crate) fn field_doc<'src>(
     alloc: Global,
     field: &Node<Ident<'src>>,
@@ -69,7 +67,6 @@ pub(crate) fn field_doc<'src>(
 }
 
 // C("[") . C(str) . C("]")
-#[inline(never)]
 #[inline(never)]
 pub(crate) fn index_doc<'src>(
     alloc: Global,

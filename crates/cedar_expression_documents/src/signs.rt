@@ -23,7 +23,6 @@ use std::alloc::{AllocError, Global};
 
 // The signs before their member, if there are any; `span` is that of the signs and the member.
 #[inline(never)]
-#[inline(never)]
 pub(crate) fn signs_doc<'src>(
     alloc: Global,
     op: Option<NegOp>,

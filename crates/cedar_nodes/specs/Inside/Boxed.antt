@@ -19,12 +19,12 @@ use Rattle.cedar_tree.specs.declared.tree.Relation as Relation
 use Rattle.cedar_tree.specs.Erased.{add_parts, primary_parts}
 use Rattle.cedar_nodes.specs.Inside.ReadingExprs.{IsWordOf}
 
--- what was read, put so
+-- what was read, changed by f; a refusal stays
 abbrev pub mapped : {X Y : Type 0} → (X → Y) → Result (X × Bor (List Lexeme)) Refusal → Result (Y × Bor (List Lexeme)) Refusal
 mapped f (Ok x) = Ok (f x.0, x.1)
 mapped f (Err e) = Err e
 
--- out of its box
+-- what was read, out of its box
 abbrev pub unboxed : {X : Type 0} → Result (Box X Global × Bor (List Lexeme)) Refusal → Result (X × Bor (List Lexeme)) Refusal
 unboxed = mapped (λ b. box_value b)
 
@@ -36,6 +36,7 @@ unboxed_first = mapped (λ p. (box_value p.0, p.1))
 abbrev pub unboxed_second : {S X : Type 0} → Result ((S × Box X Global) × Bor (List Lexeme)) Refusal → Result ((S × X) × Bor (List Lexeme)) Refusal
 unboxed_second = mapped (λ p. (p.0, box_value p.1))
 
+-- what there is, if anything, out of its box
 abbrev pub unboxed_option : {X : Type 0} → Option (Box X Global) → Option X
 unboxed_option None = None
 unboxed_option (Some b) = Some (box_value b)
@@ -44,7 +45,7 @@ unboxed_option (Some b) = Some (box_value b)
 abbrev pub unboxed_operand : Result ((Node Name × Option (Box (Node Add.Add) Global)) × Bor (List Lexeme)) Refusal → Result ((Node Name × Option (Node Add.Add)) × Bor (List Lexeme)) Refusal
 unboxed_operand = mapped (λ p. (p.0, unboxed_option p.1))
 
--- behind its sign
+-- what was read, behind this sign
 abbrev pub signed : {S X : Type 0} → S → Result (X × Bor (List Lexeme)) Refusal → Result ((S × X) × Bor (List Lexeme)) Refusal
 signed s = mapped (λ x. (s, x))
 
