@@ -102,6 +102,18 @@ pub fn is_in_row<'src>(
     Document::Seq(row).group(alloc)
 }
 
+/// `C("(") . C(")")`, or with other brackets
+#[inline(never)]
+pub fn pair_row<'src>(
+    alloc: Global,
+    opening: Document<'src>,
+    closing: Document<'src>,
+) -> Result<Document<'src>, AllocError>
+    ensures { IfOk result (λ d. doc_of d ≡ doc_of opening.entry · doc_of closing.entry) }
+{
+    Ok(Document::Seq(vec![in alloc; opening, closing]?))
+}
+
 /// `C("(") . nest(i, line_ . items) . line_ . C(")")`
 #[inline(never)]
 pub fn call_row<'src>(
@@ -158,4 +170,18 @@ pub fn record_row<'src>(
     let row = Document::Seq(vec![in alloc; Document::Line, inits, Document::Line]?);
     let inside = row.group(alloc)?;
     add_brackets(alloc, inside, opening, closing, indent)
+}
+
+/// `key . C(":") . space . value`
+#[inline(never)]
+pub fn init_row<'src>(
+    alloc: Global,
+    key: Document<'src>,
+    colon: Document<'src>,
+    value: Document<'src>,
+) -> Result<Document<'src>, AllocError>
+    ensures { IfOk result (λ d. doc_of d ≡ doc_of key.entry · doc_of colon.entry · space · doc_of value.entry) }
+{
+    let row = vec![in alloc; key, colon, Document::Text(" "), value]?;
+    Ok(Document::Seq(row))
 }
