@@ -16,9 +16,8 @@ use Rattle.cedar_layout.specs.Layout.{Doc, nil, line, group, ◌·◌}
 use Rattle.cedar_layout.specs.Lookups.{Shown, emptied}
 use Rattle.cedar_layout.specs.Value.{doc_of, docs_of}
 use Rattle.cedar_layout.specs.declared.layout.Document.{Document}
-use Rattle.cedar_layout.specs.declared.layout.Document.TheVariants.{Line as Line', Nil as Nil'}
 use Rattle.cedar_layout.specs.declared.layout.Document.TheViews.{Seq}
-use Rattle.cedar_layout.proofs.Values.{doc_of_line, doc_of_seq, dot_assoc, dot-nil, docs_of-push}
+use Rattle.cedar_layout.proofs.Values.{doc_of_seq, dot_assoc, dot-nil, docs_of-push}
 use Rattle.cedar_tree.specs.Erased.{Erased}
 use Rattle.cedar_tree.specs.NodeLists.{operand_trees}
 use Rattle.cedar_tree.specs.NodeTrees.{is_node}
@@ -28,7 +27,7 @@ use Rattle.cedar_canonical.specs.Table as table
 use Rattle.cedar_leaf_documents.specs.NodeDocuments.{IsAt, IsNodeOf, as_leaf, document, end_of_tokens, kind_of_shown, nodes_of, text_of}
 use Rattle.cedar_leaf_documents.specs.Found.{has_its_tokens, has_own, places}
 use Rattle.cedar_leaf_documents.proofs.Found.{and_false, and_true, as_before}
-use Rattle.cedar_leaf_documents.proofs.Opened.{Always, Behind, GivesIf, ends_here, freely, in_turn, nothing_behind, opened_token, opened_tree}
+use Rattle.cedar_leaf_documents.proofs.Opened.{Always, Behind, GivesIf, ends_here, freely, in_turn, opened_token, opened_tree}
 
 -- signs, each with the operand behind it
 abbrev pub Rest : NodeKind → Type 0

@@ -1,9 +1,7 @@
 -- Relations: one operand, or two parts with a sign between them, the second part made behind the first.
-use Rattle.std.proofs.Common.{◌≡◌, codes, ℕ, ℤ, Bool, true, false, List, [], ◌∷◌, ◌++◌, map, Option, Some, None, Result, Ok, Err, refl, sym, ap, ◌∙◌, subst, rules}
+use Rattle.std.proofs.Common.{◌≡◌, codes, ℕ, ℤ, Bool, true, false, List, ◌∷◌, ◌++◌, map, Option, Some, None, Result, Ok, Err, refl, sym, ap, ◌∙◌, subst, rules}
 use Rattle.std.proofs.lemmas.List.{append_assoc, map-append}
 use Rattle.std.specs.Prelude.{IfOk, if◌then◌else◌, ◌&&◌}
-use Rattle.std.specs.declared.alloc.Global.{Global}
-use Rattle.std.specs.declared.vec.Vec.{Vec}
 use Rattle.cedar_tokens.specs.Listing.{token_value}
 use Rattle.cedar_tokens.specs.Tokens.{bare}
 use Rattle.cedar_tokens.specs.declared.token.Span.{Span}
@@ -15,7 +13,6 @@ use Rattle.cedar_layout.specs.Layout.{Doc, ◌·◌, group, line, nest}
 use Rattle.cedar_layout.specs.Lookups.{Shown, emptied}
 use Rattle.cedar_layout.specs.Value.{doc_of}
 use Rattle.cedar_layout.specs.declared.layout.Document.{Document}
-use Rattle.cedar_layout.specs.declared.layout.Document.TheViews.{Seq}
 use Rattle.cedar_tree.specs.Erased.{Erased, node, variant, add_parts, name_tree, path_parts, relation_parts, relop_text}
 use Rattle.cedar_tree.specs.NodeTrees.{is_node, span_of}
 use Rattle.cedar_tree.specs.declared.tree.Add as Add
@@ -29,8 +26,8 @@ use Rattle.cedar_canonical.specs.Table.{space}
 use Rattle.cedar_leaf_documents.specs.NodeDocuments.{IsAt, IsNodeOf, as_leaf, document, end_of_tokens, kind_of_shown, nodes_of, text_of}
 use Rattle.cedar_leaf_documents.specs.Found.{Finds, has_its_tokens, has_own, places}
 use Rattle.cedar_leaf_documents.specs.declared.made.NoDocument.{NoDocument}
-use Rattle.cedar_leaf_documents.proofs.Flat.{flat}
-use Rattle.cedar_leaf_documents.proofs.Found.{finds_before}
+use Rattle.cedar_expression_documents.specs.Inside.Operands.{first_of}
+use Rattle.cedar_leaf_documents.proofs.Found.{and_false, finds_before}
 use Rattle.cedar_leaf_documents.proofs.Opened.{Always, GivesIf, ends_here, opened_token, opened_tree, opened_variant, rewritten}
 
 -- the nodes' parts
@@ -52,6 +49,21 @@ view_is a n = search (rules, Or.the_lemmas)
 pub view_is_in : (a : Node Add.Add) (n : Node Name) (b : Node Add.Add)
     → relation_parts (Relation.IsIn a n (Some b)) ≡ node Label.add a.span (add_parts a.inner) (variant Label.is_type (leaf (codes "is") (name_tree n (leaf (codes "in") (node Label.add b.span (add_parts b.inner) none)))) none)
 view_is_in a n b = search (rules, Or.the_lemmas)
+
+-- and their first operands
+pub first_common : (a : Node Add.Add) (more : Option (RelOp × Node Add.Add)) → first_of (Relation.Common a more) ≡ a
+first_common a None = search (rules, Or.the_lemmas)
+first_common a (Some (op, b)) = search (rules, Or.the_lemmas)
+
+pub first_has : (a b : Node Add.Add) → first_of (Relation.Has a b) ≡ a
+first_has a b = search (rules, Or.the_lemmas)
+
+pub first_like : (a b : Node Add.Add) → first_of (Relation.Like a b) ≡ a
+first_like a b = search (rules, Or.the_lemmas)
+
+pub first_is : (a : Node Add.Add) (n : Node Name) (more : Option (Node Add.Add)) → first_of (Relation.IsIn a n more) ≡ a
+first_is a n None = search (rules, Or.the_lemmas)
+first_is a n (Some b) = search (rules, Or.the_lemmas)
 
 -- the label of a variant behind an operand
 label_behind : (l m : Label) (s : Span) (p q r : Erased) (a : Tree Shown add) (f : Forest Label Shown) → branch (Label.add, Some s) p (branch (l, None) q r) ≡ nodes_of (branch Label.add (parts kind_of_shown a) (branch m f none)) → l ≡ m
@@ -195,6 +207,13 @@ needs_type ps n = last_true (has_its_tokens ps (path_parts n.inner.path.items n.
 
 pub needs_both : (ps : List Span) (n : Node Name) (w : List ℕ) (s : Span) (p : Erased) → has_its_tokens ps (name_tree n (leaf w (node Label.add s p none))) ≡ (has_its_tokens ps (path_parts n.inner.path.items n.inner.name) && has_its_tokens ps p)
 needs_both ps n w s p = ap (λ z. has_its_tokens ps (path_parts n.inner.path.items n.inner.name) && z) (needs_operand ps s p)
+
+-- a relation needs the tokens of its first operand
+pub first_missing : (ps : List Span) (r : Relation.Relation) → has_its_tokens ps (add_parts (first_of r).inner) ≡ false → has_its_tokens ps (relation_parts r) ≡ false
+first_missing ps (Relation.Common' a s more) h = and_false _ _ h
+first_missing ps (Relation.Has' a s b t) h = and_false _ _ h
+first_missing ps (Relation.Like' a s b t) h = and_false _ _ h
+first_missing ps (Relation.IsIn' a s n more) h = and_false _ _ h
 
 -- a relation whose first operand has its tokens needs those of the rest
 needs_rest : (ps : List Span) (s : Span) (l : Label) (w : List ℕ) (p q : Erased) → has_own ps l None (leaf w q) ≡ true → has_its_tokens ps p ≡ true → has_its_tokens ps (node Label.add s p (variant l (leaf w q) none)) ≡ has_its_tokens ps q

@@ -1,3 +1,4 @@
 -- What only contracts below the formatter's own calls cite.
 pub mod Signs
 pub mod Breaks
+pub mod Operands

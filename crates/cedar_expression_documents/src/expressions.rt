@@ -16,6 +16,7 @@ ghost use Rattle.cedar_leaf_documents.specs.Found.{Finds, has_its_tokens, has_ow
 ghost use Rattle.cedar_leaf_documents.specs.Kept.{KeepsTokens};
 ghost use Rattle.cedar_canonical.specs.Table.{space};
 ghost use Rattle.cedar_canonical.specs.Table.{leaf as leaf_of};
+ghost use Rattle.cedar_expression_documents.specs.Inside.Operands.{first_of};
 ghost use Rattle.cedar_leaf_documents.specs.NodeDocuments.{IsAt, IsNodeOf, Shows, ShowsBehind, as_leaf, document, text_of};
 
 use crate::accesses::{field_doc, index_doc, push_break};
@@ -26,8 +27,8 @@ use cedar_leaf_documents::names::{
     add_op_text, leaf_doc, literal_text, name_doc, ref_doc, rel_op_text, slot_text,
 };
 use cedar_leaf_documents::rows::{
-    below, call_row, comparison_row, is_in_row, is_row, keyword_row, list_row, parens_row,
-    record_row,
+    below, call_row, comparison_row, init_row, is_in_row, is_row, keyword_row, list_row, pair_row,
+    parens_row, record_row,
 };
 use cedar_leaf_documents::tokens::{
     breaking_sign, comma_before, mark_after, mark_at_end, mark_at_start, sign_and_line,
@@ -170,43 +171,58 @@ pub fn relation_doc<'src>(
     ensures found { Finds result (has_its_tokens (places tokens.old) (relation_parts relation.now)) }
     ensures shows { (t : Tree Shown kind.relation) → IsNodeOf (relation_parts relation.now) t → Shows result tokens.old tokens.new (yield t) (document indent t) }
 {
+    let first = first_doc(alloc, relation, indent, tokens)?;
     match relation {
-        Relation::Common { initial, extended } => {
-            let first = add_doc(alloc, &initial.inner, indent, tokens)?;
-            match extended {
-                Some((op, other)) => {
-                    comparison_doc(alloc, other, *op, initial.span, first, indent, tokens)
-                }
-                None => Ok(first),
+        Relation::Common { initial, extended } => match extended {
+            Some((op, other)) => {
+                comparison_doc(alloc, other, *op, initial.span, first, indent, tokens)
             }
-        }
+            None => Ok(first),
+        },
         Relation::Has { target, field } => {
-            let first = add_doc(alloc, &target.inner, indent, tokens)?;
             keyword_doc(alloc, field, "has", target.span, first, indent, tokens)
         }
         Relation::Like { target, pattern } => {
-            let first = add_doc(alloc, &target.inner, indent, tokens)?;
             keyword_doc(alloc, pattern, "like", target.span, first, indent, tokens)
         }
         Relation::IsIn {
             target,
             entity_type,
             in_entity,
-        } => {
-            let first = add_doc(alloc, &target.inner, indent, tokens)?;
-            match in_entity {
-                Some(entity) => is_in_doc(
-                    alloc,
-                    entity,
-                    entity_type,
-                    target.span,
-                    first,
-                    indent,
-                    tokens,
-                ),
-                None => is_doc(alloc, entity_type, target.span, first, indent, tokens),
-            }
-        }
+        } => match in_entity {
+            Some(entity) => is_in_doc(
+                alloc,
+                entity,
+                entity_type,
+                target.span,
+                first,
+                indent,
+                tokens,
+            ),
+            None => is_doc(alloc, entity_type, target.span, first, indent, tokens),
+        },
+    }
+}
+
+// The operand that a relation begins with.
+#[cycle(documents)]
+#[inline(never)]
+fn first_doc<'src>(
+    alloc: Global,
+    relation: &Relation<'src>,
+    indent: isize,
+    tokens: &mut [WrappedToken<'src>],
+) -> Made<'src>
+    requires { AreInOrder tokens.old }
+    ensures kept { KeepsTokens tokens.old tokens.new }
+    ensures found { Finds result (has_its_tokens (places tokens.old) (add_parts (first_of relation.now).inner)) }
+    ensures shows { (t : Tree Shown kind.add) → IsNodeOf (add_parts (first_of relation.now).inner) t → Shows result tokens.old tokens.new (yield t) (document indent t) }
+{
+    match relation {
+        Relation::Common { initial, .. } => add_doc(alloc, &initial.inner, indent, tokens),
+        Relation::Has { target, .. } => add_doc(alloc, &target.inner, indent, tokens),
+        Relation::Like { target, .. } => add_doc(alloc, &target.inner, indent, tokens),
+        Relation::IsIn { target, .. } => add_doc(alloc, &target.inner, indent, tokens),
     }
 }
 
@@ -257,6 +273,7 @@ fn keyword_doc<'src>(
 }
 
 // group(left . space . C("is") . space . nest(i, type))
+#[inline(never)]
 fn is_doc<'src>(
     alloc: Global,
     entity_type: &Node<Name<'src>>,
@@ -469,7 +486,7 @@ fn call_doc<'src>(
     let items = items_doc(alloc, arguments, indent, tokens)?;
     let close = mark_at_end(alloc, ")", span, Document::Nil, tokens)?;
     if arguments.is_empty() {
-        return Ok(Document::Seq(vec![in alloc; open, close]?));
+        return Ok(pair_row(alloc, open, close)?);
     }
     Ok(call_row(alloc, open, items, close, indent)?)
 }
@@ -564,7 +581,7 @@ fn record_doc<'src>(
     let items = inits_doc(alloc, inits, indent, tokens)?;
     let close = mark_at_end(alloc, "}", span, Document::Nil, tokens)?;
     if inits.is_empty() {
-        return Ok(Document::Seq(vec![in alloc; open, close]?));
+        return Ok(pair_row(alloc, open, close)?);
     }
     Ok(record_row(alloc, open, items, close, indent)?)
 }
@@ -636,5 +653,5 @@ pub fn init_doc<'src>(
     let key = primary_doc(alloc, &init.key.inner, init.key.span, indent, tokens)?;
     let colon = mark_after(alloc, ":", init.key.span, Document::Nil, tokens)?;
     let value = expr_doc(alloc, &init.value.inner, init.value.span, indent, tokens)?;
-    Ok(Document::Seq(vec![in alloc; key, colon, Document::Text(" "), value]?))
+    Ok(init_row(alloc, key, colon, value)?)
 }

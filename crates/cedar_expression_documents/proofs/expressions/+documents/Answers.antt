@@ -7,7 +7,7 @@ use Rattle.cedar_tree.specs.Erased.{or_parts, expr_parts, relation_parts, add_pa
 use Rattle.cedar_leaf_documents.proofs.Opened.{opened_tree, opened_token, starts_here, ends_here, in_turn, freely, rewritten, nothing_behind, Always, Behind, opened_leaf, opened_variant}
 use Rattle.cedar_expression_documents.proofs.Primaries.{seen_plain, opened_literal, seen_literal, seen_slot, seen_ref, seen_name, seen_brackets, seen_list, seen_record, list_found, record_found, in_brackets, lists, no_items, only, records, not_both, some_inits, tests_empty, tests_full, seen_if}
 use Rattle.cedar_layout.specs.Layout.{◌·◌, line, nest, group}
-use Rattle.cedar_layout.proofs.Values.{doc_of_line, doc_of_text, doc_of_seq, doc_of_line_or_nil}
+use Rattle.cedar_layout.proofs.Values.{doc_of_line, doc_of_seq}
 use Rattle.cedar_leaf_documents.specs.Found.{has_its_tokens, places, has_own, Finds}
 use Rattle.cedar_leaf_documents.specs.NodeDocuments.{document, kind_of_shown, IsNodeOf, Shows, IsAt, as_leaf}
 use Rattle.cedar_leaf_documents.proofs.Flat.{also, laid, same, flat}
@@ -17,7 +17,8 @@ use Rattle.cedar_tree.specs.declared.tree.Expr.TheViews.{out-Or, out-Add, out-Mu
 use Rattle.cedar_tree.proofs.Views.{and_items, relation_items, add_items, mult_items, view_call}
 use Rattle.cedar_expression_documents.proofs.Chains.{breaking_sign, or_chain, made_first, operand_more, made_all, made_alone, one_left, none_left, is_nil, first_found, first_missed, next_found, next_missed, and_chain, sign_and_line, inside_add, add_chain, add_group, inside_mult, mult_chain, mult_group}
 use Rattle.cedar_expression_documents.proofs.Operands.{or_view, and_view, add_view, mult_view}
-use Rattle.cedar_expression_documents.proofs.Relations.{alone, compared, placed, typed, worded, view_alone, view_compared, view_has, view_like, view_is, view_is_in, found_behind, needs_both, needs_operand, needs_type}
+use Rattle.cedar_expression_documents.proofs.Relations.{alone, compared, placed, typed, worded, view_alone, view_compared, view_has, view_like, view_is, view_is_in, found_behind, needs_both, needs_operand, needs_type, first_common, first_has, first_like, first_is, first_missing}
+use Rattle.cedar_expression_documents.specs.Inside.Operands.{first_of}
 use Rattle.cedar_layout.specs.Comments.{space}
 use Rattle.cedar_layout.specs.Value.{doc_of, docs_of}
 use Rattle.std.proofs.Math.Facts.{to_z-of_z}
@@ -27,7 +28,6 @@ use Rattle.cedar_expression_documents.proofs.AccessTrees.{at_indent, member_show
 use Rattle.cedar_expression_documents.proofs.SignTokens.{opened_unary, unary_needs, unary_shown, view_of_unary}
 use Rattle.cedar_expression_documents.specs.Inside.Breaks.{form_before}
 use Rattle.std.specs.Prelude.{pos, ◌&&◌}
-use Rattle.cedar_layout.specs.declared.layout.Document.TheVariants.{LineOrNil as LineOrNil'}
 use Rattle.cedar_expression_documents.proofs.LastTokens.{ends_with, closed}
 use Rattle.cedar_layout.specs.Lookups.{shown}
 use Rattle.cedar_expression_documents.proofs.Commas.{next_item, all_args, from_index, item_and_more, none_from, some_at, pushed_two, all_inits}
@@ -131,56 +131,115 @@ if_doc-returns-in_ok-group-in-If-clause-shows _ c (if_expr i p t a f b) at e =
 
 -- relation_doc
 
+pub relation_doc-returns-in_err-first-clause-found : goal.relation_doc-returns-in_err-first-clause-found
+relation_doc-returns-in_err-first-clause-found _ c =
+    missed c.from_residual.result _ _ _ c.from_residual.ensures.1 c.in_err-first.ensures.found (first_missing (places c.args.tokens.now) c.args.relation.now)
+
 pub relation_doc-returns-in-Some-clause-found : goal.relation_doc-returns-in-Some-clause-found
 relation_doc-returns-in-Some-clause-found _ c =
-    found_behind c.comparison_doc.result c.args.tokens.now c.add_doc.new.tokens (λ z. has_its_tokens z (add_parts c.in-Some.other.inner)) (ap relation_parts (c.in-Common.is ∙ ap (λ z. Relation.Common c.in-Common.initial z) c.in-Some.is) ∙ view_compared c.in-Common.initial c.in-Some.op c.in-Some.other) refl (λ z. needs_operand z c.in-Some.other.span (add_parts c.in-Some.other.inner)) c.in_ok-first-in-Common.ensures.found c.in_ok-first-in-Common.ensures.kept c.comparison_doc.ensures.found
+    let is = c.in-Common.is ∙ ap (λ z. Relation.Common c.in-Common.initial z) c.in-Some.is in
+    let first : first_of c.args.relation.now ≡ c.in-Common.initial = ap first_of c.in-Common.is ∙ first_common c.in-Common.initial c.in-Common.extended in
+    found_behind c.comparison_doc.result c.args.tokens.now c.first_doc.new.tokens (λ z. has_its_tokens z (add_parts c.in-Some.other.inner)) (ap relation_parts is ∙ view_compared c.in-Common.initial c.in-Some.op c.in-Some.other) refl (λ z. needs_operand z c.in-Some.other.span (add_parts c.in-Some.other.inner)) (ap (λ z. has_its_tokens (places c.args.tokens.now) (add_parts z.inner)) (sym first) ∙ c.in_ok-first.ensures.found) c.in_ok-first.ensures.kept c.comparison_doc.ensures.found
 
 pub relation_doc-returns-in-Some-clause-shows : goal.relation_doc-returns-in-Some-clause-shows
 relation_doc-returns-in-Some-clause-shows _ c t n =
     let w : to_z w64 (of_z w64 c.args.indent) ≡ c.args.indent = omega (arith, ints) in
-    compared c.comparison_doc.result _ w c.in_ok-first-in-Common.first (λ x e. freely (yield x) (c.in_ok-first-in-Common.ensures.shows x e)) t (sym (view_compared c.in-Common.initial c.in-Some.op c.in-Some.other) ∙ ap relation_parts (sym (c.in-Common.is ∙ ap (λ z. Relation.Common c.in-Common.initial z) c.in-Some.is)) ∙ n) c.comparison_doc.ensures.shows
+    let is = c.in-Common.is ∙ ap (λ z. Relation.Common c.in-Common.initial z) c.in-Some.is in
+    let first : first_of c.args.relation.now ≡ c.in-Common.initial = ap first_of c.in-Common.is ∙ first_common c.in-Common.initial c.in-Common.extended in
+    compared c.comparison_doc.result _ w c.in_ok-first.first (λ x e. freely (yield x) (c.in_ok-first.ensures.shows x (ap (λ z. add_parts z.inner) first ∙ e))) t (sym (view_compared c.in-Common.initial c.in-Some.op c.in-Some.other) ∙ ap relation_parts (sym is) ∙ n) c.comparison_doc.ensures.shows
+
+pub relation_doc-returns-in-None-clause-found : goal.relation_doc-returns-in-None-clause-found
+relation_doc-returns-in-None-clause-found _ c =
+    let is = c.in-Common.is ∙ ap (λ z. Relation.Common c.in-Common.initial z) c.in-None.is in
+    let first : first_of c.args.relation.now ≡ c.in-Common.initial = ap first_of c.in-Common.is ∙ first_common c.in-Common.initial c.in-Common.extended in
+    ap (has_its_tokens (places c.args.tokens.now)) (ap relation_parts is ∙ view_alone c.in-Common.initial) ∙ needs_operand (places c.args.tokens.now) c.in-Common.initial.span (add_parts c.in-Common.initial.inner)
+    ∙ ap (λ z. has_its_tokens (places c.args.tokens.now) (add_parts z.inner)) (sym first) ∙ c.in_ok-first.ensures.found
 
 pub relation_doc-returns-in-None-clause-shows : goal.relation_doc-returns-in-None-clause-shows
 relation_doc-returns-in-None-clause-shows _ c t n before after st =
     let w : to_z w64 (of_z w64 c.args.indent) ≡ c.args.indent = omega (arith, ints) in
     let is = c.in-Common.is ∙ ap (λ z. Relation.Common c.in-Common.initial z) c.in-None.is in
-    alone c.in_ok-first-in-Common.first w (λ x e. freely (yield x) (c.in_ok-first-in-Common.ensures.shows x e)) t (sym (view_alone c.in-Common.initial) ∙ ap relation_parts (sym is) ∙ n) before after tt st
+    let first : first_of c.args.relation.now ≡ c.in-Common.initial = ap first_of c.in-Common.is ∙ first_common c.in-Common.initial c.in-Common.extended in
+    alone c.in_ok-first.first w (λ x e. freely (yield x) (c.in_ok-first.ensures.shows x (ap (λ z. add_parts z.inner) first ∙ e))) t (sym (view_alone c.in-Common.initial) ∙ ap relation_parts (sym is) ∙ n) before after tt st
 
-pub relation_doc-returns-in_ok-first-in-Has-clause-found : goal.relation_doc-returns-in_ok-first-in-Has-clause-found
-relation_doc-returns-in_ok-first-in-Has-clause-found _ c =
-    found_behind c.keyword_doc.result c.args.tokens.now c.add_doc-in-Has.new.tokens (λ z. has_its_tokens z (add_parts c.in-Has.field.inner)) (ap relation_parts (c.in-Has.is) ∙ view_has c.in-Has.target c.in-Has.field) refl (λ z. needs_operand z c.in-Has.field.span (add_parts c.in-Has.field.inner)) c.in_ok-first-in-Has.ensures.found c.in_ok-first-in-Has.ensures.kept c.keyword_doc.ensures.found
+pub relation_doc-returns-in-Has-clause-found : goal.relation_doc-returns-in-Has-clause-found
+relation_doc-returns-in-Has-clause-found _ c =
+    let first : first_of c.args.relation.now ≡ c.in-Has.target = ap first_of c.in-Has.is ∙ first_has c.in-Has.target c.in-Has.field in
+    found_behind c.keyword_doc.result c.args.tokens.now c.first_doc.new.tokens (λ z. has_its_tokens z (add_parts c.in-Has.field.inner)) (ap relation_parts c.in-Has.is ∙ view_has c.in-Has.target c.in-Has.field) refl (λ z. needs_operand z c.in-Has.field.span (add_parts c.in-Has.field.inner)) (ap (λ z. has_its_tokens (places c.args.tokens.now) (add_parts z.inner)) (sym first) ∙ c.in_ok-first.ensures.found) c.in_ok-first.ensures.kept c.keyword_doc.ensures.found
 
-pub relation_doc-returns-in_ok-first-in-Has-clause-shows : goal.relation_doc-returns-in_ok-first-in-Has-clause-shows
-relation_doc-returns-in_ok-first-in-Has-clause-shows _ c t n =
+pub relation_doc-returns-in-Has-clause-shows : goal.relation_doc-returns-in-Has-clause-shows
+relation_doc-returns-in-Has-clause-shows _ c t n =
     let w : to_z w64 (of_z w64 c.args.indent) ≡ c.args.indent = omega (arith, ints) in
-    worded c.keyword_doc.result _ w c.in_ok-first-in-Has.first (λ x e. freely (yield x) (c.in_ok-first-in-Has.ensures.shows x e)) t (sym (view_has c.in-Has.target c.in-Has.field) ∙ ap relation_parts (sym (c.in-Has.is)) ∙ n) c.keyword_doc.ensures.shows
+    let first : first_of c.args.relation.now ≡ c.in-Has.target = ap first_of c.in-Has.is ∙ first_has c.in-Has.target c.in-Has.field in
+    worded c.keyword_doc.result _ w c.in_ok-first.first (λ x e. freely (yield x) (c.in_ok-first.ensures.shows x (ap (λ z. add_parts z.inner) first ∙ e))) t (sym (view_has c.in-Has.target c.in-Has.field) ∙ ap relation_parts (sym c.in-Has.is) ∙ n) c.keyword_doc.ensures.shows
 
-pub relation_doc-returns-in_ok-first-in-Like-clause-found : goal.relation_doc-returns-in_ok-first-in-Like-clause-found
-relation_doc-returns-in_ok-first-in-Like-clause-found _ c =
-    found_behind c.keyword_doc-in-Like.result c.args.tokens.now c.add_doc-in-Like.new.tokens (λ z. has_its_tokens z (add_parts c.in-Like.pattern.inner)) (ap relation_parts (c.in-Like.is) ∙ view_like c.in-Like.target c.in-Like.pattern) refl (λ z. needs_operand z c.in-Like.pattern.span (add_parts c.in-Like.pattern.inner)) c.in_ok-first-in-Like.ensures.found c.in_ok-first-in-Like.ensures.kept c.keyword_doc-in-Like.ensures.found
+pub relation_doc-returns-in-Like-clause-found : goal.relation_doc-returns-in-Like-clause-found
+relation_doc-returns-in-Like-clause-found _ c =
+    let first : first_of c.args.relation.now ≡ c.in-Like.target = ap first_of c.in-Like.is ∙ first_like c.in-Like.target c.in-Like.pattern in
+    found_behind c.keyword_doc-in-Like.result c.args.tokens.now c.first_doc.new.tokens (λ z. has_its_tokens z (add_parts c.in-Like.pattern.inner)) (ap relation_parts c.in-Like.is ∙ view_like c.in-Like.target c.in-Like.pattern) refl (λ z. needs_operand z c.in-Like.pattern.span (add_parts c.in-Like.pattern.inner)) (ap (λ z. has_its_tokens (places c.args.tokens.now) (add_parts z.inner)) (sym first) ∙ c.in_ok-first.ensures.found) c.in_ok-first.ensures.kept c.keyword_doc-in-Like.ensures.found
 
-pub relation_doc-returns-in_ok-first-in-Like-clause-shows : goal.relation_doc-returns-in_ok-first-in-Like-clause-shows
-relation_doc-returns-in_ok-first-in-Like-clause-shows _ c t n =
+pub relation_doc-returns-in-Like-clause-shows : goal.relation_doc-returns-in-Like-clause-shows
+relation_doc-returns-in-Like-clause-shows _ c t n =
     let w : to_z w64 (of_z w64 c.args.indent) ≡ c.args.indent = omega (arith, ints) in
-    worded c.keyword_doc-in-Like.result _ w c.in_ok-first-in-Like.first (λ x e. freely (yield x) (c.in_ok-first-in-Like.ensures.shows x e)) t (sym (view_like c.in-Like.target c.in-Like.pattern) ∙ ap relation_parts (sym (c.in-Like.is)) ∙ n) c.keyword_doc-in-Like.ensures.shows
+    let first : first_of c.args.relation.now ≡ c.in-Like.target = ap first_of c.in-Like.is ∙ first_like c.in-Like.target c.in-Like.pattern in
+    worded c.keyword_doc-in-Like.result _ w c.in_ok-first.first (λ x e. freely (yield x) (c.in_ok-first.ensures.shows x (ap (λ z. add_parts z.inner) first ∙ e))) t (sym (view_like c.in-Like.target c.in-Like.pattern) ∙ ap relation_parts (sym c.in-Like.is) ∙ n) c.keyword_doc-in-Like.ensures.shows
 
 pub relation_doc-returns-in-Some-in_entity-clause-found : goal.relation_doc-returns-in-Some-in_entity-clause-found
 relation_doc-returns-in-Some-in_entity-clause-found _ c =
-    found_behind c.is_in_doc.result c.args.tokens.now c.add_doc-in-IsIn.new.tokens (λ z. has_its_tokens z (path_parts c.in-IsIn.entity_type.inner.path.items c.in-IsIn.entity_type.inner.name) && has_its_tokens z (add_parts c.in-Some-in_entity.entity.inner)) (ap relation_parts (c.in-IsIn.is ∙ ap (λ z. Relation.IsIn c.in-IsIn.target c.in-IsIn.entity_type z) c.in-Some-in_entity.is) ∙ view_is_in c.in-IsIn.target c.in-IsIn.entity_type c.in-Some-in_entity.entity) refl (λ z. needs_both z c.in-IsIn.entity_type (codes "in") c.in-Some-in_entity.entity.span (add_parts c.in-Some-in_entity.entity.inner)) c.in_ok-first-in-IsIn.ensures.found c.in_ok-first-in-IsIn.ensures.kept c.is_in_doc.ensures.found
+    let is = c.in-IsIn.is ∙ ap (λ z. Relation.IsIn c.in-IsIn.target c.in-IsIn.entity_type z) c.in-Some-in_entity.is in
+    let first : first_of c.args.relation.now ≡ c.in-IsIn.target = ap first_of c.in-IsIn.is ∙ first_is c.in-IsIn.target c.in-IsIn.entity_type c.in-IsIn.in_entity in
+    found_behind c.is_in_doc.result c.args.tokens.now c.first_doc.new.tokens (λ z. has_its_tokens z (path_parts c.in-IsIn.entity_type.inner.path.items c.in-IsIn.entity_type.inner.name) && has_its_tokens z (add_parts c.in-Some-in_entity.entity.inner)) (ap relation_parts is ∙ view_is_in c.in-IsIn.target c.in-IsIn.entity_type c.in-Some-in_entity.entity) refl
+    (λ z. needs_both z c.in-IsIn.entity_type (codes "in") c.in-Some-in_entity.entity.span (add_parts c.in-Some-in_entity.entity.inner)) (ap (λ z. has_its_tokens (places c.args.tokens.now) (add_parts z.inner)) (sym first) ∙ c.in_ok-first.ensures.found) c.in_ok-first.ensures.kept c.is_in_doc.ensures.found
 
 pub relation_doc-returns-in-Some-in_entity-clause-shows : goal.relation_doc-returns-in-Some-in_entity-clause-shows
 relation_doc-returns-in-Some-in_entity-clause-shows _ c t n =
     let w : to_z w64 (of_z w64 c.args.indent) ≡ c.args.indent = omega (arith, ints) in
-    placed c.is_in_doc.result _ w c.in_ok-first-in-IsIn.first (λ x e. freely (yield x) (c.in_ok-first-in-IsIn.ensures.shows x e)) t (sym (view_is_in c.in-IsIn.target c.in-IsIn.entity_type c.in-Some-in_entity.entity) ∙ ap relation_parts (sym (c.in-IsIn.is ∙ ap (λ z. Relation.IsIn c.in-IsIn.target c.in-IsIn.entity_type z) c.in-Some-in_entity.is)) ∙ n) c.is_in_doc.ensures.shows
+    let is = c.in-IsIn.is ∙ ap (λ z. Relation.IsIn c.in-IsIn.target c.in-IsIn.entity_type z) c.in-Some-in_entity.is in
+    let first : first_of c.args.relation.now ≡ c.in-IsIn.target = ap first_of c.in-IsIn.is ∙ first_is c.in-IsIn.target c.in-IsIn.entity_type c.in-IsIn.in_entity in
+    placed c.is_in_doc.result _ w c.in_ok-first.first (λ x e. freely (yield x) (c.in_ok-first.ensures.shows x (ap (λ z. add_parts z.inner) first ∙ e))) t (sym (view_is_in c.in-IsIn.target c.in-IsIn.entity_type c.in-Some-in_entity.entity) ∙ ap relation_parts (sym is) ∙ n) c.is_in_doc.ensures.shows
 
 pub relation_doc-returns-in-None-in_entity-clause-found : goal.relation_doc-returns-in-None-in_entity-clause-found
 relation_doc-returns-in-None-in_entity-clause-found _ c =
-    found_behind c.is_doc.result c.args.tokens.now c.add_doc-in-IsIn.new.tokens (λ z. has_its_tokens z (path_parts c.in-IsIn.entity_type.inner.path.items c.in-IsIn.entity_type.inner.name)) (ap relation_parts (c.in-IsIn.is ∙ ap (λ z. Relation.IsIn c.in-IsIn.target c.in-IsIn.entity_type z) c.in-None-in_entity.is) ∙ view_is c.in-IsIn.target c.in-IsIn.entity_type) refl (λ z. needs_type z c.in-IsIn.entity_type) c.in_ok-first-in-IsIn.ensures.found c.in_ok-first-in-IsIn.ensures.kept c.is_doc.ensures.found
+    let is = c.in-IsIn.is ∙ ap (λ z. Relation.IsIn c.in-IsIn.target c.in-IsIn.entity_type z) c.in-None-in_entity.is in
+    let first : first_of c.args.relation.now ≡ c.in-IsIn.target = ap first_of c.in-IsIn.is ∙ first_is c.in-IsIn.target c.in-IsIn.entity_type c.in-IsIn.in_entity in
+    found_behind c.is_doc.result c.args.tokens.now c.first_doc.new.tokens (λ z. has_its_tokens z (path_parts c.in-IsIn.entity_type.inner.path.items c.in-IsIn.entity_type.inner.name)) (ap relation_parts is ∙ view_is c.in-IsIn.target c.in-IsIn.entity_type) refl (λ z. needs_type z c.in-IsIn.entity_type) (ap (λ z. has_its_tokens (places c.args.tokens.now) (add_parts z.inner)) (sym first) ∙ c.in_ok-first.ensures.found) c.in_ok-first.ensures.kept c.is_doc.ensures.found
 
 pub relation_doc-returns-in-None-in_entity-clause-shows : goal.relation_doc-returns-in-None-in_entity-clause-shows
 relation_doc-returns-in-None-in_entity-clause-shows _ c t n =
     let w : to_z w64 (of_z w64 c.args.indent) ≡ c.args.indent = omega (arith, ints) in
-    typed c.is_doc.result _ w c.in_ok-first-in-IsIn.first (λ x e. freely (yield x) (c.in_ok-first-in-IsIn.ensures.shows x e)) t (sym (view_is c.in-IsIn.target c.in-IsIn.entity_type) ∙ ap relation_parts (sym (c.in-IsIn.is ∙ ap (λ z. Relation.IsIn c.in-IsIn.target c.in-IsIn.entity_type z) c.in-None-in_entity.is)) ∙ n) c.is_doc.ensures.shows
+    let is = c.in-IsIn.is ∙ ap (λ z. Relation.IsIn c.in-IsIn.target c.in-IsIn.entity_type z) c.in-None-in_entity.is in
+    let first : first_of c.args.relation.now ≡ c.in-IsIn.target = ap first_of c.in-IsIn.is ∙ first_is c.in-IsIn.target c.in-IsIn.entity_type c.in-IsIn.in_entity in
+    typed c.is_doc.result _ w c.in_ok-first.first (λ x e. freely (yield x) (c.in_ok-first.ensures.shows x (ap (λ z. add_parts z.inner) first ∙ e))) t (sym (view_is c.in-IsIn.target c.in-IsIn.entity_type) ∙ ap relation_parts (sym is) ∙ n) c.is_doc.ensures.shows
+
+-- first_doc
+
+pub first_doc-returns-in-Common-clause-found : goal.first_doc-returns-in-Common-clause-found
+first_doc-returns-in-Common-clause-found _ c = subst (λ z. Finds c.add_doc.result (has_its_tokens (places c.args.tokens.now) (add_parts z.inner))) (sym (ap first_of c.in-Common.is ∙ first_common c.in-Common.initial c.in-Common.extended)) c.add_doc.ensures.found
+
+pub first_doc-returns-in-Common-clause-shows : goal.first_doc-returns-in-Common-clause-shows
+first_doc-returns-in-Common-clause-shows _ c t e =
+    subst (λ z. Shows c.add_doc.result c.args.tokens.now c.add_doc.new.tokens (yield t) (document z t)) (to_z-of_z c.ranges.indent) (c.add_doc.ensures.shows t (ap (λ z. add_parts z.inner) (sym (ap first_of c.in-Common.is ∙ first_common c.in-Common.initial c.in-Common.extended)) ∙ e))
+
+pub first_doc-returns-in-Has-clause-found : goal.first_doc-returns-in-Has-clause-found
+first_doc-returns-in-Has-clause-found _ c = subst (λ z. Finds c.add_doc-in-Has.result (has_its_tokens (places c.args.tokens.now) (add_parts z.inner))) (sym (ap first_of c.in-Has.is ∙ first_has c.in-Has.target c.in-Has.field)) c.add_doc-in-Has.ensures.found
+
+pub first_doc-returns-in-Has-clause-shows : goal.first_doc-returns-in-Has-clause-shows
+first_doc-returns-in-Has-clause-shows _ c t e =
+    subst (λ z. Shows c.add_doc-in-Has.result c.args.tokens.now c.add_doc-in-Has.new.tokens (yield t) (document z t)) (to_z-of_z c.ranges.indent) (c.add_doc-in-Has.ensures.shows t (ap (λ z. add_parts z.inner) (sym (ap first_of c.in-Has.is ∙ first_has c.in-Has.target c.in-Has.field)) ∙ e))
+
+pub first_doc-returns-in-Like-clause-found : goal.first_doc-returns-in-Like-clause-found
+first_doc-returns-in-Like-clause-found _ c = subst (λ z. Finds c.add_doc-in-Like.result (has_its_tokens (places c.args.tokens.now) (add_parts z.inner))) (sym (ap first_of c.in-Like.is ∙ first_like c.in-Like.target c.in-Like.pattern)) c.add_doc-in-Like.ensures.found
+
+pub first_doc-returns-in-Like-clause-shows : goal.first_doc-returns-in-Like-clause-shows
+first_doc-returns-in-Like-clause-shows _ c t e =
+    subst (λ z. Shows c.add_doc-in-Like.result c.args.tokens.now c.add_doc-in-Like.new.tokens (yield t) (document z t)) (to_z-of_z c.ranges.indent) (c.add_doc-in-Like.ensures.shows t (ap (λ z. add_parts z.inner) (sym (ap first_of c.in-Like.is ∙ first_like c.in-Like.target c.in-Like.pattern)) ∙ e))
+
+pub first_doc-returns-in-IsIn-clause-found : goal.first_doc-returns-in-IsIn-clause-found
+first_doc-returns-in-IsIn-clause-found _ c = subst (λ z. Finds c.add_doc-in-IsIn.result (has_its_tokens (places c.args.tokens.now) (add_parts z.inner))) (sym (ap first_of c.in-IsIn.is ∙ first_is c.in-IsIn.target c.in-IsIn.entity_type c.in-IsIn.in_entity)) c.add_doc-in-IsIn.ensures.found
+
+pub first_doc-returns-in-IsIn-clause-shows : goal.first_doc-returns-in-IsIn-clause-shows
+first_doc-returns-in-IsIn-clause-shows _ c t e =
+    subst (λ z. Shows c.add_doc-in-IsIn.result c.args.tokens.now c.add_doc-in-IsIn.new.tokens (yield t) (document z t)) (to_z-of_z c.ranges.indent) (c.add_doc-in-IsIn.ensures.shows t (ap (λ z. add_parts z.inner) (sym (ap first_of c.in-IsIn.is ∙ first_is c.in-IsIn.target c.in-IsIn.entity_type c.in-IsIn.in_entity)) ∙ e))
 
 -- comparison_doc
 
@@ -595,7 +654,7 @@ call_doc-returns-then-is_empty-clause-shows _ c = λ t e.
     let i = to_z w64 (of_z w64 c.args.indent) in
     at_indent i c.args.indent t (to_z-of_z c.ranges.indent)
     (call_shown i t c.args.span c.args.arguments.now _ _ _ _ _ _ _ _ true e c.in_ok-open.ensures.shows c.in_ok-items.ensures.none c.in_ok-items.ensures.shows c.in_ok-close.ensures.shows
-    (sym c.if-is_empty.true ∙ c.is_empty.ensures) (flat _ _ c.in_ok-vec.ensures.items))
+    (sym c.if-is_empty.true ∙ c.is_empty.ensures) c.in_ok-pair_row.ensures)
 
 pub call_doc-returns-clause-shows : goal.call_doc-returns-clause-shows
 call_doc-returns-clause-shows _ c = λ t e.
@@ -711,7 +770,7 @@ record_doc-returns-then-is_empty-clause-shows _ c (record_empty l r) at e =
     let first = rewritten (l ∷ []) (nothing_behind l) (freely (l ∷ []) (c.in_ok-open.ensures.shows l (starts_here c.args.span l (r ∷ []) at) p.0)) in
     let inside = freely [] (c.in_ok-items.ensures.none (no_items Label.rec_init init_parts c.args.inits.now q.0)) in
     let last = rewritten (r ∷ []) (nothing_behind r) (freely (r ∷ []) (c.in_ok-close.ensures.shows r (ends_with c.args.span l [] r at) q.1)) in
-    λ before after st. let k = in_brackets (λ a b d. a · d) l [] r first inside last before after tt st in (flat c.in_ok-vec.field-0 _ c.in_ok-vec.ensures.items ∙ k.0, k.1)
+    λ before after st. let k = in_brackets (λ a b d. a · d) l [] r first inside last before after tt st in (c.in_ok-pair_row.ensures ∙ k.0, k.1)
 record_doc-returns-then-is_empty-clause-shows _ c (record_of l x r) at e =
     let v = opened_variant Label.fields _ none (leaf l (join (parts kind_of_shown x) (leaf r none))) none e in
     let q = closed (item_trees Label.rec_init init_parts c.args.inits.now) _ (parts kind_of_shown x) r (opened_token _ _ l (join (parts kind_of_shown x) (leaf r none)) v.0).1 in
@@ -824,8 +883,7 @@ init_doc-returns-clause-shows _ c (init_of k x v) e =
     let colon = rewritten (x ∷ []) (nothing_behind x) (c.in_ok-colon.ensures.shows x p.0) in
     let behind = in_turn (λ a b. a · space · b) (Behind key) Always (x ∷ []) (yield v) colon (λ b h. tt) (freely (yield v) (c.in_ok-value.ensures.shows v q.1 q.0)) in
     let all = in_turn (λ a b. a · b) Always (Behind key) (yield k) (x ∷ yield v) (freely (yield k) (c.in_ok-key.ensures.shows k o.1 o.0)) (λ b h. ends_here key (yield k) o.1 b) behind in
-    let made = laid c.in_ok-vec.field-0 c.in_ok-vec.ensures.items (same c.in_ok-key.key (same c.in_ok-colon.colon (also (doc_of_text _) refl))) in
-    λ before after st. let r = all before after tt st in (made ∙ r.0 ∙ ap (λ j. document j (init_of k x v)) fits, r.1)
+    λ before after st. let r = all before after tt st in (c.in_ok-init_row.ensures ∙ r.0 ∙ ap (λ j. document j (init_of k x v)) fits, r.1)
 
 -- the tokens stay in order from call to call, and the nodes get smaller
 
@@ -869,13 +927,13 @@ pub if_doc-expr_doc-requires-in-If-2 : goal.if_doc-expr_doc-requires-in-If-2
 if_doc-expr_doc-requires-in-If-2 _ c = (search (rules, Or.the_lemmas), order_kept _ _ (c.in_ok-else_word-in-If.ensures.kept ∙ c.in_ok-first-in-If.ensures.kept ∙ c.in_ok-then_word-in-If.ensures.kept ∙ c.in_ok-condition-in-If.ensures.kept ∙ c.in_ok-if_word-in-If.ensures.kept) c.requires)
 
 pub relation_doc-comparison_doc-requires : goal.relation_doc-comparison_doc-requires
-relation_doc-comparison_doc-requires _ c = (search (rules, Or.the_lemmas), order_kept _ _ (c.in_ok-first-in-Common.ensures.kept) c.requires)
+relation_doc-comparison_doc-requires _ c = (search (rules, Or.the_lemmas), order_kept _ _ (c.in_ok-first.ensures.kept) c.requires)
 
 pub relation_doc-keyword_doc-requires : goal.relation_doc-keyword_doc-requires
-relation_doc-keyword_doc-requires _ c = (search (rules, Or.the_lemmas), order_kept _ _ (c.in_ok-first-in-Has.ensures.kept) c.requires)
+relation_doc-keyword_doc-requires _ c = (search (rules, Or.the_lemmas), order_kept _ _ (c.in_ok-first.ensures.kept) c.requires)
 
 pub relation_doc-keyword_doc-requires-in-Like : goal.relation_doc-keyword_doc-requires-in-Like
-relation_doc-keyword_doc-requires-in-Like _ c = (search (rules, Or.the_lemmas), order_kept _ _ (c.in_ok-first-in-Like.ensures.kept) c.requires)
+relation_doc-keyword_doc-requires-in-Like _ c = (search (rules, Or.the_lemmas), order_kept _ _ (c.in_ok-first.ensures.kept) c.requires)
 
 pub relation_doc-is_in_doc-requires : goal.relation_doc-is_in_doc-requires
-relation_doc-is_in_doc-requires _ c = (search (rules, Or.the_lemmas), order_kept _ _ (c.in_ok-first-in-IsIn.ensures.kept) c.requires)
+relation_doc-is_in_doc-requires _ c = (search (rules, Or.the_lemmas), order_kept _ _ (c.in_ok-first.ensures.kept) c.requires)
