@@ -11,6 +11,7 @@ use Rattle.cedar_grammar.specs.Trees as forest
 use Rattle.cedar_grammar.specs.TypedTrees.{Tree, parts, yield, add, relation, name, single, compare, has_or_like, is_type, is_in}
 use Rattle.cedar_layout.specs.Layout.{Doc, ◌·◌, group, line, nest}
 use Rattle.cedar_layout.specs.Lookups.{Shown, emptied}
+use Rattle.cedar_layout.proofs.Values.{dot_assoc}
 use Rattle.cedar_layout.specs.Value.{doc_of}
 use Rattle.cedar_layout.specs.declared.layout.Document.{Document}
 use Rattle.cedar_tree.specs.Erased.{Erased, node, variant, add_parts, name_tree, path_parts, relation_parts, relop_text}
@@ -192,6 +193,10 @@ alone {s = s} {p = p} first same clause (compare a o b) e = absurd (nothing_foll
 alone {s = s} {p = p} first same clause (has_or_like a o b) e = absurd (nothing_follows Label.has_or_like s p a (leaf o (branch Label.add (parts kind_of_shown b) none)) e)
 alone {s = s} {p = p} first same clause (is_type a o n) e = absurd (nothing_follows Label.is_type s p a (leaf o (branch Label.name (parts kind_of_shown n) none)) e)
 alone {s = s} {p = p} first same clause (is_in a o n x b) e = absurd (nothing_follows Label.is_type s p a (leaf o (branch Label.name (parts kind_of_shown n) (leaf x (branch Label.add (parts kind_of_shown b) none)))) e)
+
+-- the row of `is` and `in`, begun apart
+pub in_one_row : (l o n p x : Doc) → (l · space · o · space · n · line · p · space) · x ≡ l · space · o · space · n · line · p · space · x
+in_one_row l o n p x = dot_assoc l _ x ∙ ap (λ z. l · space · z) (dot_assoc o _ x ∙ ap (λ z. o · space · z) (dot_assoc n _ x ∙ ap (λ z. n · line · z) (dot_assoc p space x)))
 
 -- ---- what is found
 

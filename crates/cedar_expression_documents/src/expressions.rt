@@ -27,8 +27,8 @@ use cedar_leaf_documents::names::{
     add_op_text, leaf_doc, literal_text, name_doc, ref_doc, rel_op_text, slot_text,
 };
 use cedar_leaf_documents::rows::{
-    below, call_row, comparison_row, init_row, is_in_row, is_row, keyword_row, list_row, pair_row,
-    parens_row, record_row,
+    below, call_row, comparison_row, container_row, init_row, is_row, keyword_row, list_row,
+    pair_row, parens_row, record_row, type_and_in_row,
 };
 use cedar_leaf_documents::tokens::{
     breaking_sign, comma_before, mark_after, mark_at_end, mark_at_start, sign_and_line,
@@ -313,11 +313,33 @@ fn is_in_doc<'src>(
         → ShowsBehind before.end result tokens.old tokens.new (o ∷ yield n ++ p ∷ yield b)
         (group (doc_of left.entry · space · leaf_of (as_leaf o) · space · nest indent (document indent n) · line · leaf_of (as_leaf p) · space · nest indent (document indent b))) }
 {
+    let start = type_and_in_doc(alloc, entity_type, before, left, indent, tokens)?;
+    let second = add_doc(alloc, &entity.inner, indent, tokens)?;
+    Ok(container_row(alloc, start, second, indent)?)
+}
+
+// left . space . C("is") . space . nest(i, type) . line . C("in") . space
+#[inline(never)]
+fn type_and_in_doc<'src>(
+    alloc: Global,
+    entity_type: &Node<Name<'src>>,
+    before: Span,
+    left: Document<'src>,
+    indent: isize,
+    tokens: &mut [WrappedToken<'src>],
+) -> Made<'src>
+    requires { AreInOrder tokens.old }
+    ensures kept { KeepsTokens tokens.old tokens.new }
+    ensures found { Finds result (has_its_tokens (places tokens.old) (path_parts entity_type.now.inner.path.items entity_type.now.inner.name)) }
+    ensures shows { (o : Shown) (n : Tree Shown kind.name) (p : Shown) → codes "is" ≡ token_value (text_of o) → IsAt entity_type.now.span (yield n)
+        → IsNodeOf (path_parts entity_type.now.inner.path.items entity_type.now.inner.name) n → codes "in" ≡ token_value (text_of p)
+        → ShowsBehind before.end result tokens.old tokens.new (o ∷ yield n ++ p ∷ [])
+        (doc_of left.entry · space · leaf_of (as_leaf o) · space · nest indent (document indent n) · line · leaf_of (as_leaf p) · space) }
+{
     let is_word = mark_after(alloc, "is", before, Document::Nil, tokens)?;
     let type_name = name_doc(alloc, &entity_type.inner, tokens)?;
     let in_word = mark_after(alloc, "in", entity_type.span, Document::Nil, tokens)?;
-    let second = add_doc(alloc, &entity.inner, indent, tokens)?;
-    Ok(is_in_row(alloc, left, is_word, type_name, in_word, second, indent)?)
+    Ok(type_and_in_row(alloc, left, is_word, type_name, in_word, indent)?)
 }
 
 /// `group(e1 . space . C(op) . line . e2 . space . C(op) . line . e3 ..)`

@@ -73,21 +73,19 @@ pub fn is_row<'src>(
     Document::Seq(row).group(alloc)
 }
 
-/// `group(left . space . C("is") . space . nest(i, type) . line . C("in") . space . nest(i, right))`
+/// `left . space . C("is") . space . nest(i, type) . line . C("in") . space`
 #[inline(never)]
-pub fn is_in_row<'src>(
+pub fn type_and_in_row<'src>(
     alloc: Global,
     left: Document<'src>,
     is_word: Document<'src>,
     type_name: Document<'src>,
     in_word: Document<'src>,
-    right: Document<'src>,
     indent: isize,
 ) -> Result<Document<'src>, AllocError>
-    ensures { IfOk result (λ d. doc_of d ≡ group (doc_of left.entry · space · doc_of is_word.entry · space · nest indent (doc_of type_name.entry) · line · doc_of in_word.entry · space · nest indent (doc_of right.entry))) }
+    ensures { IfOk result (λ d. doc_of d ≡ doc_of left.entry · space · doc_of is_word.entry · space · nest indent (doc_of type_name.entry) · line · doc_of in_word.entry · space) }
 {
     let path = type_name.nest(alloc, indent)?;
-    let container = right.nest(alloc, indent)?;
     let row = vec![in alloc;
         left,
         Document::Text(" "),
@@ -97,8 +95,22 @@ pub fn is_in_row<'src>(
         Document::Line,
         in_word,
         Document::Text(" "),
-        container,
     ]?;
+    Ok(Document::Seq(row))
+}
+
+/// `group(start . nest(i, right))`, where `start` is what the row above gives
+#[inline(never)]
+pub fn container_row<'src>(
+    alloc: Global,
+    start: Document<'src>,
+    right: Document<'src>,
+    indent: isize,
+) -> Result<Document<'src>, AllocError>
+    ensures { IfOk result (λ d. doc_of d ≡ group (doc_of start.entry · nest indent (doc_of right.entry))) }
+{
+    let container = right.nest(alloc, indent)?;
+    let row = vec![in alloc; start, container]?;
     Document::Seq(row).group(alloc)
 }
 

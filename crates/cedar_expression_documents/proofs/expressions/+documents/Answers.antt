@@ -1,6 +1,7 @@
 use Rattle.cedar_tokens.proofs.KeptOrder.{order_kept}
 use Rattle.std.proofs.Common.{rules, ◌≡◌, refl, ap, ◌∙◌, arith, of_z, to_z, w64, ◌∷◌, [], ◌++◌, codes, sym, true, false, Some, subst, ◌+◌, map, drop}
 use Rattle.std.proofs.lemmas.Int.{ints}
+use Rattle.std.proofs.lemmas.List.{append_assoc}
 use Rattle.cedar_grammar.specs.Trees.{Label, none, leaf, branch, join}
 use Rattle.cedar_grammar.specs.TypedTrees.{plain_expr, if_expr, parts, yield, compare, has_or_like, is_type, is_in, member_of, literal, slot, reference, named, parens, list_empty, list_of, record_empty, record_of, init_of}
 use Rattle.cedar_tree.specs.Erased.{or_parts, expr_parts, relation_parts, add_parts, path_parts, addop_text, mult_parts, unary_parts, node, sign_leaves, primary_parts, access_parts}
@@ -17,7 +18,7 @@ use Rattle.cedar_tree.specs.declared.tree.Expr.TheViews.{out-Or, out-Add, out-Mu
 use Rattle.cedar_tree.proofs.Views.{and_items, relation_items, add_items, mult_items, view_call}
 use Rattle.cedar_expression_documents.proofs.Chains.{breaking_sign, or_chain, made_first, operand_more, made_all, made_alone, one_left, none_left, is_nil, first_found, first_missed, next_found, next_missed, and_chain, sign_and_line, inside_add, add_chain, add_group, inside_mult, mult_chain, mult_group}
 use Rattle.cedar_expression_documents.proofs.Operands.{or_view, and_view, add_view, mult_view}
-use Rattle.cedar_expression_documents.proofs.Relations.{alone, compared, placed, typed, worded, view_alone, view_compared, view_has, view_like, view_is, view_is_in, found_behind, needs_both, needs_operand, needs_type, first_common, first_has, first_like, first_is, first_missing}
+use Rattle.cedar_expression_documents.proofs.Relations.{alone, compared, placed, typed, worded, view_alone, view_compared, view_has, view_like, view_is, view_is_in, found_behind, needs_both, needs_operand, needs_type, first_common, first_has, first_like, first_is, first_missing, in_one_row}
 use Rattle.cedar_expression_documents.specs.Inside.Operands.{first_of}
 use Rattle.cedar_layout.specs.Comments.{space}
 use Rattle.cedar_layout.specs.Value.{doc_of, docs_of}
@@ -29,7 +30,7 @@ use Rattle.cedar_expression_documents.proofs.SignTokens.{opened_unary, unary_nee
 use Rattle.cedar_expression_documents.specs.Inside.Breaks.{form_before}
 use Rattle.std.specs.Prelude.{pos, ◌&&◌}
 use Rattle.cedar_expression_documents.proofs.LastTokens.{ends_with, closed}
-use Rattle.cedar_layout.specs.Lookups.{shown}
+use Rattle.cedar_layout.specs.Lookups.{emptied, shown}
 use Rattle.cedar_expression_documents.proofs.Commas.{next_item, all_args, from_index, item_and_more, none_from, some_at, pushed_two, all_inits}
 use Rattle.cedar_tree.specs.declared.tree.Or as Or
 use Rattle.cedar_grammar.specs.TypedTrees as kind
@@ -284,38 +285,33 @@ keyword_doc-returns-clause-shows _ c o b f g =
 
 -- is_in_doc
 
-pub is_in_doc-returns-in_err-type_name-clause-found : goal.is_in_doc-returns-in_err-type_name-clause-found
-is_in_doc-returns-in_err-type_name-clause-found _ c =
-    missed c.from_residual-in_err-type_name.result _ _ _ c.from_residual-in_err-type_name.ensures.1 c.in_err-type_name.ensures.found
-    (λ h. let e = as_before (λ z. has_its_tokens z (path_parts c.args.entity_type.now.inner.path.items c.args.entity_type.now.inner.name)) false c.args.tokens.now c.mark_after.new.tokens c.in_ok-is_word.ensures.kept h in rw e refl)
+pub is_in_doc-returns-in_err-start-clause-found : goal.is_in_doc-returns-in_err-start-clause-found
+is_in_doc-returns-in_err-start-clause-found _ c =
+    missed c.from_residual.result _ _ _ c.from_residual.ensures.1 c.in_err-start.ensures.found (λ h. rw h refl)
 
 pub is_in_doc-returns-in_err-second-clause-found : goal.is_in_doc-returns-in_err-second-clause-found
 is_in_doc-returns-in_err-second-clause-found _ c =
-    let kept = c.in_ok-is_word.ensures.kept in
-    let e = as_before (λ z. has_its_tokens z (path_parts c.args.entity_type.now.inner.path.items c.args.entity_type.now.inner.name)) true c.args.tokens.now c.mark_after.new.tokens kept c.in_ok-type_name.ensures.found in
     missed c.from_residual-in_err-second.result _ _ _ c.from_residual-in_err-second.ensures.1 c.in_err-second.ensures.found
-    (λ h. let f = as_before (λ z. has_its_tokens z (add_parts c.args.entity.now.inner)) false c.args.tokens.now c.mark_after-2.new.tokens (c.in_ok-in_word.ensures.kept ∙ c.in_ok-type_name.ensures.kept ∙ kept) h in rw (e, f) refl)
+    (λ h. let f = as_before (λ z. has_its_tokens z (add_parts c.args.entity.now.inner)) false c.args.tokens.now c.type_and_in_doc.new.tokens c.in_ok-start.ensures.kept h in rw (c.in_ok-start.ensures.found, f) refl)
 
 pub is_in_doc-returns-clause-found : goal.is_in_doc-returns-clause-found
 is_in_doc-returns-clause-found _ c =
-    let kept = c.in_ok-is_word.ensures.kept in
-    let e = as_before (λ z. has_its_tokens z (path_parts c.args.entity_type.now.inner.path.items c.args.entity_type.now.inner.name)) true c.args.tokens.now c.mark_after.new.tokens kept c.in_ok-type_name.ensures.found in
-    let f = as_before (λ z. has_its_tokens z (add_parts c.args.entity.now.inner)) true c.args.tokens.now c.mark_after-2.new.tokens (c.in_ok-in_word.ensures.kept ∙ c.in_ok-type_name.ensures.kept ∙ kept) c.in_ok-second.ensures.found in
-    rw (e, f) refl
+    let f = as_before (λ z. has_its_tokens z (add_parts c.args.entity.now.inner)) true c.args.tokens.now c.type_and_in_doc.new.tokens c.in_ok-start.ensures.kept c.in_ok-second.ensures.found in
+    rw (c.in_ok-start.ensures.found, f) refl
 
 pub is_in_doc-returns-clause-shows : goal.is_in_doc-returns-clause-shows
 is_in_doc-returns-clause-shows _ c o n p b f at g h k =
     let i = to_z w64 (of_z w64 c.args.indent) in
     let w : i ≡ c.args.indent = omega (arith, ints) in
     let left = doc_of c.args.left in
-    let type = c.args.entity_type.now.span in
-    let is_word = rewritten (o ∷ []) (nothing_behind o) (c.in_ok-is_word.ensures.shows o f) in
-    let in_word = rewritten (p ∷ []) (nothing_behind p) (c.in_ok-in_word.ensures.shows p h) in
-    let last = in_turn (λ x y. x · space · nest i y) (Behind type) Always (p ∷ []) (yield b) in_word (λ b h. tt) (freely (yield b) (c.in_ok-second.ensures.shows b k)) in
-    let more = in_turn (λ x y. nest i x · line · y) Always (Behind type) (yield n) (p ∷ yield b) (freely (yield n) (c.in_ok-type_name.ensures.shows i n g)) (λ b h. ends_here type (yield n) at b) last in
-    let all = in_turn (λ x y. group (left · space · x · space · y)) (Behind c.args.before) Always (o ∷ []) (yield n ++ (p ∷ yield b)) is_word (λ b h. tt) more in
-    λ before after q st. let r = all before after q st in
-    (c.in_ok-is_in_row.ensures ∙ r.0 ∙ ap (λ z. group (left · space · table.leaf (as_leaf o) · space · nest z (document z n) · line · table.leaf (as_leaf p) · space · nest z (document z b))) w, r.1)
+    let start = o ∷ (yield n ++ (p ∷ [])) in
+    let all = in_turn (λ x y. group (x · nest i y)) (Behind c.args.before) Always start (yield b) (c.in_ok-start.ensures.shows o n p f at g h) (λ b h. tt) (freely (yield b) (c.in_ok-second.ensures.shows b k)) in
+    let one = in_one_row left (table.leaf (as_leaf o)) (nest i (document i n)) (table.leaf (as_leaf p)) (nest i (document i b)) in
+    λ before after q st.
+    let r = all before after q (st ∙ ap (λ z. before ++ ((o ∷ z) ++ after)) (sym (append_assoc (yield n) (p ∷ []) (yield b)))) in (
+      c.in_ok-container_row.ensures ∙ r.0 ∙ ap group one ∙ ap (λ z. group (left · space · table.leaf (as_leaf o) · space · nest z (document z n) · line · table.leaf (as_leaf p) · space · nest z (document z b))) w,
+      r.1 ∙ ap (λ z. (before ++ map emptied (o ∷ z)) ++ after) (append_assoc (yield n) (p ∷ []) (yield b)),
+    )
 
 -- or_doc
 
