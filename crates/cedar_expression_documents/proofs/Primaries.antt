@@ -59,8 +59,12 @@ pub tests_full : {X : Type 0} (xs : List X) (n : ℕ) (b : Bool) → n ≡ lengt
 tests_full [] n b h e q = absurd (q refl)
 tests_full (x ∷ xs) n b h e q = is_false b (λ t. let k : n ≡ 0 = eqb-true n 0 (sym e ∙ t) in absurd (omega arith))
 
-pub not_both : (b : Bool) → b ≡ true → b ≡ false → ⊥
-not_both b h k = cc
+-- the choice that such a test makes
+pub if_so : {A : Type 0} {b : Bool} (x y : A) → b ≡ true → (if b then x else y) ≡ x
+if_so x y h = ap (λ z. if z then x else y) h
+
+pub if_not : {A : Type 0} {b : Bool} (x y : A) → b ≡ false → (if b then x else y) ≡ y
+if_not x y h = ap (λ z. if z then x else y) h
 
 -- ---- literals
 

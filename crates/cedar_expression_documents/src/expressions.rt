@@ -27,8 +27,8 @@ use cedar_leaf_documents::names::{
     add_op_text, leaf_doc, literal_text, name_doc, ref_doc, rel_op_text, slot_text,
 };
 use cedar_leaf_documents::rows::{
-    below, call_row, comparison_row, container_row, init_row, is_row, keyword_row, list_row,
-    pair_row, parens_row, record_row, type_and_in_row,
+    arguments_row, below, comparison_row, container_row, entries_row, init_row, is_row,
+    keyword_row, list_row, parens_row, type_and_in_row,
 };
 use cedar_leaf_documents::tokens::{
     breaking_sign, comma_before, mark_after, mark_at_end, mark_at_start, sign_and_line,
@@ -507,10 +507,8 @@ fn call_doc<'src>(
     let open = mark_at_start(alloc, "(", span, Document::Nil, tokens)?;
     let items = items_doc(alloc, arguments, indent, tokens)?;
     let close = mark_at_end(alloc, ")", span, Document::Nil, tokens)?;
-    if arguments.is_empty() {
-        return Ok(pair_row(alloc, open, close)?);
-    }
-    Ok(call_row(alloc, open, items, close, indent)?)
+    let none = arguments.is_empty();
+    Ok(arguments_row(alloc, open, items, close, none, indent)?)
 }
 
 /// A literal, an entity, a name, a slot, or what stands between brackets.
@@ -602,10 +600,8 @@ fn record_doc<'src>(
     let open = mark_at_start(alloc, "{", span, Document::Nil, tokens)?;
     let items = inits_doc(alloc, inits, indent, tokens)?;
     let close = mark_at_end(alloc, "}", span, Document::Nil, tokens)?;
-    if inits.is_empty() {
-        return Ok(pair_row(alloc, open, close)?);
-    }
-    Ok(record_row(alloc, open, items, close, indent)?)
+    let none = inits.is_empty();
+    Ok(entries_row(alloc, open, items, close, none, indent)?)
 }
 
 // Expressions joined by C(",") . line

@@ -1,6 +1,6 @@
 //! Rows of the table over documents that are made already. Above each function stands its row: a dot puts documents one
 //! after the other, `i` is the indentation of a level, `C(t)` a token between its comments.
-ghost use Rattle.std.specs.Prelude.{◌≡◌, pos, IfOk};
+ghost use Rattle.std.specs.Prelude.{◌≡◌, if◌then◌else◌, pos, IfOk};
 ghost use Rattle.cedar_layout.specs.Layout.{◌·◌, group, line, line_or_nil, nest};
 ghost use Rattle.cedar_layout.specs.Value.{doc_of};
 ghost use Rattle.cedar_canonical.specs.Table.{space};
@@ -141,6 +141,24 @@ pub fn call_row<'src>(
     Ok(Document::Seq(vec![in alloc; opening, inside, Document::LineOrNil, closing]?))
 }
 
+/// `C("(") . nest(i, line_ . items) . line_ . C(")")`, and without arguments `C("(") . C(")")`
+#[inline(never)]
+pub fn arguments_row<'src>(
+    alloc: Global,
+    opening: Document<'src>,
+    items: Document<'src>,
+    closing: Document<'src>,
+    none: bool,
+    indent: isize,
+) -> Result<Document<'src>, AllocError>
+    ensures { IfOk result (λ d. doc_of d ≡ (if none then doc_of opening.entry · doc_of closing.entry else doc_of opening.entry · nest indent (line_or_nil · doc_of items.entry) · line_or_nil · doc_of closing.entry)) }
+{
+    if none {
+        return pair_row(alloc, opening, closing);
+    }
+    call_row(alloc, opening, items, closing, indent)
+}
+
 /// `group(C("(") . nest(1, inside) . C(")"))`
 #[inline(never)]
 pub fn parens_row<'src>(
@@ -182,6 +200,24 @@ pub fn record_row<'src>(
     let row = Document::Seq(vec![in alloc; Document::Line, inits, Document::Line]?);
     let inside = row.group(alloc)?;
     add_brackets(alloc, inside, opening, closing, indent)
+}
+
+/// `C("{") . nest(i, group(line . inits . line)) . C("}")`, and of no inits `C("{") . C("}")`
+#[inline(never)]
+pub fn entries_row<'src>(
+    alloc: Global,
+    opening: Document<'src>,
+    inits: Document<'src>,
+    closing: Document<'src>,
+    none: bool,
+    indent: isize,
+) -> Result<Document<'src>, AllocError>
+    ensures { IfOk result (λ d. doc_of d ≡ (if none then doc_of opening.entry · doc_of closing.entry else doc_of opening.entry · nest indent (group (line · doc_of inits.entry · line)) · doc_of closing.entry)) }
+{
+    if none {
+        return pair_row(alloc, opening, closing);
+    }
+    record_row(alloc, opening, inits, closing, indent)
 }
 
 /// `key . C(":") . space . value`

@@ -6,7 +6,7 @@ use Rattle.cedar_grammar.specs.Trees.{Label, none, leaf, branch, join}
 use Rattle.cedar_grammar.specs.TypedTrees.{plain_expr, if_expr, parts, yield, compare, has_or_like, is_type, is_in, member_of, literal, slot, reference, named, parens, list_empty, list_of, record_empty, record_of, init_of}
 use Rattle.cedar_tree.specs.Erased.{or_parts, expr_parts, relation_parts, add_parts, path_parts, addop_text, mult_parts, unary_parts, node, sign_leaves, primary_parts, access_parts}
 use Rattle.cedar_leaf_documents.proofs.Opened.{opened_tree, opened_token, starts_here, ends_here, in_turn, freely, rewritten, nothing_behind, Always, Behind, opened_leaf, opened_variant}
-use Rattle.cedar_expression_documents.proofs.Primaries.{seen_plain, opened_literal, seen_literal, seen_slot, seen_ref, seen_name, seen_brackets, seen_list, seen_record, list_found, record_found, in_brackets, lists, no_items, only, records, not_both, some_inits, tests_empty, tests_full, seen_if}
+use Rattle.cedar_expression_documents.proofs.Primaries.{seen_plain, opened_literal, seen_literal, seen_slot, seen_ref, seen_name, seen_brackets, seen_list, seen_record, list_found, record_found, if_not, if_so, in_brackets, lists, no_items, only, records, some_inits, tests_empty, tests_full, seen_if}
 use Rattle.cedar_layout.specs.Layout.{◌·◌, line, nest, group}
 use Rattle.cedar_layout.proofs.Values.{doc_of_line, doc_of_seq}
 use Rattle.cedar_leaf_documents.specs.Found.{has_its_tokens, places, has_own, Finds}
@@ -645,19 +645,12 @@ call_doc-returns-in_err-items-clause-found _ c =
 pub call_doc-returns-clause-found : goal.call_doc-returns-clause-found
 call_doc-returns-clause-found _ c = as_before (λ ps. has_its_tokens ps (item_trees Label.expr expr_parts c.args.arguments.now)) true c.args.tokens.now c.mark_at_start.new.tokens c.in_ok-open.ensures.kept c.in_ok-items.ensures.found
 
-pub call_doc-returns-then-is_empty-clause-shows : goal.call_doc-returns-then-is_empty-clause-shows
-call_doc-returns-then-is_empty-clause-shows _ c = λ t e.
-    let i = to_z w64 (of_z w64 c.args.indent) in
-    at_indent i c.args.indent t (to_z-of_z c.ranges.indent)
-    (call_shown i t c.args.span c.args.arguments.now _ _ _ _ _ _ _ _ true e c.in_ok-open.ensures.shows c.in_ok-items.ensures.none c.in_ok-items.ensures.shows c.in_ok-close.ensures.shows
-    (sym c.if-is_empty.true ∙ c.is_empty.ensures) c.in_ok-pair_row.ensures)
-
 pub call_doc-returns-clause-shows : goal.call_doc-returns-clause-shows
 call_doc-returns-clause-shows _ c = λ t e.
     let i = to_z w64 (of_z w64 c.args.indent) in
     at_indent i c.args.indent t (to_z-of_z c.ranges.indent)
-    (call_shown i t c.args.span c.args.arguments.now _ _ _ _ _ _ _ _ false e c.in_ok-open.ensures.shows c.in_ok-items.ensures.none c.in_ok-items.ensures.shows c.in_ok-close.ensures.shows
-    (sym c.if-is_empty.false ∙ c.is_empty.ensures) c.in_ok-call_row.ensures)
+    (call_shown i t c.args.span c.args.arguments.now _ _ _ _ _ _ _ _ c.is_empty-none.result e c.in_ok-open.ensures.shows c.in_ok-items.ensures.none c.in_ok-items.ensures.shows c.in_ok-close.ensures.shows
+    c.is_empty-none.ensures c.in_ok-arguments_row.ensures)
 
 -- primary_doc
 
@@ -758,26 +751,17 @@ record_doc-returns-in_err-items-clause-found _ c = missed _ _ _ _ c.from_residua
 pub record_doc-returns-clause-found : goal.record_doc-returns-clause-found
 record_doc-returns-clause-found _ c = as_before (λ s. has_its_tokens s (item_trees Label.rec_init init_parts c.args.inits.now)) _ _ _ c.in_ok-open.ensures.kept c.in_ok-items.ensures.found
 
-pub record_doc-returns-then-is_empty-clause-shows : goal.record_doc-returns-then-is_empty-clause-shows
-record_doc-returns-then-is_empty-clause-shows _ c (record_empty l r) at e =
-    let v = opened_variant Label.fields _ none (leaf l (leaf r none)) none e in
-    let p = opened_token _ _ l (leaf r none) v.0 in
-    let q = closed (item_trees Label.rec_init init_parts c.args.inits.now) _ none r p.1 in
-    let first = rewritten (l ∷ []) (nothing_behind l) (freely (l ∷ []) (c.in_ok-open.ensures.shows l (starts_here c.args.span l (r ∷ []) at) p.0)) in
-    let inside = freely [] (c.in_ok-items.ensures.none (no_items Label.rec_init init_parts c.args.inits.now q.0)) in
-    let last = rewritten (r ∷ []) (nothing_behind r) (freely (r ∷ []) (c.in_ok-close.ensures.shows r (ends_with c.args.span l [] r at) q.1)) in
-    λ before after st. let k = in_brackets (λ a b d. a · d) l [] r first inside last before after tt st in (c.in_ok-pair_row.ensures ∙ k.0, k.1)
-record_doc-returns-then-is_empty-clause-shows _ c (record_of l x r) at e =
-    let v = opened_variant Label.fields _ none (leaf l (join (parts kind_of_shown x) (leaf r none))) none e in
-    let q = closed (item_trees Label.rec_init init_parts c.args.inits.now) _ (parts kind_of_shown x) r (opened_token _ _ l (join (parts kind_of_shown x) (leaf r none)) v.0).1 in
-    absurd (not_both _ c.if-is_empty.true (tests_full c.args.inits.now _ _ refl c.is_empty.ensures (some_inits c.args.inits.now x q.0)))
-record_doc-returns-then-is_empty-clause-shows _ c t at e = absurd (only records _ t refl e)
-
 pub record_doc-returns-clause-shows : goal.record_doc-returns-clause-shows
 record_doc-returns-clause-shows _ c (record_empty l r) at e =
     let v = opened_variant Label.fields _ none (leaf l (leaf r none)) none e in
-    let q = closed (item_trees Label.rec_init init_parts c.args.inits.now) _ none r (opened_token _ _ l (leaf r none) v.0).1 in
-    absurd (not_both _ (tests_empty c.args.inits.now _ _ refl c.is_empty.ensures (no_items Label.rec_init init_parts c.args.inits.now q.0)) c.if-is_empty.false)
+    let p = opened_token _ _ l (leaf r none) v.0 in
+    let q = closed (item_trees Label.rec_init init_parts c.args.inits.now) _ none r p.1 in
+    let none_there = no_items Label.rec_init init_parts c.args.inits.now q.0 in
+    let first = rewritten (l ∷ []) (nothing_behind l) (freely (l ∷ []) (c.in_ok-open.ensures.shows l (starts_here c.args.span l (r ∷ []) at) p.0)) in
+    let inside = freely [] (c.in_ok-items.ensures.none none_there) in
+    let last = rewritten (r ∷ []) (nothing_behind r) (freely (r ∷ []) (c.in_ok-close.ensures.shows r (ends_with c.args.span l [] r at) q.1)) in
+    λ before after st. let k = in_brackets (λ a b d. a · d) l [] r first inside last before after tt st in
+    (c.in_ok-entries_row.ensures ∙ if_so _ _ (tests_empty c.args.inits.now _ _ refl c.is_empty-none.ensures none_there) ∙ k.0, k.1)
 record_doc-returns-clause-shows _ c (record_of l x r) at e =
     let w = to_z w64 (of_z w64 c.args.indent) in
     let fits : w ≡ c.args.indent = omega (arith, ints) in
@@ -789,7 +773,7 @@ record_doc-returns-clause-shows _ c (record_of l x r) at e =
     let closing = rewritten (r ∷ []) (nothing_behind r) (freely (r ∷ []) (c.in_ok-close.ensures.shows r (ends_with c.args.span l (yield x) r at) q.1)) in
     λ before after st.
     let k = in_brackets (λ a b d. a · nest w (group (line · b · line)) · d) l (yield x) r first inside closing before after tt st in
-    (c.in_ok-record_row.ensures ∙ k.0 ∙ ap (λ z. document z (record_of l x r)) fits, k.1)
+    (c.in_ok-entries_row.ensures ∙ if_not _ _ (tests_full c.args.inits.now _ _ refl c.is_empty-none.ensures (some_inits c.args.inits.now x q.0)) ∙ k.0 ∙ ap (λ z. document z (record_of l x r)) fits, k.1)
 record_doc-returns-clause-shows _ c t at e = absurd (only records _ t refl e)
 
 -- items_doc
