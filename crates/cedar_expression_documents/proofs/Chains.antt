@@ -6,7 +6,7 @@ use Rattle.cedar_tokens.specs.Listing.{token_value}
 use Rattle.cedar_tokens.specs.Tokens.{bare}
 use Rattle.cedar_tokens.specs.declared.token.Span.{Span}
 use Rattle.cedar_tokens.specs.declared.token.WrappedToken.{WrappedToken}
-use Rattle.std.specs.Prelude.{◌&&◌}
+use Rattle.std.specs.Prelude.{◌&&◌, Result, Ok, Err, IfOk}
 use Rattle.std.specs.declared.alloc.Global.{Global}
 use Rattle.std.specs.declared.vec.Vec.{Vec}
 use Rattle.cedar_grammar.specs.Trees.{Label, Forest, leaf, branch, none}
@@ -232,6 +232,13 @@ module _ (m k : NodeKind) (l : Label) (is : is_node l ≡ true) (sign : Shown �
       let r = finished k l is sign i before after (yield t) (inside t) place (d ∷ []) new others e (made_first {docs = d ∷ []} d v refl first t n before after st) in
       (sym (dot-nil (doc_of d)) ∙ r.0, r.1)
 
+  -- the same of a result
+  pub shows_alone : {E : Type 0} {place : Span} {p others : Erased} (result : Result Document E) (new : List Shown) → whole ≡ branch (l, Some place) p others → others ≡ none
+      → ((x : Tree Shown k) → IsNodeOf p x → (before after : List Shown) → old ≡ before ++ (yield x ++ after) → IfOk result (λ d. (doc_of d ≡ document i x) × (new ≡ (before ++ map emptied (yield x)) ++ after)))
+      → (t : Tree Shown m) → IsNodeOf whole t → (before after : List Shown) → old ≡ before ++ (yield t ++ after) → IfOk result (λ d. (doc_of d ≡ inside t) × (new ≡ (before ++ map emptied (yield t)) ++ after))
+  shows_alone (Ok d) new v e clause t n before after st = made_alone d v e (λ x at h. clause x h) t n before after st
+  shows_alone (Err f) new v e clause t n before after st = tt
+
 -- a document more
 pushed : (ds es : List Document) (d : Document) → es ≡ ds ++ d ∷ [] → docs_of es ≡ docs_of ds · doc_of d
 pushed ds es d e = ap docs_of e ∙ docs_of-push ds d
@@ -251,6 +258,10 @@ and_assoc : (a b c : Bool) → (a && (b && c)) ≡ ((a && b) && c)
 and_assoc true b c = refl
 and_assoc false b c = refl
 
+and_nothing : (b : Bool) → (b && true) ≡ b
+and_nothing true = refl
+and_nothing false = refl
+
 -- a first operand has its tokens, or not
 module _ (l : Label) (at : List Span) {w p q : Erased} {s : Span} (e : w ≡ branch (l, Some s) p q) where
   first_and_rest : has_its_tokens at w ≡ ((has_own at l (Some s) p && has_its_tokens at p) && has_its_tokens at q)
@@ -258,6 +269,9 @@ module _ (l : Label) (at : List Span) {w p q : Erased} {s : Span} (e : w ≡ bra
 
   pub first_found : (has_own at l (Some s) p && has_its_tokens at p) ≡ true → has_its_tokens at w ≡ has_its_tokens at q
   first_found h = first_and_rest ∙ and_true _ (has_its_tokens at q) h
+
+  pub found_alone : q ≡ none → has_its_tokens at w ≡ (has_own at l (Some s) p && has_its_tokens at p)
+  found_alone h = first_and_rest ∙ ap (λ z. (has_own at l (Some s) p && has_its_tokens at p) && has_its_tokens at z) h ∙ and_nothing _
 
   pub first_missed : (has_own at l (Some s) p && has_its_tokens at p) ≡ false → has_its_tokens at w ≡ false
   first_missed h = first_and_rest ∙ and_false _ (has_its_tokens at q) h

@@ -115,10 +115,27 @@ pub fn or_doc<'src>(
     ensures found { Finds result (has_its_tokens (places tokens.old) (or_parts or.now)) }
     ensures shows { (t : Tree Shown kind.ors) → IsNodeOf (or_parts or.now) t → Shows result tokens.old tokens.new (yield t) (document indent t) }
 {
-    let first = and_doc(alloc, &or.initial.inner, indent, tokens)?;
     if or.extended.is_empty() {
-        return Ok(first);
+        return and_doc(alloc, &or.initial.inner, indent, tokens);
     }
+    ors_doc(alloc, or, indent, tokens)
+}
+
+// The same where there is more than one, which needs more of the stack.
+#[cycle(documents)]
+#[inline(never)]
+fn ors_doc<'src>(
+    alloc: Global,
+    or: &Or<'src>,
+    indent: isize,
+    tokens: &mut [WrappedToken<'src>],
+) -> Made<'src>
+    requires { AreInOrder tokens.old }
+    ensures kept { KeepsTokens tokens.old tokens.new }
+    ensures found { Finds result (has_its_tokens (places tokens.old) (or_parts or.now)) }
+    ensures shows { (t : Tree Shown kind.ors) → IsNodeOf (or_parts or.now) t → Shows result tokens.old tokens.new (yield t) (document indent t) }
+{
+    let first = and_doc(alloc, &or.initial.inner, indent, tokens)?;
     let mut docs = vec![in alloc; first]?;
     let mut last = or.initial.span;
     for operand in &or.extended {
@@ -143,10 +160,27 @@ pub fn and_doc<'src>(
     ensures found { Finds result (has_its_tokens (places tokens.old) (and_parts and.now)) }
     ensures shows { (t : Tree Shown kind.ands) → IsNodeOf (and_parts and.now) t → Shows result tokens.old tokens.new (yield t) (document indent t) }
 {
-    let first = relation_doc(alloc, &and.initial.inner, indent, tokens)?;
     if and.extended.is_empty() {
-        return Ok(first);
+        return relation_doc(alloc, &and.initial.inner, indent, tokens);
     }
+    ands_doc(alloc, and, indent, tokens)
+}
+
+// The same where there is more than one, which needs more of the stack.
+#[cycle(documents)]
+#[inline(never)]
+fn ands_doc<'src>(
+    alloc: Global,
+    and: &And<'src>,
+    indent: isize,
+    tokens: &mut [WrappedToken<'src>],
+) -> Made<'src>
+    requires { AreInOrder tokens.old }
+    ensures kept { KeepsTokens tokens.old tokens.new }
+    ensures found { Finds result (has_its_tokens (places tokens.old) (and_parts and.now)) }
+    ensures shows { (t : Tree Shown kind.ands) → IsNodeOf (and_parts and.now) t → Shows result tokens.old tokens.new (yield t) (document indent t) }
+{
+    let first = relation_doc(alloc, &and.initial.inner, indent, tokens)?;
     let mut docs = vec![in alloc; first]?;
     let mut last = and.initial.span;
     for operand in &and.extended {

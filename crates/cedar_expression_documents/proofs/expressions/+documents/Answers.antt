@@ -16,7 +16,7 @@ use Rattle.cedar_leaf_documents.proofs.Found.{as_before, missed, and_false, and_
 use Rattle.cedar_tree.specs.NodeLists.{and_parts, member_parts, access_items, item_trees, init_parts}
 use Rattle.cedar_tree.specs.declared.tree.Expr.TheViews.{out-Or, out-Add, out-Mult, out-Unary}
 use Rattle.cedar_tree.proofs.Views.{and_items, relation_items, add_items, mult_items, view_call}
-use Rattle.cedar_expression_documents.proofs.Chains.{breaking_sign, or_chain, made_first, operand_more, made_all, made_alone, one_left, none_left, is_nil, first_found, first_missed, next_found, next_missed, and_chain, sign_and_line, inside_add, add_chain, add_group, inside_mult, mult_chain, mult_group}
+use Rattle.cedar_expression_documents.proofs.Chains.{breaking_sign, or_chain, made_first, operand_more, made_all, made_alone, shows_alone, found_alone, one_left, none_left, is_nil, first_found, first_missed, next_found, next_missed, and_chain, sign_and_line, inside_add, add_chain, add_group, inside_mult, mult_chain, mult_group}
 use Rattle.cedar_expression_documents.proofs.Operands.{or_view, and_view, add_view, mult_view}
 use Rattle.cedar_expression_documents.proofs.Relations.{alone, compared, placed, typed, worded, view_alone, view_compared, view_has, view_like, view_is, view_is_in, found_behind, needs_both, needs_operand, needs_type, first_common, first_has, first_like, first_is, first_missing, in_one_row}
 use Rattle.cedar_expression_documents.specs.Inside.Operands.{first_of}
@@ -313,25 +313,31 @@ is_in_doc-returns-clause-shows _ c o n p b f at g h k =
       r.1 ∙ ap (λ z. (before ++ map emptied (o ∷ z)) ++ after) (append_assoc (yield n) (p ∷ []) (yield b)),
     )
 
--- or_doc
+-- or_doc, and ors_doc where there is more than one
 
-pub or_doc-returns-in_err-first-clause-found : goal.or_doc-returns-in_err-first-clause-found
-or_doc-returns-in_err-first-clause-found _ c = missed c.from_residual.result _ _ _ c.from_residual.ensures.1 c.in_err-first.ensures.found (first_missed Label.and (places c.args.tokens.now) (or_view c.args.or.now))
+pub ors_doc-returns-in_err-first-clause-found : goal.ors_doc-returns-in_err-first-clause-found
+ors_doc-returns-in_err-first-clause-found _ c = missed c.from_residual.result _ _ _ c.from_residual.ensures.1 c.in_err-first.ensures.found (first_missed Label.and (places c.args.tokens.now) (or_view c.args.or.now))
 
 pub or_doc-returns-then-is_empty-clause-found : goal.or_doc-returns-then-is_empty-clause-found
 or_doc-returns-then-is_empty-clause-found _ c =
-    first_found Label.and (places c.args.tokens.now) (or_view c.args.or.now) c.in_ok-first.ensures.found ∙ ap (λ z. has_its_tokens (places c.args.tokens.now) (and_items z)) (is_nil (out-Or c.args.or.now).extended _ c.is_empty.ensures c.if-is_empty.true)
+    let alone = ap and_items (is_nil (out-Or c.args.or.now).extended _ c.is_empty.ensures c.if-is_empty.true) in
+    subst (Finds c.and_doc.result) (sym (found_alone Label.and (places c.args.tokens.now) (or_view c.args.or.now) alone)) c.and_doc.ensures.found
 
 pub or_doc-returns-then-is_empty-clause-shows : goal.or_doc-returns-then-is_empty-clause-shows
-or_doc-returns-then-is_empty-clause-shows _ c t n before after st =
+or_doc-returns-then-is_empty-clause-shows _ c t n =
     let i = to_z w64 (of_z w64 c.args.indent) in
     let w : i ≡ c.args.indent = omega (arith, ints) in
-    let r = made_alone kind.ors kind.ands Label.and refl breaking_sign i (document i) (or_chain i) (or_parts c.args.or.now) _ c.in_ok-first.first (or_view c.args.or.now)
-    (ap and_items (is_nil (out-Or c.args.or.now).extended _ c.is_empty.ensures c.if-is_empty.true)) (λ x at e. c.in_ok-first.ensures.shows x e) t n before after st in
-    (r.0 ∙ ap (λ z. document z t) w, r.1)
+    let alone = ap and_items (is_nil (out-Or c.args.or.now).extended _ c.is_empty.ensures c.if-is_empty.true) in
+    subst (λ z. Shows c.and_doc.result c.args.tokens.now c.and_doc.new.tokens (yield t) (document z t)) w
+    (shows_alone kind.ors kind.ands Label.and refl breaking_sign i (document i) (or_chain i) (or_parts c.args.or.now) _ c.and_doc.result _ (or_view c.args.or.now) alone c.and_doc.ensures.shows t n)
 
-pub or_doc-loop-operand-init : goal.or_doc-loop-operand-init
-or_doc-loop-operand-init _ c =
+pub or_doc-returns-clause-shows : goal.or_doc-returns-clause-shows
+or_doc-returns-clause-shows _ c t n =
+    let w : to_z w64 (of_z w64 c.args.indent) ≡ c.args.indent = omega (arith, ints) in
+    simp w at (c.ors_doc.ensures.shows t n)
+
+pub ors_doc-loop-operand-init : goal.ors_doc-loop-operand-init
+ors_doc-loop-operand-init _ c =
     let i = to_z w64 (of_z w64 c.args.indent) in
     record {
       kept = c.and_doc.ensures.kept;
@@ -339,14 +345,14 @@ or_doc-loop-operand-init _ c =
       shown = made_first kind.ors kind.ands Label.and refl breaking_sign i (document i) (or_chain i) (or_parts c.args.or.now) _ c.in_ok-first.first (or_view c.args.or.now) c.in_ok-docs.ensures.items (λ x at e. c.in_ok-first.ensures.shows x e);
     }
 
-pub or_doc-returns-in_err-and_doc-clause-found : goal.or_doc-returns-in_err-and_doc-clause-found
-or_doc-returns-in_err-and_doc-clause-found _ c =
+pub ors_doc-returns-in_err-and_doc-clause-found : goal.ors_doc-returns-in_err-and_doc-clause-found
+ors_doc-returns-in_err-and_doc-clause-found _ c =
     let left = one_left Label.and and_parts (λ _. codes "||") (λ x. x) (out-Or c.args.or.now).extended.items _ c.deref-operand-items.ensures.value c.loop-operand.operand-index c.operand-item.result c.loop-operand-test.true c.operand-item.is in
     missed c.from_residual-in_err-and_doc.result _ _ _ c.from_residual-in_err-and_doc.ensures.1 c.in_err-and_doc.ensures.found
     (λ h. c.loop-operand.invariant.found ∙ next_missed Label.and c.args.tokens.now c.breaking_sign.new.tokens (c.in_ok-breaking_sign.ensures.kept ∙ c.loop-operand.invariant.kept) left h)
 
-pub or_doc-loop-operand-preserved : goal.or_doc-loop-operand-preserved
-or_doc-loop-operand-preserved _ c =
+pub ors_doc-loop-operand-preserved : goal.ors_doc-loop-operand-preserved
+ors_doc-loop-operand-preserved _ c =
     let left = one_left Label.and and_parts (λ _. codes "||") (λ x. x) (out-Or c.args.or.now).extended.items _ c.deref-operand-items.ensures.value c.loop-operand.operand-index c.operand-item.result c.loop-operand-test.true c.operand-item.is in
     let i = to_z w64 (of_z w64 c.args.indent) in
     let kept = c.in_ok-breaking_sign.ensures.kept ∙ c.loop-operand.invariant.kept in
@@ -357,33 +363,39 @@ or_doc-loop-operand-preserved _ c =
           c.in_ok-push.ensures.items c.in_ok-push-2.ensures.items c.in_ok-breaking_sign.ensures.shows (λ x at e. c.in_ok-and_doc.ensures.shows x e) c.loop-operand.invariant.shown;
     }
 
-pub or_doc-returns-clause-shows : goal.or_doc-returns-clause-shows
-or_doc-returns-clause-shows _ c t n before after st =
+pub ors_doc-returns-clause-shows : goal.ors_doc-returns-clause-shows
+ors_doc-returns-clause-shows _ c t n before after st =
     let i = to_z w64 (of_z w64 c.args.indent) in
     let w : i ≡ c.args.indent = omega (arith, ints) in
     let left = none_left Label.and and_parts (λ _. codes "||") (λ x. x) (out-Or c.args.or.now).extended.items _ c.deref-operand-items.ensures.value c.loop-operand.operand-index c.loop-operand-test.false in
     let r = made_all kind.ors kind.ands Label.and refl breaking_sign i (document i) (or_chain i) (or_parts c.args.or.now) _ c.loop-operand.docs left c.loop-operand.invariant.shown t n before after st in
     (r.0 ∙ ap (λ z. document z t) w, r.1)
 
--- and_doc
+-- and_doc, and ands_doc where there is more than one
 
-pub and_doc-returns-in_err-first-clause-found : goal.and_doc-returns-in_err-first-clause-found
-and_doc-returns-in_err-first-clause-found _ c = missed c.from_residual.result _ _ _ c.from_residual.ensures.1 c.in_err-first.ensures.found (first_missed Label.relation (places c.args.tokens.now) (and_view c.args.and.now))
+pub ands_doc-returns-in_err-first-clause-found : goal.ands_doc-returns-in_err-first-clause-found
+ands_doc-returns-in_err-first-clause-found _ c = missed c.from_residual.result _ _ _ c.from_residual.ensures.1 c.in_err-first.ensures.found (first_missed Label.relation (places c.args.tokens.now) (and_view c.args.and.now))
 
 pub and_doc-returns-then-is_empty-clause-found : goal.and_doc-returns-then-is_empty-clause-found
 and_doc-returns-then-is_empty-clause-found _ c =
-    first_found Label.relation (places c.args.tokens.now) (and_view c.args.and.now) c.in_ok-first.ensures.found ∙ ap (λ z. has_its_tokens (places c.args.tokens.now) (relation_items z)) (is_nil c.args.and.now.extended _ c.is_empty.ensures c.if-is_empty.true)
+    let alone = ap relation_items (is_nil c.args.and.now.extended _ c.is_empty.ensures c.if-is_empty.true) in
+    subst (Finds c.relation_doc.result) (sym (found_alone Label.relation (places c.args.tokens.now) (and_view c.args.and.now) alone)) c.relation_doc.ensures.found
 
 pub and_doc-returns-then-is_empty-clause-shows : goal.and_doc-returns-then-is_empty-clause-shows
-and_doc-returns-then-is_empty-clause-shows _ c t n before after st =
+and_doc-returns-then-is_empty-clause-shows _ c t n =
     let i = to_z w64 (of_z w64 c.args.indent) in
     let w : i ≡ c.args.indent = omega (arith, ints) in
-    let r = made_alone kind.ands kind.relation Label.relation refl breaking_sign i (document i) (and_chain i) (and_parts c.args.and.now) _ c.in_ok-first.first (and_view c.args.and.now)
-    (ap relation_items (is_nil c.args.and.now.extended _ c.is_empty.ensures c.if-is_empty.true)) (λ x at e. c.in_ok-first.ensures.shows x e) t n before after st in
-    (r.0 ∙ ap (λ z. document z t) w, r.1)
+    let alone = ap relation_items (is_nil c.args.and.now.extended _ c.is_empty.ensures c.if-is_empty.true) in
+    subst (λ z. Shows c.relation_doc.result c.args.tokens.now c.relation_doc.new.tokens (yield t) (document z t)) w
+    (shows_alone kind.ands kind.relation Label.relation refl breaking_sign i (document i) (and_chain i) (and_parts c.args.and.now) _ c.relation_doc.result _ (and_view c.args.and.now) alone c.relation_doc.ensures.shows t n)
 
-pub and_doc-loop-operand-init : goal.and_doc-loop-operand-init
-and_doc-loop-operand-init _ c =
+pub and_doc-returns-clause-shows : goal.and_doc-returns-clause-shows
+and_doc-returns-clause-shows _ c t n =
+    let w : to_z w64 (of_z w64 c.args.indent) ≡ c.args.indent = omega (arith, ints) in
+    simp w at (c.ands_doc.ensures.shows t n)
+
+pub ands_doc-loop-operand-init : goal.ands_doc-loop-operand-init
+ands_doc-loop-operand-init _ c =
     let i = to_z w64 (of_z w64 c.args.indent) in
     record {
       kept = c.relation_doc.ensures.kept;
@@ -391,14 +403,14 @@ and_doc-loop-operand-init _ c =
       shown = made_first kind.ands kind.relation Label.relation refl breaking_sign i (document i) (and_chain i) (and_parts c.args.and.now) _ c.in_ok-first.first (and_view c.args.and.now) c.in_ok-docs.ensures.items (λ x at e. c.in_ok-first.ensures.shows x e);
     }
 
-pub and_doc-returns-in_err-relation_doc-clause-found : goal.and_doc-returns-in_err-relation_doc-clause-found
-and_doc-returns-in_err-relation_doc-clause-found _ c =
+pub ands_doc-returns-in_err-relation_doc-clause-found : goal.ands_doc-returns-in_err-relation_doc-clause-found
+ands_doc-returns-in_err-relation_doc-clause-found _ c =
     let left = one_left Label.relation relation_parts (λ _. codes "&&") (λ x. x) c.args.and.now.extended.items _ c.deref-operand-items.ensures.value c.loop-operand.operand-index c.operand-item.result c.loop-operand-test.true c.operand-item.is in
     missed c.from_residual-in_err-relation_doc.result _ _ _ c.from_residual-in_err-relation_doc.ensures.1 c.in_err-relation_doc.ensures.found
     (λ h. c.loop-operand.invariant.found ∙ next_missed Label.relation c.args.tokens.now c.breaking_sign.new.tokens (c.in_ok-breaking_sign.ensures.kept ∙ c.loop-operand.invariant.kept) left h)
 
-pub and_doc-loop-operand-preserved : goal.and_doc-loop-operand-preserved
-and_doc-loop-operand-preserved _ c =
+pub ands_doc-loop-operand-preserved : goal.ands_doc-loop-operand-preserved
+ands_doc-loop-operand-preserved _ c =
     let left = one_left Label.relation relation_parts (λ _. codes "&&") (λ x. x) c.args.and.now.extended.items _ c.deref-operand-items.ensures.value c.loop-operand.operand-index c.operand-item.result c.loop-operand-test.true c.operand-item.is in
     let i = to_z w64 (of_z w64 c.args.indent) in
     let kept = c.in_ok-breaking_sign.ensures.kept ∙ c.loop-operand.invariant.kept in
@@ -409,8 +421,8 @@ and_doc-loop-operand-preserved _ c =
           c.in_ok-push.ensures.items c.in_ok-push-2.ensures.items c.in_ok-breaking_sign.ensures.shows (λ x at e. c.in_ok-relation_doc.ensures.shows x e) c.loop-operand.invariant.shown;
     }
 
-pub and_doc-returns-clause-shows : goal.and_doc-returns-clause-shows
-and_doc-returns-clause-shows _ c t n before after st =
+pub ands_doc-returns-clause-shows : goal.ands_doc-returns-clause-shows
+ands_doc-returns-clause-shows _ c t n before after st =
     let i = to_z w64 (of_z w64 c.args.indent) in
     let w : i ≡ c.args.indent = omega (arith, ints) in
     let left = none_left Label.relation relation_parts (λ _. codes "&&") (λ x. x) c.args.and.now.extended.items _ c.deref-operand-items.ensures.value c.loop-operand.operand-index c.loop-operand-test.false in
@@ -885,11 +897,11 @@ add_doc-mult_doc-requires-in-loop-op _ c = (search (rules, Or.the_lemmas), order
 pub mult_doc-unary_doc-requires-in-loop-operand : goal.mult_doc-unary_doc-requires-in-loop-operand
 mult_doc-unary_doc-requires-in-loop-operand _ c = (search (rules, Or.the_lemmas), order_kept _ _ (c.in_ok-sign_and_line.ensures.kept ∙ c.loop-operand.invariant.kept) c.requires)
 
-pub and_doc-relation_doc-requires-in-loop-operand : goal.and_doc-relation_doc-requires-in-loop-operand
-and_doc-relation_doc-requires-in-loop-operand _ c = (search (rules, Or.the_lemmas), order_kept _ _ (c.in_ok-breaking_sign.ensures.kept ∙ c.loop-operand.invariant.kept) c.requires)
+pub ands_doc-relation_doc-requires-in-loop-operand : goal.ands_doc-relation_doc-requires-in-loop-operand
+ands_doc-relation_doc-requires-in-loop-operand _ c = (search (rules, Or.the_lemmas), order_kept _ _ (c.in_ok-breaking_sign.ensures.kept ∙ c.loop-operand.invariant.kept) c.requires)
 
-pub or_doc-and_doc-requires-in-loop-operand : goal.or_doc-and_doc-requires-in-loop-operand
-or_doc-and_doc-requires-in-loop-operand _ c = (search (rules, Or.the_lemmas), order_kept _ _ (c.in_ok-breaking_sign.ensures.kept ∙ c.loop-operand.invariant.kept) c.requires)
+pub ors_doc-and_doc-requires-in-loop-operand : goal.ors_doc-and_doc-requires-in-loop-operand
+ors_doc-and_doc-requires-in-loop-operand _ c = (search (rules, Or.the_lemmas), order_kept _ _ (c.in_ok-breaking_sign.ensures.kept ∙ c.loop-operand.invariant.kept) c.requires)
 
 pub member_doc-accesses_doc-requires : goal.member_doc-accesses_doc-requires
 member_doc-accesses_doc-requires _ c = (search (rules, Or.the_lemmas), order_kept _ _ (c.in_ok-item.ensures.kept) c.requires)

@@ -19,16 +19,16 @@ use Rattle.cedar_tree.specs.declared.tree.Expr as Expr
 use Rattle.cedar_tree.specs.declared.tree.RecInit as RecInit
 use Rattle.cedar_expression_documents.proofs.expressions.+documents.Given as goal
 
-abbrev pub invariant-or_doc-loop-operand : goal.invariant-or_doc-loop-operand
-invariant-or_doc-loop-operand l = record {
+abbrev pub invariant-ors_doc-loop-operand : goal.invariant-ors_doc-loop-operand
+invariant-ors_doc-loop-operand l = record {
   kept : KeepsTokens l.fn.tokens l.tokens;
   found : has_its_tokens (places l.fn.tokens) (or_parts l.or) ≡ has_its_tokens (places l.fn.tokens) (and_items (drop l.operand-index (out-Or l.or).extended.items));
   shown : MadeSoFar kind.ors kind.ands Label.and breaking_sign l.indent (document l.indent) (or_parts l.or) (map shown l.fn.tokens)
       l.last l.docs.items (map shown l.tokens) (and_items (drop l.operand-index (out-Or l.or).extended.items));
 }
 
-abbrev pub invariant-and_doc-loop-operand : goal.invariant-and_doc-loop-operand
-invariant-and_doc-loop-operand l = record {
+abbrev pub invariant-ands_doc-loop-operand : goal.invariant-ands_doc-loop-operand
+invariant-ands_doc-loop-operand l = record {
   kept : KeepsTokens l.fn.tokens l.tokens;
   found : has_its_tokens (places l.fn.tokens) (and_parts l.and) ≡ has_its_tokens (places l.fn.tokens) (relation_items (drop l.operand-index l.and.extended.items));
   shown : MadeSoFar kind.ands kind.relation Label.relation breaking_sign l.indent (document l.indent) (and_parts l.and) (map shown l.fn.tokens)
