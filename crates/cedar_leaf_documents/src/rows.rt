@@ -114,9 +114,8 @@ pub fn container_row<'src>(
     Document::Seq(row).group(alloc)
 }
 
-/// `C("(") . C(")")`, or with other brackets
-#[inline(never)]
-pub fn pair_row<'src>(
+// `C("(") . C(")")`, or with other brackets
+fn pair_row<'src>(
     alloc: Global,
     opening: Document<'src>,
     closing: Document<'src>,
@@ -126,9 +125,8 @@ pub fn pair_row<'src>(
     Ok(Document::Seq(vec![in alloc; opening, closing]?))
 }
 
-/// `C("(") . nest(i, line_ . items) . line_ . C(")")`
-#[inline(never)]
-pub fn call_row<'src>(
+// `C("(") . nest(i, line_ . items) . line_ . C(")")`
+fn call_row<'src>(
     alloc: Global,
     opening: Document<'src>,
     items: Document<'src>,
@@ -186,9 +184,8 @@ pub fn list_row<'src>(
     add_brackets(alloc, items, opening, closing, 1)
 }
 
-/// `C("{") . nest(i, group(line . inits . line)) . C("}")`
-#[inline(never)]
-pub fn record_row<'src>(
+// `C("{") . nest(i, group(line . inits . line)) . C("}")`
+fn record_row<'src>(
     alloc: Global,
     opening: Document<'src>,
     inits: Document<'src>,
