@@ -2,6 +2,7 @@ pub mod Checked
 pub mod Outputs
 pub mod Comparisons
 pub mod SamePolicies
+pub mod LaidOutTokens
 pub mod OutputPolicies
 pub mod Runs
 pub mod PieceOutputs

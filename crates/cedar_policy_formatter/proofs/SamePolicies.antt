@@ -1,13 +1,12 @@
 -- A text's output has the text's policies, so the check of a result never fails.
 use Rattle.std.proofs.Common.{◌≡◌, ℕ, ℤ, List, map, refl, sym, ap, ◌∙◌, subst}
-use Rattle.std.proofs.Common.{inl, inr}
 use Rattle.std.specs.Str.{IsUtf8}
 use Rattle.cedar_tokens.specs.Listing.{Decorated, Listing, IsListing, listing, token_value}
 use Rattle.cedar_tokens.specs.PlainList.{plain_list}
 use Rattle.cedar_grammar.specs.Trees.{Label, Forest, none, leaf, branch}
 use Rattle.cedar_grammar.specs.Grammar.{G, PolicySet}
 use Rattle.cedar_grammar.specs.TokenKinds.{kind_of}
-use Rattle.cedar_grammar.specs.Texts.{Accepted, greatest_depth}
+use Rattle.cedar_grammar.specs.Texts.{greatest_depth}
 use Rattle.cedar_grammar.specs.Placed.{Placed, placed, kind_of_placed}
 use Rattle.cedar_grammar.specs.TrailingCommas.{plain, without_trailing}
 use Rattle.cedar_grammar.proofs.RuleMaps.{relabel}
@@ -17,13 +16,10 @@ use Rattle.cedar_grammar.proofs.TreeLaws.{list_has_one_tree}
 use Rattle.cedar_tree.specs.Erased.{erase, without_spans, SameTree}
 use Rattle.cedar_tree.specs.Laws.{NodesHaveThePlainTexts}
 use Rattle.cedar_tree.specs.NodeTrees.{IsTreeOf, spanned}
-use Rattle.cedar_tree.specs.Refusals.{Refuses}
-use Rattle.cedar_tree.specs.declared.error.FormatError.{FormatError}
-use Rattle.cedar_tree.specs.declared.error.FormatError.TheVariants.{UnknownCharacter, UnfinishedString, NumberTooLarge, Grammar, TooDeep, NoDocument, Unsound, OutOfMemory}
 use Rattle.cedar_tree.specs.declared.tree.Policies.{Policies}
-use Rattle.cedar_canonical.specs.Canonical.{IsOutputOf, OutputHasTheList, OutputIsAccepted}
+use Rattle.cedar_canonical.specs.Canonical.{IsOutputOf, OutputHasTheList}
 use Rattle.cedar_canonical.proofs.Grammatical.{value_kind}
-use Rattle.cedar_policy_formatter.specs.Texts.{FailsCheck, plain_values}
+use Rattle.cedar_policy_formatter.specs.Texts.{plain_values}
 use Rattle.cedar_policy_formatter.proofs.Checked.{leaves_without_spans}
 
 -- a token's text by value
@@ -45,15 +41,19 @@ values_tree texts text p l t is_list =
     let e : without_spans (erase p) ≡ relabel value_of f = ap without_spans t.nodes ∙ spanless f in
     record { shape = subst (λ z. PolicySet kind_of greatest_depth z) (sym e) r.shape; leaves = leaves_without_spans (erase p) ∙ texts text p l t is_list }
 
--- the output has the values of the text's plain list
-pub same_values : OutputHasTheList → (w : ℕ) (i : ℤ) (x y : List ℕ) → IsUtf8 x → (o : IsOutputOf w i x y) (m : Listing) → IsListing y m → plain_values m ≡ plain_values o.list
-same_values has_list w i x y utf8 o m is_m =
+-- the output's tokens are those of the text's plain list by value
+pub listed_values : OutputHasTheList → (w : ℕ) (i : ℤ) (x y : List ℕ) → IsUtf8 x → (o : IsOutputOf w i x y) (m : Listing) → IsListing y m → map (λ (d : Decorated). token_value d.text) m.tokens ≡ plain_values o.list
+listed_values has_list w i x y utf8 o m is_m =
     let h = has_list w i x y m utf8 o is_m in
     let by : Decorated → Decorated = λ d. record { text = token_value d.text; leading = d.leading; trailing = d.trailing } in
-    ap (λ z. map (λ (d : Decorated). token_value d.text) z.tokens) h.1
-    ∙ sym (map_map (λ (d : Decorated). d.text) by m.tokens)
+    sym (map_map (λ (d : Decorated). d.text) by m.tokens)
     ∙ ap (λ z. map (λ (d : Decorated). d.text) z.tokens) h.0
     ∙ map_map (λ (d : Decorated). d.text) by (plain_list o.list.tokens)
+
+-- and so are those of its own plain list
+pub same_values : OutputHasTheList → (w : ℕ) (i : ℤ) (x y : List ℕ) → IsUtf8 x → (o : IsOutputOf w i x y) (m : Listing) → IsListing y m → plain_values m ≡ plain_values o.list
+same_values has_list w i x y utf8 o m is_m =
+    ap (λ z. map (λ (d : Decorated). token_value d.text) z.tokens) (has_list w i x y m utf8 o is_m).1 ∙ listed_values has_list w i x y utf8 o m is_m
 
 module _ (texts : NodesHaveThePlainTexts) (has_list : OutputHasTheList) (w : ℕ) (i : ℤ) (x y : List ℕ) (utf8 : IsUtf8 x) (o : IsOutputOf w i x y) where
   -- so it has the text's policies
@@ -64,15 +64,3 @@ module _ (texts : NodesHaveThePlainTexts) (has_list : OutputHasTheList) (w : ℕ
       let g = values_tree texts y p m b is_m in
       list_has_one_tree kind_of greatest_depth greatest_depth (plain_values o.list) (without_spans (erase p)) (without_spans (erase t))
       (subst (λ z. G kind_of greatest_depth (without_spans (erase p)) z) (same_values has_list w i x y utf8 o m is_m) g) (values_tree texts x t o.list a o.is_list)
-
-  -- a check of it can only want memory
-  pub never_fails : OutputIsAccepted → Accepted x → (t : Policies) (e : FormatError) → IsTreeOf x t → FailsCheck y t e → Refuses x e
-  never_fails accepted a t OutOfMemory b f = tt
-  never_fails accepted a t Unsound b (inl n) = absurd (n (accepted w i x y utf8 a o))
-  never_fails accepted a t Unsound b (inr (p, q, s)) = absurd (s (same_policies t p b q))
-  never_fails accepted a t (UnknownCharacter at) b f = absurd f
-  never_fails accepted a t (UnfinishedString at) b f = absurd f
-  never_fails accepted a t (NumberTooLarge at) b f = absurd f
-  never_fails accepted a t (Grammar at) b f = absurd f
-  never_fails accepted a t (TooDeep at) b f = absurd f
-  never_fails accepted a t NoDocument b f = absurd f

@@ -21,9 +21,7 @@ ghost use Rattle.cedar_policy_formatter.specs.Inside.Moved.{IsPlacedWithin, move
 ghost use Rattle.cedar_tree.specs.Refusals.{Refuses};
 ghost use Rattle.cedar_policy_formatter.specs.Texts.{IsTextOf, KeepsPolicies, FailsCheck};
 
-use cedar_cst::cst::laws::{
-    accepted_is_not_refused, nodes_have_the_plain_texts, tree_is_of_accepted,
-};
+use cedar_cst::cst::laws::{accepted_is_not_refused, tree_is_of_accepted};
 use cedar_cst::cst::{FormatError, Node, Policies, Policy, parse_at_once, same_tree};
 use cedar_documents::config::{Config, Context};
 use cedar_documents::doc::Doc;
@@ -36,7 +34,8 @@ use cedar_layout::layout::render;
 use cedar_layout::utils::remove_empty_lines;
 use cedar_pieces::pieces::first_piece;
 use cedar_reading::lexeme::check_tokens;
-use cedar_tokens::lexer::{drop_trailing_commas, get_token_stream, listing_is_unique};
+use cedar_same_tokens::check::has_tokens;
+use cedar_tokens::lexer::{drop_trailing_commas, listing_is_unique, split_token_stream};
 use cedar_tokens::token::{Comments, WrappedToken, get_comment};
 use std::alloc::{AllocError, Global};
 
@@ -89,12 +88,8 @@ fn format_piece(alloc: Global, ps: &str, config: &Config) -> Result<String, Form
     ensures output { IfOk result (λ out. IsOutputOf config.now.line_width config.now.indent_width ps.now (string_bytes out)) }
 {
     tree_is_of_accepted();
-    nodes_have_the_plain_texts();
-    outputs_are_canonical();
     let tree = parse_at_once(alloc, ps)?;
-    let text = lay_out(alloc, ps, &tree, config)?;
-    soundness_check(alloc, text.as_str(), &tree)?;
-    Ok(text)
+    lay_out(alloc, ps, tree, config)
 }
 
 // The refusal of a text that stands from the byte `at` to the byte `end`, behind an accepted one.
@@ -164,34 +159,40 @@ pub fn same_layout(alloc: Global, a: &str, b: &str, config: &Config) -> Result<b
     Ok(first.as_str() == second.as_str())
 }
 
-// The layout of a text with this tree.
+// The layout of a text with this tree, each policy of which is let go of before it is laid out. Last, the layout's tokens are
+// held against the text's.
 fn lay_out<'src>(
     alloc: Global,
     ps: &'src str,
-    tree: &Policies<'src>,
+    tree: Policies<'src>,
     config: &Config,
 ) -> Result<String, FormatError>
-    ensures { IsTreeOf ps.now tree.now → MatchResult result (λ out. IsOutputOf config.now.line_width config.now.indent_width ps.now (string_bytes out)) IsMemory }
+    requires { IsTreeOf ps.now tree }
+    ensures { MatchResult result (λ out. IsOutputOf config.now.line_width config.now.indent_width ps.now (string_bytes out)) IsMemory }
 {
+    tree_is_of_accepted();
+    outputs_are_canonical();
     let (tokens, closing) = plain_stream(alloc, ps)?;
     let mut context = Context { config, tokens };
     let mut text = joined_policies(alloc, tree, &mut context)?;
     push_closing(true, closing, &mut text)?;
-    Ok(text)
+    if has_tokens(text.as_str(), &context.tokens) {
+        Ok(text)
+    } else {
+        Err(FormatError::Unsound)
+    }
 }
 
-// The tokens of a text without trailing commas, and its closing comments.
+// The tokens of a text that splits, without trailing commas, and its closing comments.
 fn plain_stream<'src>(
     alloc: Global,
     ps: &'src str,
-) -> Result<(Vec<WrappedToken<'src>>, Comments<'src>), FormatError>
+) -> Result<(Vec<WrappedToken<'src>>, Comments<'src>), AllocError>
+    requires { Splits ps.now }
     ensures order { IfOk result (λ p. AreInOrder p.0.items) }
     ensures stream { IfOk result (λ p. IsPlainStream ps.now p.0.items (comments_left p.1)) }
-    ensures refused { Splits ps.now → IfErr result IsMemory }
 {
-    let Some((mut tokens, closing)) = get_token_stream(alloc, ps)? else {
-        return Err(FormatError::NoDocument);
-    };
+    let (mut tokens, closing) = split_token_stream(alloc, ps)?;
     drop_trailing_commas(alloc, &mut tokens)?;
     Ok((tokens, closing))
 }
@@ -199,22 +200,22 @@ fn plain_stream<'src>(
 // The layouts of the policies, with an empty line between them.
 fn joined_policies<'src>(
     alloc: Global,
-    tree: &Policies<'src>,
+    tree: Policies<'src>,
     context: &mut Context<'_, 'src>,
 ) -> Result<String, FormatError>
     requires { AreInOrder context.old.tokens.items }
     ensures order { AreInOrder context.new.tokens.items }
     ensures kept { KeepsTokens context.old.tokens.items context.new.tokens.items }
     ensures config { context.new.config ≡ context.old.config }
-    ensures joined { (ps : List (Clause Shown kind.policy)) → erased.policy_trees tree.now.policies.items ≡ nodes_of (policy_trees kind_of_shown ps) → map shown context.old.tokens.items ≡ flat_map part_yield ps
+    ensures joined { (ps : List (Clause Shown kind.policy)) → erased.policy_trees tree.entry.policies.items ≡ nodes_of (policy_trees kind_of_shown ps) → map shown context.old.tokens.items ≡ flat_map part_yield ps
         → MatchResult result (λ out. AreJoined context.old.config.now.line_width context.old.config.now.indent_width ps (string_bytes out)) IsMemory }
 {
     let mut text = String::new(alloc);
     let mut is_first = true;
-    for policy in &tree.policies {
+    for policy in tree.policies {
+        let layout = policy_text(alloc, policy, context)?;
         push_gap(is_first, &mut text)?;
         is_first = false;
-        let layout = policy_text(alloc, policy, context)?;
         text.push_str(layout.as_str())?;
     }
     Ok(text)
@@ -230,21 +231,23 @@ fn push_gap(is_first: bool, text: &mut String) -> Result<(), AllocError>
     Ok(())
 }
 
-// The layout of one policy, without empty lines.
+// The layout of one policy, without empty lines. The policy is let go of before its document is laid out.
 fn policy_text<'src>(
     alloc: Global,
-    policy: &Node<Policy<'src>>,
+    policy: Node<Policy<'src>>,
     context: &mut Context<'_, 'src>,
 ) -> Result<String, FormatError>
     requires { AreInOrder context.old.tokens.items }
     ensures order { AreInOrder context.new.tokens.items }
     ensures kept { KeepsTokens context.old.tokens.items context.new.tokens.items }
     ensures config { context.new.config ≡ context.old.config }
-    ensures text { (p : Clause Shown kind.policy) → IsAt policy.now.span (part_yield p) → IsPartOf (erased.policy_parts policy.now.inner) p → (before after : List Shown) → map shown context.old.tokens.items ≡ before ++ (part_yield p ++ after)
+    ensures text { (p : Clause Shown kind.policy) → IsAt policy.entry.span (part_yield p) → IsPartOf (erased.policy_parts policy.entry.inner) p → (before after : List Shown) → map shown context.old.tokens.items ≡ before ++ (part_yield p ++ after)
         → MatchResult result (λ out. IsPolicyText context.old.config.now.line_width context.old.config.now.indent_width p (string_bytes out) × (map shown context.new.tokens.items ≡ (before ++ map emptied (part_yield p)) ++ after)) IsMemory }
 {
     let width = context.config.line_width;
-    let Some(doc) = policy.to_doc(alloc, context)? else {
+    let made = policy.to_doc(alloc, context);
+    drop(policy);
+    let Some(doc) = made? else {
         return Err(FormatError::NoDocument);
     };
     let mut layout = String::new(alloc);

@@ -31,8 +31,8 @@ fn all_digits(bytes: &[u8]) -> bool
     bytes.iter().all(|byte| byte.is_ascii_digit())
 }
 
-// Whether the text is a number.
-fn is_number(text: &str) -> bool
+/// Whether the text is a number: digits, one or more.
+pub fn is_number(text: &str) -> bool
     ensures { result ≡ is_number text.now }
 {
     match text.as_bytes().split_first() {

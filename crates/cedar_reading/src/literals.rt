@@ -46,8 +46,8 @@ pub fn literal_primary<'src>(literal: Literal<'src>, span: Span) -> Node<Primary
     }
 }
 
-// The digits without leading zeros, and `0` for zero.
-fn without_zeros(digits: &str) -> &str
+/// The digits without leading zeros, and `0` for zero.
+pub fn without_zeros(digits: &str) -> &str
     ensures { result.now ≡ without_zeros digits.now }
 {
     let mut rest = digits;

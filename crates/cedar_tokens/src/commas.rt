@@ -5,7 +5,7 @@ ghost use Rattle.std.specs.Prelude.{◌+◌, ◌&&◌, not, Option, true, false,
 ghost use Rattle.std.specs.Option.{option_map, option_to_list};
 ghost use Rattle.cedar_tokens.specs.Places.{AreInOrder};
 ghost use Rattle.cedar_tokens.specs.PlainList.{with_trailing_of};
-ghost use Rattle.cedar_tokens.specs.Inside.MovedLines.{moved_lines, lines_for, leaves, lines_of, lines_left, trailing_before, with_lines, HasNext, Follows, LeftToToken, MovedToBracket};
+ghost use Rattle.cedar_tokens.specs.Inside.MovedLines.{has_trailing_comma, moved_lines, lines_for, leaves, lines_of, lines_left, trailing_before, with_lines, HasNext, Follows, LeftToToken, MovedToBracket};
 ghost use Rattle.cedar_tokens.specs.Tokens.{bare, decorated, leading_lines, trailing_text, token_text};
 
 use crate::token::{Comment, WrappedToken, get_comment};
@@ -17,8 +17,8 @@ use std::vec::IntoIter;
 ///
 /// Its comments stay between the same neighbours. Where no comment stands between the token before and the comma, that
 /// token gets the comma's trailing text. Else the bracket's lines begin with the comma's leading lines and the comments
-/// of its trailing text. Spans stay as they are, so tokens in order stay in order. All memory is taken first: after a
-/// refusal `tokens` is as before.
+/// of its trailing text. Spans stay as they are, so tokens in order stay in order. All memory is taken first, and none where no
+/// trailing comma stands: after a refusal `tokens` is as before.
 pub fn drop_trailing_commas(
     alloc: Global,
     tokens: &mut Vec<WrappedToken<'_>>,
@@ -28,11 +28,28 @@ pub fn drop_trailing_commas(
     ensures order { AreInOrder tokens.old.items → AreInOrder tokens.new.items }
     ensures err { OnErr result (tokens.new.items ≡ tokens.old.items) }
 {
+    if !has_trailing_comma(tokens) {
+        return Ok(());
+    }
     let moved = all_moved_lines(alloc, tokens)?;
     let kept = Vec::with_capacity(alloc, tokens.len())?;
     let all = mem::replace(tokens, Vec::new(alloc));
     *tokens = without_trailing_commas(all, moved, kept);
     Ok(())
+}
+
+// Whether one of the tokens is a trailing comma.
+fn has_trailing_comma(tokens: &[WrappedToken<'_>]) -> bool
+    ensures { result ≡ has_trailing_comma tokens.now }
+{
+    let mut after_comma = false;
+    for token in tokens {
+        if after_comma && is_closing_bracket(token) {
+            return true;
+        }
+        after_comma = is_comma(token);
+    }
+    false
 }
 
 fn is_comma(token: &WrappedToken<'_>) -> bool

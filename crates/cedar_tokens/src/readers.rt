@@ -90,14 +90,19 @@ impl<'src> TokenReader<'src> {
     {
         match first_fault(text) {
             Some(_) => None,
-            None => {
-                let (leading, ahead) = text.split_at(gap_len(text));
-                Some(TokenReader {
-                    text,
-                    leading,
-                    ahead,
-                })
-            }
+            None => Some(TokenReader::of_split(text)),
+        }
+    }
+
+    // A reader that has given nothing of `text`, which splits.
+    pub(crate) fn of_split(text: &'src str) -> TokenReader<'src>
+        ensures { (l : Listing) (spans : List Span) → IsListing text.now l → AreTokenSpans text.now spans → HasLeft text.now result l spans }
+    {
+        let (leading, ahead) = text.split_at(gap_len(text));
+        TokenReader {
+            text,
+            leading,
+            ahead,
         }
     }
 

@@ -1,5 +1,5 @@
 -- The lines that brackets take over from trailing commas. Only contracts of private functions cite these.
-use Rattle.std.specs.Prelude.{ℕ, List, [], ◌∷◌, ◌++◌, Bool, false, ◌&&◌, not, if◌then◌else◌, Option, Some, None, ◌≡◌, map}
+use Rattle.std.specs.Prelude.{ℕ, List, [], ◌∷◌, ◌++◌, Bool, false, ◌&&◌, ◌||◌, not, if◌then◌else◌, Option, Some, None, ◌≡◌, map}
 use Rattle.cedar_tokens.specs.Listing.{Decorated, comments}
 use Rattle.std.specs.Borrow.{Bor}
 use Rattle.std.specs.Option.{option_map}
@@ -8,8 +8,14 @@ use Rattle.std.specs.Vec.Iter.{into_iter_items}
 use Rattle.std.specs.declared.alloc.Global.{Global}
 use Rattle.std.specs.declared.vec.IntoIter.{IntoIter}
 use Rattle.cedar_tokens.specs.PlainList.{is_empty, is_trailing_comma, with_trailing_of, with_lines_of}
-use Rattle.cedar_tokens.specs.Tokens.{trailing_text}
+use Rattle.cedar_tokens.specs.Tokens.{decorated, trailing_text}
 use Rattle.cedar_tokens.specs.declared.token.WrappedToken.{WrappedToken}
+
+-- whether one of the tokens is a trailing comma
+abbrev pub has_trailing_comma : List WrappedToken → Bool
+has_trailing_comma [] = false
+has_trailing_comma (c ∷ []) = false
+has_trailing_comma (c ∷ (b ∷ ts)) = is_trailing_comma (decorated c) (decorated b) || has_trailing_comma (b ∷ ts)
 
 -- whether the comma c leaves its trailing text to the token before it, whose trailing text is given
 abbrev pub leaves : Option (List ℕ) → Decorated → Bool

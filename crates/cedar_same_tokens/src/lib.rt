@@ -1,0 +1,4 @@
+//! Whether a text has given tokens, numbers by value.
+#![tactic(auto)]
+
+pub mod check;
