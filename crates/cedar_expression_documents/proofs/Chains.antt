@@ -17,7 +17,7 @@ use Rattle.cedar_layout.specs.Lookups.{Shown, emptied}
 use Rattle.cedar_layout.specs.Value.{doc_of, docs_of}
 use Rattle.cedar_layout.specs.declared.layout.Document.{Document}
 use Rattle.cedar_layout.specs.declared.layout.Document.TheViews.{Seq}
-use Rattle.cedar_layout.proofs.Values.{doc_of_seq, dot_assoc, dot-nil, docs_of-push}
+use Rattle.cedar_layout.proofs.Values.{doc_of_seq, dot_assoc, dot-nil}
 use Rattle.cedar_tree.specs.Erased.{Erased}
 use Rattle.cedar_tree.specs.NodeLists.{operand_trees}
 use Rattle.cedar_tree.specs.NodeTrees.{is_node}
@@ -27,6 +27,7 @@ use Rattle.cedar_canonical.specs.Table as table
 use Rattle.cedar_leaf_documents.specs.NodeDocuments.{IsAt, IsNodeOf, as_leaf, document, end_of_tokens, kind_of_shown, nodes_of, text_of}
 use Rattle.cedar_leaf_documents.specs.Found.{has_its_tokens, has_own, places}
 use Rattle.cedar_leaf_documents.proofs.Found.{and_false, and_true, as_before}
+use Rattle.cedar_leaf_documents.proofs.Put.{pushed}
 use Rattle.cedar_leaf_documents.proofs.Opened.{Always, Behind, GivesIf, ends_here, freely, in_turn, opened_token, opened_tree}
 
 -- signs, each with the operand behind it
@@ -81,9 +82,9 @@ pub and_chain : (i : ℤ) (t : Tree Shown ands) → IsChain relation Label.relat
 and_chain i (ands_one x) = lone relation Label.relation breaking_sign i x
 and_chain i (ands_more x o m) = longer relation Label.relation breaking_sign i x o (yield m) (parts kind_of_shown m) (document i m) (and_chain i m)
 
--- with a space and a line round the sign
-spaced : (a l d : Doc) → a · space · l · line · d ≡ a · (space · l · line) · d
-spaced a l d = ap (λ z. a · space · z) (sym (dot_assoc l line d))
+-- with a space before the sign, and something behind it
+pub spaced : (a l m d : Doc) → a · space · l · m · d ≡ a · (space · l · m) · d
+spaced a l m d = ap (λ z. a · space · z) (sym (dot_assoc l m d))
 
 retold : {k : NodeKind} {l : Label} {sign : Shown → Doc} {i : ℤ} {ts : List Shown} {f : Forest Label Shown} (d e : Doc) → e ≡ d → IsChain k l sign i ts f d → IsChain k l sign i ts f e
 retold d e h c = record { first = c.first; rest = c.rest; tokens = c.tokens; nodes = c.nodes; doc = h ∙ c.doc }
@@ -91,13 +92,13 @@ retold d e h c = record { first = c.first; rest = c.rest; tokens = c.tokens; nod
 sum_chain : (i : ℤ) (t : Tree Shown sums) → IsChain mult Label.mult sign_and_line i (yield t) (parts kind_of_shown t) (document i t)
 sum_chain i (sums_one x) = lone mult Label.mult sign_and_line i x
 sum_chain i (sums_more x o m) =
-    retold (document i x · sign_and_line o · document i m) (document i (sums_more x o m)) (spaced (document i x) (table.leaf (as_leaf o)) (document i m))
+    retold (document i x · sign_and_line o · document i m) (document i (sums_more x o m)) (spaced (document i x) (table.leaf (as_leaf o)) line (document i m))
     (longer mult Label.mult sign_and_line i x o (yield m) (parts kind_of_shown m) (document i m) (sum_chain i m))
 
 product_chain : (i : ℤ) (t : Tree Shown products) → IsChain unary Label.unary sign_and_line i (yield t) (parts kind_of_shown t) (document i t)
 product_chain i (products_one x) = lone unary Label.unary sign_and_line i x
 product_chain i (products_more x o m) =
-    retold (document i x · sign_and_line o · document i m) (document i (products_more x o m)) (spaced (document i x) (table.leaf (as_leaf o)) (document i m))
+    retold (document i x · sign_and_line o · document i m) (document i (products_more x o m)) (spaced (document i x) (table.leaf (as_leaf o)) line (document i m))
     (longer unary Label.unary sign_and_line i x o (yield m) (parts kind_of_shown m) (document i m) (product_chain i m))
 
 -- the document of these operands without the group round them
@@ -225,32 +226,37 @@ module _ (m k : NodeKind) (l : Label) (is : is_node l ≡ true) (sign : Shown �
       let r = finished k l is sign i before after (yield t) (inside t) last docs.items new left e (h t n before after st) in
       (doc_of_seq docs ∙ r.0, r.1)
 
-  -- one operand alone
-  pub made_alone : {place : Span} {p others : Erased} {new : List Shown} (d : Document) → whole ≡ branch (l, Some place) p others → others ≡ none → ShowsEach k place p (document i) (doc_of d) old new
-      → (t : Tree Shown m) → IsNodeOf whole t → (before after : List Shown) → old ≡ before ++ (yield t ++ after) → (doc_of d ≡ inside t) × (new ≡ (before ++ map emptied (yield t)) ++ after)
-  made_alone {place = place} {others = others} {new = new} d v e first t n before after st =
-      let r = finished k l is sign i before after (yield t) (inside t) place (d ∷ []) new others e (made_first {docs = d ∷ []} d v refl first t n before after st) in
-      (sym (dot-nil (doc_of d)) ∙ r.0, r.1)
+  -- one operand alone, with something round it
+  pub shows_within : {E : Type 0} {place : Span} {p others : Erased} (F : Doc → Doc) (result : Result Document E) (new : List Shown) → whole ≡ branch (l, Some place) p others → others ≡ none
+      → ((x : Tree Shown k) → IsAt place (yield x) → IsNodeOf p x → (before after : List Shown) → old ≡ before ++ (yield x ++ after) → IfOk result (λ d. (doc_of d ≡ F (document i x)) × (new ≡ (before ++ map emptied (yield x)) ++ after)))
+      → (t : Tree Shown m) → IsNodeOf whole t → (before after : List Shown) → old ≡ before ++ (yield t ++ after) → IfOk result (λ d. (doc_of d ≡ F (inside t)) × (new ≡ (before ++ map emptied (yield t)) ++ after))
+  shows_within {place = place} {p = p} {others = others} F (Ok d) new v e clause t n before after st =
+      let c = chain t in
+      let o = opened_tree l place p others c.first (rest_parts l c.rest) is (sym v ∙ n ∙ ap nodes_of c.nodes) in
+      let a = alone c.rest (sym e ∙ o.2) in
+      let tokens = c.tokens ∙ ap (λ z. yield c.first ++ rest_yield z) a ∙ append-nil (yield c.first) in
+      let r = clause c.first o.1 o.0 before after (st ∙ ap (λ z. before ++ (z ++ after)) tokens) in
+      (r.0 ∙ ap F (sym (c.doc ∙ ap (λ z. document i c.first · rest_document sign i z) a ∙ dot-nil (document i c.first))), r.1 ∙ ap (λ z. (before ++ map emptied z) ++ after) (sym tokens))
+    where
+      alone : (rest : Rest k) → none ≡ nodes_of (rest_parts l rest) → rest ≡ []
+      alone [] h = refl
+      alone (x ∷ r) h = absurd cc
+  shows_within F (Err f) new v e clause t n before after st = tt
 
-  -- the same of a result
+  -- one operand alone
   pub shows_alone : {E : Type 0} {place : Span} {p others : Erased} (result : Result Document E) (new : List Shown) → whole ≡ branch (l, Some place) p others → others ≡ none
       → ((x : Tree Shown k) → IsNodeOf p x → (before after : List Shown) → old ≡ before ++ (yield x ++ after) → IfOk result (λ d. (doc_of d ≡ document i x) × (new ≡ (before ++ map emptied (yield x)) ++ after)))
       → (t : Tree Shown m) → IsNodeOf whole t → (before after : List Shown) → old ≡ before ++ (yield t ++ after) → IfOk result (λ d. (doc_of d ≡ inside t) × (new ≡ (before ++ map emptied (yield t)) ++ after))
-  shows_alone (Ok d) new v e clause t n before after st = made_alone d v e (λ x at h. clause x h) t n before after st
-  shows_alone (Err f) new v e clause t n before after st = tt
-
--- a document more
-pushed : (ds es : List Document) (d : Document) → es ≡ ds ++ d ∷ [] → docs_of es ≡ docs_of ds · doc_of d
-pushed ds es d e = ap docs_of e ∙ docs_of-push ds d
+  shows_alone result new v e clause = shows_within (λ z. z) result new v e (λ x at. clause x)
 
 module _ (m k : NodeKind) (l : Label) (is : is_node l ≡ true) (sign : Shown → Doc) (i : ℤ) (inside : Tree Shown m → Doc) (whole : Erased) (old : List Shown) {last place : Span} {text : List ℕ} {p left others : Erased} {now mid new : List Shown} where
   -- a sign and an operand more
-  pub operand_more : {a b c : List Document} (chain : (t : Tree Shown m) → IsChain k l sign i (yield t) (parts kind_of_shown t) (inside t)) (s d : Document) → left ≡ leaf text (branch (l, Some place) p others)
-      → b ≡ a ++ s ∷ [] → c ≡ b ++ d ∷ []
-      → ((o : Shown) → text ≡ token_value (text_of o) → GivesIf (Behind last) (doc_of s) (sign o) now mid (o ∷ [])) → ShowsEach k place p (document i) (doc_of d) mid new
+  pub operand_more : {a c : List Document} (b : List Document) (chain : (t : Tree Shown m) → IsChain k l sign i (yield t) (parts kind_of_shown t) (inside t)) (s : Doc) (d : Document) → left ≡ leaf text (branch (l, Some place) p others)
+      → docs_of b ≡ docs_of a · s → c ≡ b ++ d ∷ []
+      → ((o : Shown) → text ≡ token_value (text_of o) → GivesIf (Behind last) s (sign o) now mid (o ∷ [])) → ShowsEach k place p (document i) (doc_of d) mid new
       → MadeSoFar m k l sign i inside whole old last a now left → MadeSoFar m k l sign i inside whole old place c new others
-  operand_more {a = a} {b = b} {c = c} chain s d v q r given clause h =
-      made_more m k l is sign i inside chain whole old {place = place} {p = p} a c (doc_of s) (doc_of d) v (pushed b c d r ∙ ap (λ z. z · doc_of d) (pushed a b s q) ∙ dot_assoc (docs_of a) (doc_of s) (doc_of d)) given clause h
+  operand_more {a = a} {c = c} b chain s d v q r given clause h =
+      made_more m k l is sign i inside chain whole old {place = place} {p = p} a c s (doc_of d) v (pushed b c d r ∙ ap (λ z. z · doc_of d) q ∙ dot_assoc (docs_of a) s (doc_of d)) given clause h
 
 -- ---- whose tokens are found
 

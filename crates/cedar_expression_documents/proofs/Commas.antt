@@ -10,7 +10,7 @@ use Rattle.cedar_layout.specs.Layout.{Doc, nil, line, ◌·◌}
 use Rattle.cedar_layout.specs.Lookups.{Shown, emptied}
 use Rattle.cedar_layout.specs.Value.{doc_of, docs_of}
 use Rattle.cedar_layout.specs.declared.layout.Document.{Document}
-use Rattle.cedar_layout.proofs.Values.{dot-nil, dot_assoc, docs_of-push}
+use Rattle.cedar_layout.proofs.Values.{dot-nil, dot_assoc}
 use Rattle.cedar_tree.specs.Erased.{Erased, expr_parts}
 use Rattle.cedar_tree.specs.NodeLists.{item_trees, more_trees, init_parts}
 use Rattle.cedar_tree.specs.NodeTrees.{is_node}
@@ -96,19 +96,20 @@ module _ (X : Type 0) (k : NodeKind) (l : Label) (inside : X → Erased) (i : �
       }
 
   -- one item more
-  pub next_item : (whole : List (Node X)) (before : Option Span) (n : Node X) (left ns : List (Node X)) (docs docs' c d : Doc) (old now mid new : List Shown) → left ≡ n ∷ ns → (whole ≡ [] → ⊥)
+  pub next_item : (whole : List (Node X)) (before : Option Span) (n : Node X) (left ns : List (Node X)) (docs more docs' d : Doc) (old now mid new : List Shown) → left ≡ n ∷ ns → (whole ≡ [] → ⊥)
       → Progress X k l inside i whole before left docs old now
-      → (before ≡ None → (b a : List Shown) → now ≡ b ++ a → (c ≡ nil) × (mid ≡ (b ++ []) ++ a))
-      → ((s : Span) → before ≡ Some s → IsComma s c now mid) → IsMade n d mid new → docs' ≡ (docs · c) · d
+      → (before ≡ None → (more ≡ docs) × (mid ≡ now))
+      → ((s : Span) → before ≡ Some s → (c : Doc) × (more ≡ docs · c) × IsComma s c now mid) → IsMade n d mid new → docs' ≡ more · d
       → Progress X k l inside i whole (Some n.span) ns docs' old new
-  next_item whole None n left ns docs docs' c d old now mid new e ne p hn hs hd q =
-      let r = hn refl [] now refl in
-      (ne, λ f row g b a st. first_stage n ns docs' d mid new hd (q ∙ ap (λ z. (z · c) · d) p.1 ∙ ap (λ z. z · d) r.0) f row (ap (item_trees l inside) (sym e ∙ p.0) ∙ g) b a (r.1 ∙ p.2 ∙ st))
-  next_item whole (Some s) n left ns docs docs' c d old now mid new e ne p hn hs hd q = (
+  next_item whole None n left ns docs more docs' d old now mid new e ne p hn hs hd q =
+      let r = hn refl in
+      (ne, λ f row g b a st. first_stage n ns docs' d mid new hd (q ∙ ap (λ z. z · d) (r.0 ∙ p.1)) f row (ap (item_trees l inside) (sym e ∙ p.0) ∙ g) b a (r.1 ∙ p.2 ∙ st))
+  next_item whole (Some s) n left ns docs more docs' d old now mid new e ne p hn hs hd q = (
     ne,
     λ f row g b a st.
         let y = p.1 f row g b a st in
-        next_stage s n ns docs docs' c d now mid new f row b a (hs s refl) hd q y.finished y.rest y.tokens (ap (more_trees l inside) (sym e) ∙ y.nodes) y.place y.shown_now y.made,
+        let r = hs s refl in
+        next_stage s n ns docs docs' r.0 d now mid new f row b a r.2 hd (q ∙ ap (λ z. z · d) r.1) y.finished y.rest y.tokens (ap (more_trees l inside) (sym e) ∙ y.nodes) y.place y.shown_now y.made,
   )
 
   last_stage : (s : Span) (docs : Doc) (now : List Shown) (f : Tree Shown k) (row : List (Shown × Tree Shown k)) (b a : List Shown) (finished : List Shown) (rest : List (Shown × Tree Shown k)) → yield f ++ row_yield row ≡ finished ++ row_yield rest
@@ -154,10 +155,6 @@ item_and_more {X = X} places l own inside xs j n e = ap (λ z. has_its_tokens pl
     first_or_more : (ns : List (Node X)) → has_its_tokens places (more_trees l inside ns) ≡ has_its_tokens places (item_trees l inside ns)
     first_or_more [] = refl
     first_or_more (m ∷ ns) = refl
-
--- two documents more
-pub pushed_two : (xs ys zs : List Document) (c d : Document) → ys ≡ xs ++ (c ∷ []) → zs ≡ ys ++ (d ∷ []) → docs_of zs ≡ (docs_of xs · doc_of c) · doc_of d
-pushed_two xs ys zs c d e f = ap docs_of (f ∙ ap (λ y. y ++ (d ∷ [])) e) ∙ docs_of-push (xs ++ (c ∷ [])) d ∙ ap (λ z. z · doc_of d) (docs_of-push xs c)
 
 -- ---- the items of typed trees
 

@@ -2,7 +2,7 @@
 //! after the other, `i` is the indentation of a level, `C(t)` a token between its comments.
 #![tactic(auto, using(cedar_tokens::proofs::KeptOrder::order_kept))]
 
-ghost use Rattle.std.specs.Prelude.{◌≡◌, ◌<◌, ◌∷◌, ◌++◌, ◌&&◌, ◌||◌, [], Some, codes, IfOk};
+ghost use Rattle.std.specs.Prelude.{◌≡◌, ◌<◌, ◌∷◌, ◌++◌, ◌&&◌, ◌||◌, [], if◌then◌else◌, Some, codes, IfOk};
 ghost use Rattle.cedar_tokens.specs.Listing.{token_value};
 ghost use Rattle.cedar_grammar.specs.Trees.{Label, branch, join, leaf, none};
 ghost use Rattle.cedar_grammar.specs.TypedTrees.{Tree, parens, yield};
@@ -27,11 +27,12 @@ use cedar_leaf_documents::names::{
     add_op_text, leaf_doc, literal_text, name_doc, ref_doc, rel_op_text, slot_text,
 };
 use cedar_leaf_documents::rows::{
-    arguments_row, below, comparison_row, container_row, entries_row, init_row, is_row,
-    keyword_row, list_row, parens_row, type_and_in_row,
+    arguments_row, below, entries_row, is_row, keyword_row, list_row, nested_row, parens_row,
+    type_and_in_row,
 };
 use cedar_leaf_documents::tokens::{
-    breaking_sign, comma_before, mark_after, mark_at_end, mark_at_start, sign_and_line,
+    mark_after, mark_at_end, mark_at_start, push_breaking_sign, push_colon, push_comma,
+    push_sign_and_line, push_spaced_sign,
 };
 use cedar_tokens::token::{Span, WrappedToken};
 use cedar_tree::tree::{
@@ -139,7 +140,7 @@ fn ors_doc<'src>(
     let mut docs = vec![in alloc; first]?;
     let mut last = or.initial.span;
     for operand in &or.extended {
-        docs.push(breaking_sign(alloc, "||", last, tokens)?)?;
+        push_breaking_sign(alloc, "||", last, tokens, &mut docs)?;
         docs.push(and_doc(alloc, &operand.inner, indent, tokens)?)?;
         last = operand.span;
     }
@@ -184,7 +185,7 @@ fn ands_doc<'src>(
     let mut docs = vec![in alloc; first]?;
     let mut last = and.initial.span;
     for operand in &and.extended {
-        docs.push(breaking_sign(alloc, "&&", last, tokens)?)?;
+        push_breaking_sign(alloc, "&&", last, tokens, &mut docs)?;
         docs.push(relation_doc(alloc, &operand.inner, indent, tokens)?)?;
         last = operand.span;
     }
@@ -207,12 +208,12 @@ pub fn relation_doc<'src>(
 {
     let first = first_doc(alloc, relation, indent, tokens)?;
     match relation {
-        Relation::Common { initial, extended } => match extended {
-            Some((op, other)) => {
-                comparison_doc(alloc, other, *op, initial.span, first, indent, tokens)
-            }
-            None => Ok(first),
-        },
+        Relation::Common { initial, extended } => {
+            let Some((op, other)) = extended else {
+                return Ok(first);
+            };
+            comparison_doc(alloc, other, *op, initial.span, first, indent, tokens)
+        }
         Relation::Has { target, field } => {
             keyword_doc(alloc, field, "has", target.span, first, indent, tokens)
         }
@@ -223,18 +224,13 @@ pub fn relation_doc<'src>(
             target,
             entity_type,
             in_entity,
-        } => match in_entity {
-            Some(entity) => is_in_doc(
-                alloc,
-                entity,
-                entity_type,
-                target.span,
-                first,
-                indent,
-                tokens,
-            ),
-            None => is_doc(alloc, entity_type, target.span, first, indent, tokens),
-        },
+        } => {
+            let before = target.span;
+            let Some(entity) = in_entity else {
+                return is_doc(alloc, entity_type, before, first, indent, tokens);
+            };
+            is_in_doc(alloc, entity, entity_type, before, first, indent, tokens)
+        }
     }
 }
 
@@ -278,9 +274,10 @@ fn comparison_doc<'src>(
     ensures shows { (o : Shown) (b : Tree Shown kind.add) → relop_text op ≡ token_value (text_of o) → IsNodeOf (add_parts right.now.inner) b
         → ShowsBehind before.end result tokens.old tokens.new (o ∷ yield b) (doc_of left.entry · space · leaf_of (as_leaf o) · space · document indent b) }
 {
-    let sign = mark_after(alloc, rel_op_text(op), before, Document::Nil, tokens)?;
-    let second = add_doc(alloc, &right.inner, indent, tokens)?;
-    Ok(comparison_row(alloc, left, sign, second)?)
+    let mut docs = vec![in alloc; left]?;
+    push_spaced_sign(alloc, rel_op_text(op), before, tokens, &mut docs)?;
+    docs.push(add_doc(alloc, &right.inner, indent, tokens)?)?;
+    Ok(Document::Seq(docs))
 }
 
 // group(left . line . C(op) . line . nest(i, b)), where the operator is `has` or `like`
@@ -349,7 +346,7 @@ fn is_in_doc<'src>(
 {
     let start = type_and_in_doc(alloc, entity_type, before, left, indent, tokens)?;
     let second = add_doc(alloc, &entity.inner, indent, tokens)?;
-    Ok(container_row(alloc, start, second, indent)?)
+    Ok(nested_row(alloc, start, second, indent)?)
 }
 
 // left . space . C("is") . space . nest(i, type) . line . C("in") . space
@@ -390,14 +387,49 @@ pub fn add_doc<'src>(
     ensures found { Finds result (has_its_tokens (places tokens.old) (add_parts add.now)) }
     ensures shows { (t : Tree Shown kind.add) → IsNodeOf (add_parts add.now) t → Shows result tokens.old tokens.new (yield t) (document indent t) }
 {
-    let first = mult_doc(alloc, &add.initial.inner, indent, tokens)?;
     if add.extended.is_empty() {
-        return Ok(first.group(alloc)?);
+        return lone_mult_doc(alloc, &add.initial.inner, indent, tokens);
     }
+    sum_doc(alloc, add, indent, tokens)
+}
+
+// group(e1)
+#[cycle(documents)]
+#[inline(never)]
+fn lone_mult_doc<'src>(
+    alloc: Global,
+    mult: &Mult<'src>,
+    indent: isize,
+    tokens: &mut [WrappedToken<'src>],
+) -> Made<'src>
+    requires { AreInOrder tokens.old }
+    ensures kept { KeepsTokens tokens.old tokens.new }
+    ensures found { Finds result (has_its_tokens (places tokens.old) (mult_parts mult.now)) }
+    ensures shows { (t : Tree Shown kind.mult) → IsNodeOf (mult_parts mult.now) t → Shows result tokens.old tokens.new (yield t) (group (document indent t)) }
+{
+    let only = mult_doc(alloc, mult, indent, tokens)?;
+    Ok(only.group(alloc)?)
+}
+
+// The same where there is more than one, which needs more of the stack.
+#[cycle(documents)]
+#[inline(never)]
+fn sum_doc<'src>(
+    alloc: Global,
+    add: &Add<'src>,
+    indent: isize,
+    tokens: &mut [WrappedToken<'src>],
+) -> Made<'src>
+    requires { AreInOrder tokens.old }
+    ensures kept { KeepsTokens tokens.old tokens.new }
+    ensures found { Finds result (has_its_tokens (places tokens.old) (add_parts add.now)) }
+    ensures shows { (t : Tree Shown kind.add) → IsNodeOf (add_parts add.now) t → Shows result tokens.old tokens.new (yield t) (document indent t) }
+{
+    let first = mult_doc(alloc, &add.initial.inner, indent, tokens)?;
     let mut docs = vec![in alloc; first]?;
     let mut last = add.initial.span;
     for (op, operand) in &add.extended {
-        docs.push(sign_and_line(alloc, add_op_text(*op), last, tokens)?)?;
+        push_sign_and_line(alloc, add_op_text(*op), last, tokens, &mut docs)?;
         docs.push(mult_doc(alloc, &operand.inner, indent, tokens)?)?;
         last = operand.span;
     }
@@ -418,6 +450,46 @@ pub fn mult_doc<'src>(
     ensures found { Finds result (has_its_tokens (places tokens.old) (mult_parts mult.now)) }
     ensures shows { (t : Tree Shown kind.mult) → IsNodeOf (mult_parts mult.now) t → Shows result tokens.old tokens.new (yield t) (document indent t) }
 {
+    if mult.extended.is_empty() {
+        let only = &mult.initial;
+        return lone_unary_doc(alloc, &only.inner, only.span, indent, tokens);
+    }
+    product_doc(alloc, mult, indent, tokens)
+}
+
+// group(e1)
+#[cycle(documents)]
+#[inline(never)]
+fn lone_unary_doc<'src>(
+    alloc: Global,
+    unary: &Unary<'src>,
+    span: Span,
+    indent: isize,
+    tokens: &mut [WrappedToken<'src>],
+) -> Made<'src>
+    requires { AreInOrder tokens.old }
+    ensures kept { KeepsTokens tokens.old tokens.new }
+    ensures found { Finds result (has_own (places tokens.old) Label.unary (Some span) (unary_parts unary.now) && has_its_tokens (places tokens.old) (unary_parts unary.now)) }
+    ensures shows { (t : Tree Shown kind.unary) → IsAt span (yield t) → IsNodeOf (unary_parts unary.now) t → Shows result tokens.old tokens.new (yield t) (group (document indent t)) }
+{
+    let only = unary_doc(alloc, unary, span, indent, tokens)?;
+    Ok(only.group(alloc)?)
+}
+
+// The same where there is more than one, which needs more of the stack.
+#[cycle(documents)]
+#[inline(never)]
+fn product_doc<'src>(
+    alloc: Global,
+    mult: &Mult<'src>,
+    indent: isize,
+    tokens: &mut [WrappedToken<'src>],
+) -> Made<'src>
+    requires { AreInOrder tokens.old }
+    ensures kept { KeepsTokens tokens.old tokens.new }
+    ensures found { Finds result (has_its_tokens (places tokens.old) (mult_parts mult.now)) }
+    ensures shows { (t : Tree Shown kind.mult) → IsNodeOf (mult_parts mult.now) t → Shows result tokens.old tokens.new (yield t) (document indent t) }
+{
     let first = unary_doc(
         alloc,
         &mult.initial.inner,
@@ -425,13 +497,10 @@ pub fn mult_doc<'src>(
         indent,
         tokens,
     )?;
-    if mult.extended.is_empty() {
-        return Ok(first.group(alloc)?);
-    }
     let mut docs = vec![in alloc; first]?;
     let mut last = mult.initial.span;
     for (_, operand) in &mult.extended {
-        docs.push(sign_and_line(alloc, "*", last, tokens)?)?;
+        push_sign_and_line(alloc, "*", last, tokens, &mut docs)?;
         docs.push(unary_doc(alloc, &operand.inner, operand.span, indent, tokens)?)?;
         last = operand.span;
     }
@@ -473,8 +542,8 @@ pub fn member_doc<'src>(
     ensures shows { (t : Tree Shown kind.member) → IsNodeOf (member_parts member.now) t → Shows result tokens.old tokens.new (yield t) (document indent t) }
 {
     let item = primary_doc(alloc, &member.item.inner, member.item.span, indent, tokens)?;
-    let accesses = accesses_doc(alloc, &member.access, indent, tokens)?.nest(alloc, indent)?;
-    Ok(Document::Seq(vec![in alloc; item, accesses]?).group(alloc)?)
+    let accesses = accesses_doc(alloc, &member.access, indent, tokens)?;
+    Ok(nested_row(alloc, item, accesses, indent)?)
 }
 
 // The accesses; `line_` stands before each but the first and but a call after a field.
@@ -633,9 +702,28 @@ fn record_doc<'src>(
 {
     let open = mark_at_start(alloc, "{", span, Document::Nil, tokens)?;
     let items = inits_doc(alloc, inits, indent, tokens)?;
-    let close = mark_at_end(alloc, "}", span, Document::Nil, tokens)?;
     let none = inits.is_empty();
-    Ok(entries_row(alloc, open, items, close, none, indent)?)
+    Ok(closed_record(alloc, open, items, none, span, indent, tokens)?)
+}
+
+// open . nest(i, group(line . inits . line)) . C("}"), and of no inits open . C("}")
+#[inline(never)]
+fn closed_record<'src>(
+    alloc: Global,
+    open: Document<'src>,
+    inits: Document<'src>,
+    none: bool,
+    span: Span,
+    indent: isize,
+    tokens: &mut [WrappedToken<'src>],
+) -> Result<Document<'src>, AllocError>
+    requires { AreInOrder tokens.old }
+    ensures kept { KeepsTokens tokens.old tokens.new }
+    ensures shows { (r : Shown) → r.span.end ≡ span.end → codes "}" ≡ token_value (text_of r) → Shows result tokens.old tokens.new (r ∷ [])
+        (if none then doc_of open.entry · leaf_of (as_leaf r) else doc_of open.entry · nest indent (group (line · doc_of inits.entry · line)) · leaf_of (as_leaf r)) }
+{
+    let close = mark_at_end(alloc, "}", span, Document::Nil, tokens)?;
+    Ok(entries_row(alloc, open, inits, close, none, indent)?)
 }
 
 // Expressions joined by C(",") . line
@@ -656,7 +744,7 @@ fn items_doc<'src>(
     let mut docs = Vec::new(alloc);
     let mut before: Option<Span> = None;
     for item in items {
-        docs.push(comma_before(alloc, before, tokens)?)?;
+        push_comma(alloc, before, tokens, &mut docs)?;
         docs.push(expr_doc(alloc, &item.inner, item.span, indent, tokens)?)?;
         before = Some(item.span);
     }
@@ -681,7 +769,7 @@ fn inits_doc<'src>(
     let mut docs = Vec::new(alloc);
     let mut before: Option<Span> = None;
     for init in inits {
-        docs.push(comma_before(alloc, before, tokens)?)?;
+        push_comma(alloc, before, tokens, &mut docs)?;
         docs.push(init_doc(alloc, &init.inner, indent, tokens)?)?;
         before = Some(init.span);
     }
@@ -703,7 +791,8 @@ pub fn init_doc<'src>(
     ensures shows { (t : Tree Shown kind.init) → IsNodeOf (init_parts init.now) t → Shows result tokens.old tokens.new (yield t) (document indent t) }
 {
     let key = primary_doc(alloc, &init.key.inner, init.key.span, indent, tokens)?;
-    let colon = mark_after(alloc, ":", init.key.span, Document::Nil, tokens)?;
-    let value = expr_doc(alloc, &init.value.inner, init.value.span, indent, tokens)?;
-    Ok(init_row(alloc, key, colon, value)?)
+    let mut docs = vec![in alloc; key]?;
+    push_colon(alloc, init.key.span, tokens, &mut docs)?;
+    docs.push(expr_doc(alloc, &init.value.inner, init.value.span, indent, tokens)?)?;
+    Ok(Document::Seq(docs))
 }

@@ -5,3 +5,4 @@ pub mod LookedUp
 pub mod Marks
 pub mod Opened
 pub mod PathWords
+pub mod Put

@@ -1,6 +1,6 @@
 -- The document of a node among the tokens of a context, and what making it does to them.
-use Rattle.std.specs.Prelude.{◌≡◌, ℕ, ℤ, List, [], ◌∷◌, ◌++◌, map, Some, Result, IfOk}
-use Rattle.cedar_tokens.specs.Listing.{Decorated}
+use Rattle.std.specs.Prelude.{◌≡◌, ℕ, ℤ, List, [], ◌∷◌, ◌++◌, map, Some, Result, IfOk, OnOk}
+use Rattle.cedar_tokens.specs.Listing.{Decorated, token_value}
 use Rattle.cedar_tokens.specs.Tokens.{token_text}
 use Rattle.cedar_tokens.specs.declared.token.Span.{Span}
 use Rattle.cedar_tokens.specs.declared.token.WrappedToken.{WrappedToken}
@@ -8,9 +8,9 @@ use Rattle.cedar_grammar.specs.TokenKinds.{kind_of}
 use Rattle.cedar_grammar.specs.Trees.{Label, Forest}
 use Rattle.cedar_grammar.specs.TypedTrees.{NodeKind, Tree, parts, tree_map}
 use Rattle.cedar_grammar.specs.declared.kind.Kind.{Kind}
-use Rattle.cedar_layout.specs.Layout.{Doc}
+use Rattle.cedar_layout.specs.Layout.{Doc, ◌·◌}
 use Rattle.cedar_layout.specs.Lookups.{Shown, shown, emptied}
-use Rattle.cedar_layout.specs.Value.{doc_of}
+use Rattle.cedar_layout.specs.Value.{doc_of, docs_of}
 use Rattle.cedar_layout.specs.declared.layout.Document.{Document}
 use Rattle.cedar_tree.specs.Erased.{Erased}
 use Rattle.cedar_tree.specs.NodeTrees.{spanned, span_of}
@@ -58,3 +58,9 @@ Shows result old new ts doc = (before after : List Shown) → map shown old ≡ 
 abbrev pub ShowsBehind : {E : Type 0} → ℕ → Result Document E → List WrappedToken → List WrappedToken → List Shown → Doc → Type 0
 ShowsBehind place result old new ts doc = (before after : List Shown) → end_of_tokens before ≡ place → map shown old ≡ before ++ (ts ++ after)
     → IfOk result (λ d. (doc_of d ≡ doc) × (map shown new ≡ (before ++ map emptied ts) ++ after))
+
+-- a document is put behind others. It is this one of a token with this text that stands right behind this place; then the token has no comments, and nothing else has changed
+abbrev pub PutsBehind : {U E : Type 0} → ℕ → Result U E → List WrappedToken → List WrappedToken → List Document → List Document → List ℕ → (Shown → Doc) → Type 0
+PutsBehind place result old new docs more text doc = OnOk result ((d : Doc) × (docs_of more ≡ docs_of docs · d)
+    × ((t : Shown) → text ≡ token_value (text_of t) → (before after : List Shown) → end_of_tokens before ≡ place → map shown old ≡ before ++ (t ∷ after)
+        → (d ≡ doc t) × (map shown new ≡ (before ++ (emptied t ∷ [])) ++ after)))

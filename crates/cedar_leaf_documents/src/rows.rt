@@ -21,20 +21,6 @@ pub fn below<'src>(
     Document::Seq(vec![in alloc; Document::Line, doc]?).nest(alloc, indent)
 }
 
-/// `left . space . C(op) . space . right`
-#[inline(never)]
-pub fn comparison_row<'src>(
-    alloc: Global,
-    left: Document<'src>,
-    sign: Document<'src>,
-    right: Document<'src>,
-) -> Result<Document<'src>, AllocError>
-    ensures { IfOk result (λ d. doc_of d ≡ doc_of left.entry · space · doc_of sign.entry · space · doc_of right.entry) }
-{
-    let row = vec![in alloc; left, Document::Text(" "), sign, Document::Text(" "), right]?;
-    Ok(Document::Seq(row))
-}
-
 /// `group(left . line . C(word) . line . nest(i, right))`
 #[inline(never)]
 pub fn keyword_row<'src>(
@@ -99,18 +85,18 @@ pub fn type_and_in_row<'src>(
     Ok(Document::Seq(row))
 }
 
-/// `group(start . nest(i, right))`, where `start` is what the row above gives
+/// `group(first . nest(i, second))`: an operand and the container behind `in`, or a primary and its accesses
 #[inline(never)]
-pub fn container_row<'src>(
+pub fn nested_row<'src>(
     alloc: Global,
-    start: Document<'src>,
-    right: Document<'src>,
+    first: Document<'src>,
+    second: Document<'src>,
     indent: isize,
 ) -> Result<Document<'src>, AllocError>
-    ensures { IfOk result (λ d. doc_of d ≡ group (doc_of start.entry · nest indent (doc_of right.entry))) }
+    ensures { IfOk result (λ d. doc_of d ≡ group (doc_of first.entry · nest indent (doc_of second.entry))) }
 {
-    let container = right.nest(alloc, indent)?;
-    let row = vec![in alloc; start, container]?;
+    let nested = second.nest(alloc, indent)?;
+    let row = vec![in alloc; first, nested]?;
     Document::Seq(row).group(alloc)
 }
 
@@ -215,18 +201,4 @@ pub fn entries_row<'src>(
         return pair_row(alloc, opening, closing);
     }
     record_row(alloc, opening, inits, closing, indent)
-}
-
-/// `key . C(":") . space . value`
-#[inline(never)]
-pub fn init_row<'src>(
-    alloc: Global,
-    key: Document<'src>,
-    colon: Document<'src>,
-    value: Document<'src>,
-) -> Result<Document<'src>, AllocError>
-    ensures { IfOk result (λ d. doc_of d ≡ doc_of key.entry · doc_of colon.entry · space · doc_of value.entry) }
-{
-    let row = vec![in alloc; key, colon, Document::Text(" "), value]?;
-    Ok(Document::Seq(row))
 }

@@ -9,7 +9,7 @@ ghost use Rattle.cedar_layout.specs.Value.{doc_of};
 ghost use Rattle.cedar_layout.specs.Lookups.{AreInOrder, Parts, Shown, comment_parts, emptied, shown};
 ghost use Rattle.cedar_leaf_documents.specs.Found.{Finds, places, starts};
 ghost use Rattle.cedar_leaf_documents.specs.Kept.{KeepsTokens};
-ghost use Rattle.cedar_leaf_documents.specs.NodeDocuments.{Shows, ShowsBehind, as_leaf, text_of};
+ghost use Rattle.cedar_leaf_documents.specs.NodeDocuments.{PutsBehind, Shows, ShowsBehind, as_leaf, text_of};
 ghost use Rattle.cedar_canonical.specs.Table.{C, leaf, space};
 
 use crate::made::NoDocument;
@@ -100,63 +100,108 @@ pub fn mark_after<'src>(
     commented(alloc, text, comment, next)
 }
 
-/// `space . C(t, line)` of an operator behind a part: a line breaks behind it, or its trailing text ends the line.
-pub fn breaking_sign<'src>(
+/// Puts `space . C(t, line)` of an operator behind a part: a line breaks behind it, or its trailing text ends the line.
+#[inline(never)]
+pub fn push_breaking_sign<'src>(
     alloc: Global,
     text: &'src str,
     span: Span,
     tokens: &mut [WrappedToken<'src>],
-) -> Result<Document<'src>, AllocError>
+    docs: &mut Vec<Document<'src>>,
+) -> Result<(), AllocError>
     requires { AreInOrder tokens.old }
     ensures kept { KeepsTokens tokens.old tokens.new }
-    ensures shows { (t : Shown) → text.now ≡ token_value (text_of t) → ShowsBehind span.end result tokens.old tokens.new (t ∷ []) (space · C (as_leaf t) line) }
+    ensures puts { PutsBehind span.end result tokens.old tokens.new docs.old.items docs.new.items text.now (λ t. space · C (as_leaf t) line) }
 {
     let sign = mark_after(alloc, text, span, Document::Line, tokens)?;
-    Ok(Document::Seq(vec![in alloc; Document::Text(" "), sign]?))
+    docs.push(Document::Text(" "))?;
+    docs.push(sign)?;
+    Ok(())
 }
 
-/// `space . C(t) . line` of an operator behind a part.
-pub fn sign_and_line<'src>(
+/// Puts `space . C(t) . line` of an operator behind a part.
+#[inline(never)]
+pub fn push_sign_and_line<'src>(
     alloc: Global,
     text: &'src str,
     span: Span,
     tokens: &mut [WrappedToken<'src>],
-) -> Result<Document<'src>, AllocError>
+    docs: &mut Vec<Document<'src>>,
+) -> Result<(), AllocError>
     requires { AreInOrder tokens.old }
     ensures kept { KeepsTokens tokens.old tokens.new }
-    ensures shows { (t : Shown) → text.now ≡ token_value (text_of t) → ShowsBehind span.end result tokens.old tokens.new (t ∷ []) (space · leaf (as_leaf t) · line) }
+    ensures puts { PutsBehind span.end result tokens.old tokens.new docs.old.items docs.new.items text.now (λ t. space · leaf (as_leaf t) · line) }
 {
-    let sign = mark_after(alloc, text, span, Document::Nil, tokens)?;
-    Ok(Document::Seq(vec![in alloc; Document::Text(" "), sign, Document::Line]?))
+    docs.push(Document::Text(" "))?;
+    push_mark(alloc, text, span, Document::Line, tokens, docs)
 }
 
-/// `C(",") . line` of the comma behind the item with this span; nothing where no item stands before.
-pub fn comma_before<'src>(
+/// Puts `space . C(t) . space` of an operator behind a part.
+#[inline(never)]
+pub fn push_spaced_sign<'src>(
+    alloc: Global,
+    text: &'src str,
+    span: Span,
+    tokens: &mut [WrappedToken<'src>],
+    docs: &mut Vec<Document<'src>>,
+) -> Result<(), AllocError>
+    requires { AreInOrder tokens.old }
+    ensures kept { KeepsTokens tokens.old tokens.new }
+    ensures puts { PutsBehind span.end result tokens.old tokens.new docs.old.items docs.new.items text.now (λ t. space · leaf (as_leaf t) · space) }
+{
+    docs.push(Document::Text(" "))?;
+    push_mark(alloc, text, span, Document::Text(" "), tokens, docs)
+}
+
+/// Puts `C(":") . space` of the colon behind a key.
+#[inline(never)]
+pub fn push_colon<'src>(
+    alloc: Global,
+    span: Span,
+    tokens: &mut [WrappedToken<'src>],
+    docs: &mut Vec<Document<'src>>,
+) -> Result<(), AllocError>
+    requires { AreInOrder tokens.old }
+    ensures kept { KeepsTokens tokens.old tokens.new }
+    ensures puts { PutsBehind span.end result tokens.old tokens.new docs.old.items docs.new.items (codes ":") (λ t. leaf (as_leaf t) · space) }
+{
+    push_mark(alloc, ":", span, Document::Text(" "), tokens, docs)
+}
+
+/// Puts `C(",") . line` of the comma behind the item with this span; nothing where no item stands before.
+#[inline(never)]
+pub fn push_comma<'src>(
     alloc: Global,
     before: Option<Span>,
     tokens: &mut [WrappedToken<'src>],
-) -> Result<Document<'src>, AllocError>
+    docs: &mut Vec<Document<'src>>,
+) -> Result<(), AllocError>
     requires { AreInOrder tokens.old }
     ensures kept { KeepsTokens tokens.old tokens.new }
-    ensures none { before ≡ None → Shows result tokens.old tokens.new [] nil }
-    ensures shows { (span : Span) → before ≡ Some span → (t : Shown) → codes "," ≡ token_value (text_of t) → ShowsBehind span.end result tokens.old tokens.new (t ∷ []) (leaf (as_leaf t) · line) }
+    ensures none { before ≡ None → (docs.new.items ≡ docs.old.items) × (tokens.new ≡ tokens.old) }
+    ensures puts { (span : Span) → before ≡ Some span → PutsBehind span.end result tokens.old tokens.new docs.old.items docs.new.items (codes ",") (λ t. leaf (as_leaf t) · line) }
 {
     match before {
-        Some(span) => comma_and_line(alloc, span, tokens),
-        None => Ok(Document::Nil),
+        Some(span) => push_mark(alloc, ",", span, Document::Line, tokens, docs),
+        None => Ok(()),
     }
 }
 
-// The comma behind an item, and a line.
-fn comma_and_line<'src>(
+// Puts `C(t) . next` of the token `text` behind a part.
+fn push_mark<'src>(
     alloc: Global,
+    text: &'src str,
     span: Span,
+    next: Document<'src>,
     tokens: &mut [WrappedToken<'src>],
-) -> Result<Document<'src>, AllocError>
+    docs: &mut Vec<Document<'src>>,
+) -> Result<(), AllocError>
     requires { AreInOrder tokens.old }
     ensures kept { KeepsTokens tokens.old tokens.new }
-    ensures shows { (t : Shown) → codes "," ≡ token_value (text_of t) → ShowsBehind span.end result tokens.old tokens.new (t ∷ []) (leaf (as_leaf t) · line) }
+    ensures puts { PutsBehind span.end result tokens.old tokens.new docs.old.items docs.new.items text.now (λ t. leaf (as_leaf t) · doc_of next.entry) }
 {
-    let comma = mark_after(alloc, ",", span, Document::Nil, tokens)?;
-    Ok(Document::Seq(vec![in alloc; comma, Document::Line]?))
+    let mark = mark_after(alloc, text, span, Document::Nil, tokens)?;
+    docs.push(mark)?;
+    docs.push(next)?;
+    Ok(())
 }

@@ -7,16 +7,17 @@ use Rattle.cedar_grammar.specs.TypedTrees.{plain_expr, if_expr, parts, yield, co
 use Rattle.cedar_tree.specs.Erased.{or_parts, expr_parts, relation_parts, add_parts, path_parts, addop_text, mult_parts, unary_parts, node, sign_leaves, primary_parts, access_parts}
 use Rattle.cedar_leaf_documents.proofs.Opened.{opened_tree, opened_token, starts_here, ends_here, in_turn, freely, rewritten, nothing_behind, Always, Behind, opened_leaf, opened_variant}
 use Rattle.cedar_expression_documents.proofs.Primaries.{seen_plain, opened_literal, seen_literal, seen_slot, seen_ref, seen_name, seen_brackets, seen_list, seen_record, list_found, record_found, if_not, if_so, in_brackets, lists, no_items, only, records, some_inits, tests_empty, tests_full, seen_if}
-use Rattle.cedar_layout.specs.Layout.{◌·◌, line, nest, group}
-use Rattle.cedar_layout.proofs.Values.{doc_of_line, doc_of_seq}
+use Rattle.cedar_layout.specs.Layout.{Doc, ◌·◌, line, nest, group}
+use Rattle.cedar_layout.proofs.Values.{doc_of_line, doc_of_seq, dot_assoc}
 use Rattle.cedar_leaf_documents.specs.Found.{has_its_tokens, places, has_own, Finds}
 use Rattle.cedar_leaf_documents.specs.NodeDocuments.{document, kind_of_shown, IsNodeOf, Shows, IsAt, as_leaf}
-use Rattle.cedar_leaf_documents.proofs.Flat.{also, laid, same, flat}
+use Rattle.cedar_leaf_documents.proofs.Flat.{also, laid, same}
+use Rattle.cedar_leaf_documents.proofs.Put.{pushed, put_between}
 use Rattle.cedar_leaf_documents.proofs.Found.{as_before, missed, and_false, and_last, and_true}
 use Rattle.cedar_tree.specs.NodeLists.{and_parts, member_parts, access_items, item_trees, init_parts}
 use Rattle.cedar_tree.specs.declared.tree.Expr.TheViews.{out-Or, out-Add, out-Mult, out-Unary}
 use Rattle.cedar_tree.proofs.Views.{and_items, relation_items, add_items, mult_items, view_call}
-use Rattle.cedar_expression_documents.proofs.Chains.{breaking_sign, or_chain, made_first, operand_more, made_all, made_alone, shows_alone, found_alone, one_left, none_left, is_nil, first_found, first_missed, next_found, next_missed, and_chain, sign_and_line, inside_add, add_chain, add_group, inside_mult, mult_chain, mult_group}
+use Rattle.cedar_expression_documents.proofs.Chains.{breaking_sign, or_chain, made_first, operand_more, made_all, shows_within, shows_alone, spaced, found_alone, one_left, none_left, is_nil, first_found, first_missed, next_found, next_missed, and_chain, sign_and_line, inside_add, add_chain, add_group, inside_mult, mult_chain, mult_group}
 use Rattle.cedar_expression_documents.proofs.Operands.{or_view, and_view, add_view, mult_view}
 use Rattle.cedar_expression_documents.proofs.Relations.{alone, compared, placed, typed, worded, view_alone, view_compared, view_has, view_like, view_is, view_is_in, found_behind, needs_both, needs_operand, needs_type, first_common, first_has, first_like, first_is, first_missing, in_one_row}
 use Rattle.cedar_expression_documents.specs.Inside.Operands.{first_of}
@@ -31,7 +32,7 @@ use Rattle.cedar_expression_documents.specs.Inside.Breaks.{form_before}
 use Rattle.std.specs.Prelude.{pos, ◌&&◌}
 use Rattle.cedar_expression_documents.proofs.LastTokens.{ends_with, closed}
 use Rattle.cedar_layout.specs.Lookups.{emptied, shown}
-use Rattle.cedar_expression_documents.proofs.Commas.{next_item, all_args, from_index, item_and_more, none_from, some_at, pushed_two, all_inits}
+use Rattle.cedar_expression_documents.proofs.Commas.{next_item, all_args, from_index, item_and_more, none_from, some_at, all_inits}
 use Rattle.cedar_tree.specs.declared.tree.Or as Or
 use Rattle.cedar_grammar.specs.TypedTrees as kind
 use Rattle.cedar_tree.specs.declared.tree.Relation as Relation
@@ -149,17 +150,17 @@ relation_doc-returns-in-Some-clause-shows _ c t n =
     let first : first_of c.args.relation.now ≡ c.in-Common.initial = ap first_of c.in-Common.is ∙ first_common c.in-Common.initial c.in-Common.extended in
     compared c.comparison_doc.result _ w c.in_ok-first.first (λ x e. freely (yield x) (c.in_ok-first.ensures.shows x (ap (λ z. add_parts z.inner) first ∙ e))) t (sym (view_compared c.in-Common.initial c.in-Some.op c.in-Some.other) ∙ ap relation_parts (sym is) ∙ n) c.comparison_doc.ensures.shows
 
-pub relation_doc-returns-in-None-clause-found : goal.relation_doc-returns-in-None-clause-found
-relation_doc-returns-in-None-clause-found _ c =
-    let is = c.in-Common.is ∙ ap (λ z. Relation.Common c.in-Common.initial z) c.in-None.is in
+pub relation_doc-returns-in_default-clause-found : goal.relation_doc-returns-in_default-clause-found
+relation_doc-returns-in_default-clause-found _ c =
+    let is = c.in-Common.is ∙ ap (λ z. Relation.Common c.in-Common.initial z) c.in_default.is in
     let first : first_of c.args.relation.now ≡ c.in-Common.initial = ap first_of c.in-Common.is ∙ first_common c.in-Common.initial c.in-Common.extended in
     ap (has_its_tokens (places c.args.tokens.now)) (ap relation_parts is ∙ view_alone c.in-Common.initial) ∙ needs_operand (places c.args.tokens.now) c.in-Common.initial.span (add_parts c.in-Common.initial.inner)
     ∙ ap (λ z. has_its_tokens (places c.args.tokens.now) (add_parts z.inner)) (sym first) ∙ c.in_ok-first.ensures.found
 
-pub relation_doc-returns-in-None-clause-shows : goal.relation_doc-returns-in-None-clause-shows
-relation_doc-returns-in-None-clause-shows _ c t n before after st =
+pub relation_doc-returns-in_default-clause-shows : goal.relation_doc-returns-in_default-clause-shows
+relation_doc-returns-in_default-clause-shows _ c t n before after st =
     let w : to_z w64 (of_z w64 c.args.indent) ≡ c.args.indent = omega (arith, ints) in
-    let is = c.in-Common.is ∙ ap (λ z. Relation.Common c.in-Common.initial z) c.in-None.is in
+    let is = c.in-Common.is ∙ ap (λ z. Relation.Common c.in-Common.initial z) c.in_default.is in
     let first : first_of c.args.relation.now ≡ c.in-Common.initial = ap first_of c.in-Common.is ∙ first_common c.in-Common.initial c.in-Common.extended in
     alone c.in_ok-first.first w (λ x e. freely (yield x) (c.in_ok-first.ensures.shows x (ap (λ z. add_parts z.inner) first ∙ e))) t (sym (view_alone c.in-Common.initial) ∙ ap relation_parts (sym is) ∙ n) before after tt st
 
@@ -199,16 +200,16 @@ relation_doc-returns-in-Some-in_entity-clause-shows _ c t n =
     let first : first_of c.args.relation.now ≡ c.in-IsIn.target = ap first_of c.in-IsIn.is ∙ first_is c.in-IsIn.target c.in-IsIn.entity_type c.in-IsIn.in_entity in
     placed c.is_in_doc.result _ w c.in_ok-first.first (λ x e. freely (yield x) (c.in_ok-first.ensures.shows x (ap (λ z. add_parts z.inner) first ∙ e))) t (sym (view_is_in c.in-IsIn.target c.in-IsIn.entity_type c.in-Some-in_entity.entity) ∙ ap relation_parts (sym is) ∙ n) c.is_in_doc.ensures.shows
 
-pub relation_doc-returns-in-None-in_entity-clause-found : goal.relation_doc-returns-in-None-in_entity-clause-found
-relation_doc-returns-in-None-in_entity-clause-found _ c =
-    let is = c.in-IsIn.is ∙ ap (λ z. Relation.IsIn c.in-IsIn.target c.in-IsIn.entity_type z) c.in-None-in_entity.is in
+pub relation_doc-returns-in_default-in_entity-clause-found : goal.relation_doc-returns-in_default-in_entity-clause-found
+relation_doc-returns-in_default-in_entity-clause-found _ c =
+    let is = c.in-IsIn.is ∙ ap (λ z. Relation.IsIn c.in-IsIn.target c.in-IsIn.entity_type z) c.in_default-in_entity.is in
     let first : first_of c.args.relation.now ≡ c.in-IsIn.target = ap first_of c.in-IsIn.is ∙ first_is c.in-IsIn.target c.in-IsIn.entity_type c.in-IsIn.in_entity in
     found_behind c.is_doc.result c.args.tokens.now c.first_doc.new.tokens (λ z. has_its_tokens z (path_parts c.in-IsIn.entity_type.inner.path.items c.in-IsIn.entity_type.inner.name)) (ap relation_parts is ∙ view_is c.in-IsIn.target c.in-IsIn.entity_type) refl (λ z. needs_type z c.in-IsIn.entity_type) (ap (λ z. has_its_tokens (places c.args.tokens.now) (add_parts z.inner)) (sym first) ∙ c.in_ok-first.ensures.found) c.in_ok-first.ensures.kept c.is_doc.ensures.found
 
-pub relation_doc-returns-in-None-in_entity-clause-shows : goal.relation_doc-returns-in-None-in_entity-clause-shows
-relation_doc-returns-in-None-in_entity-clause-shows _ c t n =
+pub relation_doc-returns-in_default-in_entity-clause-shows : goal.relation_doc-returns-in_default-in_entity-clause-shows
+relation_doc-returns-in_default-in_entity-clause-shows _ c t n =
     let w : to_z w64 (of_z w64 c.args.indent) ≡ c.args.indent = omega (arith, ints) in
-    let is = c.in-IsIn.is ∙ ap (λ z. Relation.IsIn c.in-IsIn.target c.in-IsIn.entity_type z) c.in-None-in_entity.is in
+    let is = c.in-IsIn.is ∙ ap (λ z. Relation.IsIn c.in-IsIn.target c.in-IsIn.entity_type z) c.in_default-in_entity.is in
     let first : first_of c.args.relation.now ≡ c.in-IsIn.target = ap first_of c.in-IsIn.is ∙ first_is c.in-IsIn.target c.in-IsIn.entity_type c.in-IsIn.in_entity in
     typed c.is_doc.result _ w c.in_ok-first.first (λ x e. freely (yield x) (c.in_ok-first.ensures.shows x (ap (λ z. add_parts z.inner) first ∙ e))) t (sym (view_is c.in-IsIn.target c.in-IsIn.entity_type) ∙ ap relation_parts (sym is) ∙ n) c.is_doc.ensures.shows
 
@@ -244,23 +245,24 @@ first_doc-returns-in-IsIn-clause-shows _ c t e =
 
 -- comparison_doc
 
-pub comparison_doc-returns-in_err-second-clause-found : goal.comparison_doc-returns-in_err-second-clause-found
-comparison_doc-returns-in_err-second-clause-found _ c =
-    missed c.from_residual-in_err-second.result _ _ _ c.from_residual-in_err-second.ensures.1 c.in_err-second.ensures.found
-    (λ h. as_before (λ z. has_its_tokens z (add_parts c.args.right.now.inner)) false c.args.tokens.now c.mark_after.new.tokens c.in_ok-sign.ensures.kept h)
+pub comparison_doc-returns-in_err-add_doc-clause-found : goal.comparison_doc-returns-in_err-add_doc-clause-found
+comparison_doc-returns-in_err-add_doc-clause-found _ c =
+    missed c.from_residual-in_err-add_doc.result _ _ _ c.from_residual-in_err-add_doc.ensures.1 c.in_err-add_doc.ensures.found
+    (λ h. as_before (λ z. has_its_tokens z (add_parts c.args.right.now.inner)) false c.args.tokens.now c.push_spaced_sign.new.tokens c.in_ok-push_spaced_sign.ensures.kept h)
 
 pub comparison_doc-returns-clause-found : goal.comparison_doc-returns-clause-found
-comparison_doc-returns-clause-found _ c = as_before (λ z. has_its_tokens z (add_parts c.args.right.now.inner)) true c.args.tokens.now c.mark_after.new.tokens c.in_ok-sign.ensures.kept c.in_ok-second.ensures.found
+comparison_doc-returns-clause-found _ c = as_before (λ z. has_its_tokens z (add_parts c.args.right.now.inner)) true c.args.tokens.now c.push_spaced_sign.new.tokens c.in_ok-push_spaced_sign.ensures.kept c.in_ok-add_doc.ensures.found
 
 pub comparison_doc-returns-clause-shows : goal.comparison_doc-returns-clause-shows
 comparison_doc-returns-clause-shows _ c o b f g =
     let i = to_z w64 (of_z w64 c.args.indent) in
     let w : i ≡ c.args.indent = omega (arith, ints) in
     let left = doc_of c.args.left in
-    let sign = rewritten (o ∷ []) (nothing_behind o) (c.in_ok-sign.ensures.shows o (c.rel_op_text.ensures ∙ f)) in
-    let second = rewritten (yield b) (ap (λ z. document z b) w) (freely (yield b) (c.in_ok-second.ensures.shows b g)) in
-    let all = in_turn (λ x y. left · space · x · space · y) (Behind c.args.before) Always (o ∷ []) (yield b) sign (λ b h. tt) second in
-    λ before after at st. let r = all before after at st in (c.in_ok-comparison_row.ensures ∙ r.0, r.1)
+    let sign = c.in_ok-push_spaced_sign.ensures.puts in
+    let second = rewritten (yield b) (ap (λ z. document z b) w) (freely (yield b) (c.in_ok-add_doc.ensures.shows b g)) in
+    let all = in_turn (λ x y. left · x · y) (Behind c.args.before) Always (o ∷ []) (yield b) (sign.2 o (c.rel_op_text.ensures ∙ f)) (λ b h. tt) second in
+    let made = put_between _ _ _ c.args.left sign.0 c.in_ok-add_doc.field-0 c.in_ok-docs.ensures.items sign.1 c.in_ok-push.ensures.items in
+    λ before after at st. let r = all before after at st in (made ∙ r.0 ∙ sym (spaced left (table.leaf (as_leaf o)) space (document c.args.indent b)), r.1)
 
 -- keyword_doc
 
@@ -309,7 +311,7 @@ is_in_doc-returns-clause-shows _ c o n p b f at g h k =
     let one = in_one_row left (table.leaf (as_leaf o)) (nest i (document i n)) (table.leaf (as_leaf p)) (nest i (document i b)) in
     λ before after q st.
     let r = all before after q (st ∙ ap (λ z. before ++ ((o ∷ z) ++ after)) (sym (append_assoc (yield n) (p ∷ []) (yield b)))) in (
-      c.in_ok-container_row.ensures ∙ r.0 ∙ ap group one ∙ ap (λ z. group (left · space · table.leaf (as_leaf o) · space · nest z (document z n) · line · table.leaf (as_leaf p) · space · nest z (document z b))) w,
+      c.in_ok-nested_row.ensures ∙ r.0 ∙ ap group one ∙ ap (λ z. group (left · space · table.leaf (as_leaf o) · space · nest z (document z n) · line · table.leaf (as_leaf p) · space · nest z (document z b))) w,
       r.1 ∙ ap (λ z. (before ++ map emptied (o ∷ z)) ++ after) (append_assoc (yield n) (p ∷ []) (yield b)),
     )
 
@@ -349,18 +351,18 @@ pub ors_doc-returns-in_err-and_doc-clause-found : goal.ors_doc-returns-in_err-an
 ors_doc-returns-in_err-and_doc-clause-found _ c =
     let left = one_left Label.and and_parts (λ _. codes "||") (λ x. x) (out-Or c.args.or.now).extended.items _ c.deref-operand-items.ensures.value c.loop-operand.operand-index c.operand-item.result c.loop-operand-test.true c.operand-item.is in
     missed c.from_residual-in_err-and_doc.result _ _ _ c.from_residual-in_err-and_doc.ensures.1 c.in_err-and_doc.ensures.found
-    (λ h. c.loop-operand.invariant.found ∙ next_missed Label.and c.args.tokens.now c.breaking_sign.new.tokens (c.in_ok-breaking_sign.ensures.kept ∙ c.loop-operand.invariant.kept) left h)
+    (λ h. c.loop-operand.invariant.found ∙ next_missed Label.and c.args.tokens.now c.push_breaking_sign.new.tokens (c.in_ok-push_breaking_sign.ensures.kept ∙ c.loop-operand.invariant.kept) left h)
 
 pub ors_doc-loop-operand-preserved : goal.ors_doc-loop-operand-preserved
 ors_doc-loop-operand-preserved _ c =
     let left = one_left Label.and and_parts (λ _. codes "||") (λ x. x) (out-Or c.args.or.now).extended.items _ c.deref-operand-items.ensures.value c.loop-operand.operand-index c.operand-item.result c.loop-operand-test.true c.operand-item.is in
     let i = to_z w64 (of_z w64 c.args.indent) in
-    let kept = c.in_ok-breaking_sign.ensures.kept ∙ c.loop-operand.invariant.kept in
+    let kept = c.in_ok-push_breaking_sign.ensures.kept ∙ c.loop-operand.invariant.kept in
     record {
       kept = c.in_ok-and_doc.ensures.kept ∙ kept;
-      found = c.loop-operand.invariant.found ∙ next_found Label.and c.args.tokens.now c.breaking_sign.new.tokens kept left c.in_ok-and_doc.ensures.found;
-      shown = operand_more kind.ors kind.ands Label.and refl breaking_sign i (document i) (or_parts c.args.or.now) _ (or_chain i) c.in_ok-breaking_sign.field-0 c.in_ok-and_doc.field-0 left
-          c.in_ok-push.ensures.items c.in_ok-push-2.ensures.items c.in_ok-breaking_sign.ensures.shows (λ x at e. c.in_ok-and_doc.ensures.shows x e) c.loop-operand.invariant.shown;
+      found = c.loop-operand.invariant.found ∙ next_found Label.and c.args.tokens.now c.push_breaking_sign.new.tokens kept left c.in_ok-and_doc.ensures.found;
+      shown = operand_more kind.ors kind.ands Label.and refl breaking_sign i (document i) (or_parts c.args.or.now) _ _ (or_chain i) c.in_ok-push_breaking_sign.ensures.puts.0 c.in_ok-and_doc.field-0 left
+          c.in_ok-push_breaking_sign.ensures.puts.1 c.in_ok-push.ensures.items c.in_ok-push_breaking_sign.ensures.puts.2 (λ x at e. c.in_ok-and_doc.ensures.shows x e) c.loop-operand.invariant.shown;
     }
 
 pub ors_doc-returns-clause-shows : goal.ors_doc-returns-clause-shows
@@ -407,18 +409,18 @@ pub ands_doc-returns-in_err-relation_doc-clause-found : goal.ands_doc-returns-in
 ands_doc-returns-in_err-relation_doc-clause-found _ c =
     let left = one_left Label.relation relation_parts (λ _. codes "&&") (λ x. x) c.args.and.now.extended.items _ c.deref-operand-items.ensures.value c.loop-operand.operand-index c.operand-item.result c.loop-operand-test.true c.operand-item.is in
     missed c.from_residual-in_err-relation_doc.result _ _ _ c.from_residual-in_err-relation_doc.ensures.1 c.in_err-relation_doc.ensures.found
-    (λ h. c.loop-operand.invariant.found ∙ next_missed Label.relation c.args.tokens.now c.breaking_sign.new.tokens (c.in_ok-breaking_sign.ensures.kept ∙ c.loop-operand.invariant.kept) left h)
+    (λ h. c.loop-operand.invariant.found ∙ next_missed Label.relation c.args.tokens.now c.push_breaking_sign.new.tokens (c.in_ok-push_breaking_sign.ensures.kept ∙ c.loop-operand.invariant.kept) left h)
 
 pub ands_doc-loop-operand-preserved : goal.ands_doc-loop-operand-preserved
 ands_doc-loop-operand-preserved _ c =
     let left = one_left Label.relation relation_parts (λ _. codes "&&") (λ x. x) c.args.and.now.extended.items _ c.deref-operand-items.ensures.value c.loop-operand.operand-index c.operand-item.result c.loop-operand-test.true c.operand-item.is in
     let i = to_z w64 (of_z w64 c.args.indent) in
-    let kept = c.in_ok-breaking_sign.ensures.kept ∙ c.loop-operand.invariant.kept in
+    let kept = c.in_ok-push_breaking_sign.ensures.kept ∙ c.loop-operand.invariant.kept in
     record {
       kept = c.in_ok-relation_doc.ensures.kept ∙ kept;
-      found = c.loop-operand.invariant.found ∙ next_found Label.relation c.args.tokens.now c.breaking_sign.new.tokens kept left c.in_ok-relation_doc.ensures.found;
-      shown = operand_more kind.ands kind.relation Label.relation refl breaking_sign i (document i) (and_parts c.args.and.now) _ (and_chain i) c.in_ok-breaking_sign.field-0 c.in_ok-relation_doc.field-0 left
-          c.in_ok-push.ensures.items c.in_ok-push-2.ensures.items c.in_ok-breaking_sign.ensures.shows (λ x at e. c.in_ok-relation_doc.ensures.shows x e) c.loop-operand.invariant.shown;
+      found = c.loop-operand.invariant.found ∙ next_found Label.relation c.args.tokens.now c.push_breaking_sign.new.tokens kept left c.in_ok-relation_doc.ensures.found;
+      shown = operand_more kind.ands kind.relation Label.relation refl breaking_sign i (document i) (and_parts c.args.and.now) _ _ (and_chain i) c.in_ok-push_breaking_sign.ensures.puts.0 c.in_ok-relation_doc.field-0 left
+          c.in_ok-push_breaking_sign.ensures.puts.1 c.in_ok-push.ensures.items c.in_ok-push_breaking_sign.ensures.puts.2 (λ x at e. c.in_ok-relation_doc.ensures.shows x e) c.loop-operand.invariant.shown;
     }
 
 pub ands_doc-returns-clause-shows : goal.ands_doc-returns-clause-shows
@@ -429,25 +431,13 @@ ands_doc-returns-clause-shows _ c t n before after st =
     let r = made_all kind.ands kind.relation Label.relation refl breaking_sign i (document i) (and_chain i) (and_parts c.args.and.now) _ c.loop-operand.docs left c.loop-operand.invariant.shown t n before after st in
     (r.0 ∙ ap (λ z. document z t) w, r.1)
 
--- add_doc
+-- add_doc, and sum_doc where there is more than one
 
-pub add_doc-returns-in_err-first-clause-found : goal.add_doc-returns-in_err-first-clause-found
-add_doc-returns-in_err-first-clause-found _ c = missed c.from_residual.result _ _ _ c.from_residual.ensures.1 c.in_err-first.ensures.found (first_missed Label.mult (places c.args.tokens.now) (add_view c.args.add.now))
+pub sum_doc-returns-in_err-first-clause-found : goal.sum_doc-returns-in_err-first-clause-found
+sum_doc-returns-in_err-first-clause-found _ c = missed c.from_residual.result _ _ _ c.from_residual.ensures.1 c.in_err-first.ensures.found (first_missed Label.mult (places c.args.tokens.now) (add_view c.args.add.now))
 
-pub add_doc-returns-then-is_empty-clause-found : goal.add_doc-returns-then-is_empty-clause-found
-add_doc-returns-then-is_empty-clause-found _ c =
-    first_found Label.mult (places c.args.tokens.now) (add_view c.args.add.now) c.in_ok-first.ensures.found ∙ ap (λ z. has_its_tokens (places c.args.tokens.now) (add_items z)) (is_nil (out-Add c.args.add.now).extended _ c.is_empty.ensures c.if-is_empty.true)
-
-pub add_doc-returns-then-is_empty-clause-shows : goal.add_doc-returns-then-is_empty-clause-shows
-add_doc-returns-then-is_empty-clause-shows _ c t n before after st =
-    let i = to_z w64 (of_z w64 c.args.indent) in
-    let w : i ≡ c.args.indent = omega (arith, ints) in
-    let r = made_alone kind.add kind.mult Label.mult refl sign_and_line i (inside_add i) (add_chain i) (add_parts c.args.add.now) _ c.in_ok-first.first (add_view c.args.add.now)
-    (ap add_items (is_nil (out-Add c.args.add.now).extended _ c.is_empty.ensures c.if-is_empty.true)) (λ x at e. c.in_ok-first.ensures.shows x e) t n before after st in
-    (c.in_ok-group.ensures ∙ ap group r.0 ∙ add_group i t ∙ ap (λ z. document z t) w, r.1)
-
-pub add_doc-loop-op-init : goal.add_doc-loop-op-init
-add_doc-loop-op-init _ c =
+pub sum_doc-loop-op-init : goal.sum_doc-loop-op-init
+sum_doc-loop-op-init _ c =
     let i = to_z w64 (of_z w64 c.args.indent) in
     record {
       kept = c.mult_doc.ensures.kept;
@@ -455,51 +445,66 @@ add_doc-loop-op-init _ c =
       shown = made_first kind.add kind.mult Label.mult refl sign_and_line i (inside_add i) (add_chain i) (add_parts c.args.add.now) _ c.in_ok-first.first (add_view c.args.add.now) c.in_ok-docs.ensures.items (λ x at e. c.in_ok-first.ensures.shows x e);
     }
 
-pub add_doc-returns-in_err-mult_doc-clause-found : goal.add_doc-returns-in_err-mult_doc-clause-found
-add_doc-returns-in_err-mult_doc-clause-found _ c =
+pub sum_doc-returns-in_err-mult_doc-clause-found : goal.sum_doc-returns-in_err-mult_doc-clause-found
+sum_doc-returns-in_err-mult_doc-clause-found _ c =
     let left = one_left Label.mult mult_parts (λ x. addop_text x.0) (λ x. x.1) (out-Add c.args.add.now).extended.items _ c.deref-op-items.ensures.value c.loop-op.op-index c.loop-op-item.result c.loop-op-test.true c.loop-op-item.is in
     missed c.from_residual-in_err-mult_doc.result _ _ _ c.from_residual-in_err-mult_doc.ensures.1 c.in_err-mult_doc.ensures.found
-    (λ h. c.loop-op.invariant.found ∙ next_missed Label.mult c.args.tokens.now c.sign_and_line.new.tokens (c.in_ok-sign_and_line.ensures.kept ∙ c.loop-op.invariant.kept) left h)
+    (λ h. c.loop-op.invariant.found ∙ next_missed Label.mult c.args.tokens.now c.push_sign_and_line.new.tokens (c.in_ok-push_sign_and_line.ensures.kept ∙ c.loop-op.invariant.kept) left h)
 
-pub add_doc-loop-op-preserved : goal.add_doc-loop-op-preserved
-add_doc-loop-op-preserved _ c =
+pub sum_doc-loop-op-preserved : goal.sum_doc-loop-op-preserved
+sum_doc-loop-op-preserved _ c =
     let left = one_left Label.mult mult_parts (λ x. addop_text x.0) (λ x. x.1) (out-Add c.args.add.now).extended.items _ c.deref-op-items.ensures.value c.loop-op.op-index c.loop-op-item.result c.loop-op-test.true c.loop-op-item.is in
     let i = to_z w64 (of_z w64 c.args.indent) in
-    let kept = c.in_ok-sign_and_line.ensures.kept ∙ c.loop-op.invariant.kept in
+    let kept = c.in_ok-push_sign_and_line.ensures.kept ∙ c.loop-op.invariant.kept in
     record {
       kept = c.in_ok-mult_doc.ensures.kept ∙ kept;
-      found = c.loop-op.invariant.found ∙ next_found Label.mult c.args.tokens.now c.sign_and_line.new.tokens kept left c.in_ok-mult_doc.ensures.found;
-      shown = operand_more kind.add kind.mult Label.mult refl sign_and_line i (inside_add i) (add_parts c.args.add.now) _ (add_chain i) c.in_ok-sign_and_line.field-0 c.in_ok-mult_doc.field-0 left
-          c.in_ok-push.ensures.items c.in_ok-push-2.ensures.items (λ o g. c.in_ok-sign_and_line.ensures.shows o (c.add_op_text.ensures ∙ g)) (λ x at e. c.in_ok-mult_doc.ensures.shows x e) c.loop-op.invariant.shown;
+      found = c.loop-op.invariant.found ∙ next_found Label.mult c.args.tokens.now c.push_sign_and_line.new.tokens kept left c.in_ok-mult_doc.ensures.found;
+      shown = operand_more kind.add kind.mult Label.mult refl sign_and_line i (inside_add i) (add_parts c.args.add.now) _ _ (add_chain i) c.in_ok-push_sign_and_line.ensures.puts.0 c.in_ok-mult_doc.field-0 left
+          c.in_ok-push_sign_and_line.ensures.puts.1 c.in_ok-push.ensures.items (λ o g. c.in_ok-push_sign_and_line.ensures.puts.2 o (c.add_op_text.ensures ∙ g)) (λ x at e. c.in_ok-mult_doc.ensures.shows x e) c.loop-op.invariant.shown;
     }
 
-pub add_doc-returns-clause-shows : goal.add_doc-returns-clause-shows
-add_doc-returns-clause-shows _ c t n before after st =
+pub sum_doc-returns-clause-shows : goal.sum_doc-returns-clause-shows
+sum_doc-returns-clause-shows _ c t n before after st =
     let i = to_z w64 (of_z w64 c.args.indent) in
     let w : i ≡ c.args.indent = omega (arith, ints) in
     let left = none_left Label.mult mult_parts (λ x. addop_text x.0) (λ x. x.1) (out-Add c.args.add.now).extended.items _ c.deref-op-items.ensures.value c.loop-op.op-index c.loop-op-test.false in
     let r = made_all kind.add kind.mult Label.mult refl sign_and_line i (inside_add i) (add_chain i) (add_parts c.args.add.now) _ c.loop-op.docs left c.loop-op.invariant.shown t n before after st in
-    (c.in_ok-group-2.ensures ∙ ap group r.0 ∙ add_group i t ∙ ap (λ z. document z t) w, r.1)
+    (c.in_ok-group.ensures ∙ ap group r.0 ∙ add_group i t ∙ ap (λ z. document z t) w, r.1)
 
--- mult_doc
+pub lone_mult_doc-returns-in_err-only-clause-found : goal.lone_mult_doc-returns-in_err-only-clause-found
+lone_mult_doc-returns-in_err-only-clause-found _ c = missed c.from_residual.result _ _ _ c.from_residual.ensures.1 c.in_err-only.ensures.found (λ h. h)
 
-pub mult_doc-returns-in_err-first-clause-found : goal.mult_doc-returns-in_err-first-clause-found
-mult_doc-returns-in_err-first-clause-found _ c = missed c.from_residual.result _ _ _ c.from_residual.ensures.1 c.in_err-first.ensures.found (first_missed Label.unary (places c.args.tokens.now) (mult_view c.args.mult.now))
+pub lone_mult_doc-returns-clause-shows : goal.lone_mult_doc-returns-clause-shows
+lone_mult_doc-returns-clause-shows _ c t n before after st =
+    let w : to_z w64 (of_z w64 c.args.indent) ≡ c.args.indent = omega (arith, ints) in
+    let r = c.in_ok-only.ensures.shows t n before after st in
+    (c.in_ok-group.ensures ∙ ap group r.0 ∙ ap (λ z. group (document z t)) w, r.1)
 
-pub mult_doc-returns-then-is_empty-clause-found : goal.mult_doc-returns-then-is_empty-clause-found
-mult_doc-returns-then-is_empty-clause-found _ c =
-    first_found Label.unary (places c.args.tokens.now) (mult_view c.args.mult.now) c.in_ok-first.ensures.found ∙ ap (λ z. has_its_tokens (places c.args.tokens.now) (mult_items z)) (is_nil (out-Mult c.args.mult.now).extended _ c.is_empty.ensures c.if-is_empty.true)
+pub add_doc-returns-then-is_empty-clause-found : goal.add_doc-returns-then-is_empty-clause-found
+add_doc-returns-then-is_empty-clause-found _ c =
+    let alone = ap add_items (is_nil (out-Add c.args.add.now).extended _ c.is_empty.ensures c.if-is_empty.true) in
+    subst (Finds c.lone_mult_doc.result) (sym (found_alone Label.mult (places c.args.tokens.now) (add_view c.args.add.now) alone)) c.lone_mult_doc.ensures.found
 
-pub mult_doc-returns-then-is_empty-clause-shows : goal.mult_doc-returns-then-is_empty-clause-shows
-mult_doc-returns-then-is_empty-clause-shows _ c t n before after st =
+pub add_doc-returns-then-is_empty-clause-shows : goal.add_doc-returns-then-is_empty-clause-shows
+add_doc-returns-then-is_empty-clause-shows _ c t n =
     let i = to_z w64 (of_z w64 c.args.indent) in
     let w : i ≡ c.args.indent = omega (arith, ints) in
-    let r = made_alone kind.mult kind.unary Label.unary refl sign_and_line i (inside_mult i) (mult_chain i) (mult_parts c.args.mult.now) _ c.in_ok-first.first (mult_view c.args.mult.now)
-    (ap mult_items (is_nil (out-Mult c.args.mult.now).extended _ c.is_empty.ensures c.if-is_empty.true)) (λ x at e. c.in_ok-first.ensures.shows x at e) t n before after st in
-    (c.in_ok-group.ensures ∙ ap group r.0 ∙ mult_group i t ∙ ap (λ z. document z t) w, r.1)
+    let alone = ap add_items (is_nil (out-Add c.args.add.now).extended _ c.is_empty.ensures c.if-is_empty.true) in
+    subst (λ z. Shows c.lone_mult_doc.result c.args.tokens.now c.lone_mult_doc.new.tokens (yield t) z) (add_group i t ∙ ap (λ z. document z t) w)
+    (shows_within kind.add kind.mult Label.mult refl sign_and_line i (inside_add i) (add_chain i) (add_parts c.args.add.now) _ group c.lone_mult_doc.result _ (add_view c.args.add.now) alone (λ x at. c.lone_mult_doc.ensures.shows x) t n)
 
-pub mult_doc-loop-operand-init : goal.mult_doc-loop-operand-init
-mult_doc-loop-operand-init _ c =
+pub add_doc-returns-clause-shows : goal.add_doc-returns-clause-shows
+add_doc-returns-clause-shows _ c t n =
+    let w : to_z w64 (of_z w64 c.args.indent) ≡ c.args.indent = omega (arith, ints) in
+    simp w at (c.sum_doc.ensures.shows t n)
+
+-- mult_doc, and product_doc where there is more than one
+
+pub product_doc-returns-in_err-first-clause-found : goal.product_doc-returns-in_err-first-clause-found
+product_doc-returns-in_err-first-clause-found _ c = missed c.from_residual.result _ _ _ c.from_residual.ensures.1 c.in_err-first.ensures.found (first_missed Label.unary (places c.args.tokens.now) (mult_view c.args.mult.now))
+
+pub product_doc-loop-operand-init : goal.product_doc-loop-operand-init
+product_doc-loop-operand-init _ c =
     let i = to_z w64 (of_z w64 c.args.indent) in
     record {
       kept = c.unary_doc.ensures.kept;
@@ -507,31 +512,58 @@ mult_doc-loop-operand-init _ c =
       shown = made_first kind.mult kind.unary Label.unary refl sign_and_line i (inside_mult i) (mult_chain i) (mult_parts c.args.mult.now) _ c.in_ok-first.first (mult_view c.args.mult.now) c.in_ok-docs.ensures.items (λ x at e. c.in_ok-first.ensures.shows x at e);
     }
 
-pub mult_doc-returns-in_err-unary_doc-clause-found : goal.mult_doc-returns-in_err-unary_doc-clause-found
-mult_doc-returns-in_err-unary_doc-clause-found _ c =
+pub product_doc-returns-in_err-unary_doc-clause-found : goal.product_doc-returns-in_err-unary_doc-clause-found
+product_doc-returns-in_err-unary_doc-clause-found _ c =
     let left = one_left Label.unary unary_parts (λ _. codes "*") (λ x. x.1) (out-Mult c.args.mult.now).extended.items _ c.deref-operand-items.ensures.value c.loop-operand.operand-index c.loop-operand-item.result c.loop-operand-test.true c.loop-operand-item.is in
     missed c.from_residual-in_err-unary_doc.result _ _ _ c.from_residual-in_err-unary_doc.ensures.1 c.in_err-unary_doc.ensures.found
-    (λ h. c.loop-operand.invariant.found ∙ next_missed Label.unary c.args.tokens.now c.sign_and_line.new.tokens (c.in_ok-sign_and_line.ensures.kept ∙ c.loop-operand.invariant.kept) left h)
+    (λ h. c.loop-operand.invariant.found ∙ next_missed Label.unary c.args.tokens.now c.push_sign_and_line.new.tokens (c.in_ok-push_sign_and_line.ensures.kept ∙ c.loop-operand.invariant.kept) left h)
 
-pub mult_doc-loop-operand-preserved : goal.mult_doc-loop-operand-preserved
-mult_doc-loop-operand-preserved _ c =
+pub product_doc-loop-operand-preserved : goal.product_doc-loop-operand-preserved
+product_doc-loop-operand-preserved _ c =
     let left = one_left Label.unary unary_parts (λ _. codes "*") (λ x. x.1) (out-Mult c.args.mult.now).extended.items _ c.deref-operand-items.ensures.value c.loop-operand.operand-index c.loop-operand-item.result c.loop-operand-test.true c.loop-operand-item.is in
     let i = to_z w64 (of_z w64 c.args.indent) in
-    let kept = c.in_ok-sign_and_line.ensures.kept ∙ c.loop-operand.invariant.kept in
+    let kept = c.in_ok-push_sign_and_line.ensures.kept ∙ c.loop-operand.invariant.kept in
     record {
       kept = c.in_ok-unary_doc.ensures.kept ∙ kept;
-      found = c.loop-operand.invariant.found ∙ next_found Label.unary c.args.tokens.now c.sign_and_line.new.tokens kept left c.in_ok-unary_doc.ensures.found;
-      shown = operand_more kind.mult kind.unary Label.unary refl sign_and_line i (inside_mult i) (mult_parts c.args.mult.now) _ (mult_chain i) c.in_ok-sign_and_line.field-0 c.in_ok-unary_doc.field-0 left
-          c.in_ok-push.ensures.items c.in_ok-push-2.ensures.items c.in_ok-sign_and_line.ensures.shows (λ x at e. c.in_ok-unary_doc.ensures.shows x at e) c.loop-operand.invariant.shown;
+      found = c.loop-operand.invariant.found ∙ next_found Label.unary c.args.tokens.now c.push_sign_and_line.new.tokens kept left c.in_ok-unary_doc.ensures.found;
+      shown = operand_more kind.mult kind.unary Label.unary refl sign_and_line i (inside_mult i) (mult_parts c.args.mult.now) _ _ (mult_chain i) c.in_ok-push_sign_and_line.ensures.puts.0 c.in_ok-unary_doc.field-0 left
+          c.in_ok-push_sign_and_line.ensures.puts.1 c.in_ok-push.ensures.items c.in_ok-push_sign_and_line.ensures.puts.2 (λ x at e. c.in_ok-unary_doc.ensures.shows x at e) c.loop-operand.invariant.shown;
     }
 
-pub mult_doc-returns-clause-shows : goal.mult_doc-returns-clause-shows
-mult_doc-returns-clause-shows _ c t n before after st =
+pub product_doc-returns-clause-shows : goal.product_doc-returns-clause-shows
+product_doc-returns-clause-shows _ c t n before after st =
     let i = to_z w64 (of_z w64 c.args.indent) in
     let w : i ≡ c.args.indent = omega (arith, ints) in
     let left = none_left Label.unary unary_parts (λ _. codes "*") (λ x. x.1) (out-Mult c.args.mult.now).extended.items _ c.deref-operand-items.ensures.value c.loop-operand.operand-index c.loop-operand-test.false in
     let r = made_all kind.mult kind.unary Label.unary refl sign_and_line i (inside_mult i) (mult_chain i) (mult_parts c.args.mult.now) _ c.loop-operand.docs left c.loop-operand.invariant.shown t n before after st in
-    (c.in_ok-group-2.ensures ∙ ap group r.0 ∙ mult_group i t ∙ ap (λ z. document z t) w, r.1)
+    (c.in_ok-group.ensures ∙ ap group r.0 ∙ mult_group i t ∙ ap (λ z. document z t) w, r.1)
+
+pub lone_unary_doc-returns-in_err-only-clause-found : goal.lone_unary_doc-returns-in_err-only-clause-found
+lone_unary_doc-returns-in_err-only-clause-found _ c = missed c.from_residual.result _ _ _ c.from_residual.ensures.1 c.in_err-only.ensures.found (λ h. h)
+
+pub lone_unary_doc-returns-clause-shows : goal.lone_unary_doc-returns-clause-shows
+lone_unary_doc-returns-clause-shows _ c t at n before after st =
+    let w : to_z w64 (of_z w64 c.args.indent) ≡ c.args.indent = omega (arith, ints) in
+    let r = c.in_ok-only.ensures.shows t at n before after st in
+    (c.in_ok-group.ensures ∙ ap group r.0 ∙ ap (λ z. group (document z t)) w, r.1)
+
+pub mult_doc-returns-then-is_empty-clause-found : goal.mult_doc-returns-then-is_empty-clause-found
+mult_doc-returns-then-is_empty-clause-found _ c =
+    let alone = ap mult_items (is_nil (out-Mult c.args.mult.now).extended _ c.is_empty.ensures c.if-is_empty.true) in
+    subst (Finds c.lone_unary_doc.result) (sym (found_alone Label.unary (places c.args.tokens.now) (mult_view c.args.mult.now) alone)) c.lone_unary_doc.ensures.found
+
+pub mult_doc-returns-then-is_empty-clause-shows : goal.mult_doc-returns-then-is_empty-clause-shows
+mult_doc-returns-then-is_empty-clause-shows _ c t n =
+    let i = to_z w64 (of_z w64 c.args.indent) in
+    let w : i ≡ c.args.indent = omega (arith, ints) in
+    let alone = ap mult_items (is_nil (out-Mult c.args.mult.now).extended _ c.is_empty.ensures c.if-is_empty.true) in
+    subst (λ z. Shows c.lone_unary_doc.result c.args.tokens.now c.lone_unary_doc.new.tokens (yield t) z) (mult_group i t ∙ ap (λ z. document z t) w)
+    (shows_within kind.mult kind.unary Label.unary refl sign_and_line i (inside_mult i) (mult_chain i) (mult_parts c.args.mult.now) _ group c.lone_unary_doc.result _ (mult_view c.args.mult.now) alone c.lone_unary_doc.ensures.shows t n)
+
+pub mult_doc-returns-clause-shows : goal.mult_doc-returns-clause-shows
+mult_doc-returns-clause-shows _ c t n =
+    let w : to_z w64 (of_z w64 c.args.indent) ≡ c.args.indent = omega (arith, ints) in
+    simp w at (c.product_doc.ensures.shows t n)
 
 -- unary_doc
 
@@ -568,24 +600,24 @@ unary_doc-returns-clause-shows _ c = λ t starts e.
 
 -- member_doc
 
-pub member_doc-returns-in_err-accesses_doc-clause-found : goal.member_doc-returns-in_err-accesses_doc-clause-found
-member_doc-returns-in_err-accesses_doc-clause-found _ c =
-    missed c.from_residual-in_err-accesses_doc.result _ _ _ c.from_residual-in_err-accesses_doc.ensures.1 c.in_err-accesses_doc.ensures.found
+pub member_doc-returns-in_err-accesses-clause-found : goal.member_doc-returns-in_err-accesses-clause-found
+member_doc-returns-in_err-accesses-clause-found _ c =
+    missed c.from_residual-in_err-accesses.result _ _ _ c.from_residual-in_err-accesses.ensures.1 c.in_err-accesses.ensures.found
     (λ h. and_last (has_its_tokens (places c.args.tokens.now) (primary_parts c.args.member.now.item.inner)) _ (ap (λ z. has_its_tokens (places c.args.tokens.now) (access_items z)) (sym c.deref.ensures.value)
     ∙ as_before (λ ps. has_its_tokens ps (access_items c.deref.result.now)) false c.args.tokens.now c.primary_doc.new.tokens c.in_ok-item.ensures.kept h))
 
 pub member_doc-returns-clause-found : goal.member_doc-returns-clause-found
 member_doc-returns-clause-found _ c =
     both_true c.in_ok-item.ensures.found (ap (λ z. has_its_tokens (places c.args.tokens.now) (access_items z)) (sym c.deref.ensures.value)
-    ∙ as_before (λ ps. has_its_tokens ps (access_items c.deref.result.now)) true c.args.tokens.now c.primary_doc.new.tokens c.in_ok-item.ensures.kept c.in_ok-accesses_doc.ensures.found)
+    ∙ as_before (λ ps. has_its_tokens ps (access_items c.deref.result.now)) true c.args.tokens.now c.primary_doc.new.tokens c.in_ok-item.ensures.kept c.in_ok-accesses.ensures.found)
 
 pub member_doc-returns-clause-shows : goal.member_doc-returns-clause-shows
 member_doc-returns-clause-shows _ c (member_of p m) e =
     let o = opened_tree Label.primary c.args.member.now.item.span _ _ p (parts kind_of_shown m) refl e in
     let i = to_z w64 (of_z w64 c.args.indent) in
     at_indent i c.args.indent (member_of p m) (to_z-of_z c.ranges.indent)
-    (member_shown i p m _ _ _ _ _ _ (c.in_ok-item.ensures.shows p o.1 o.0) (c.in_ok-accesses_doc.ensures.shows m (ap access_items c.deref.ensures.value ∙ o.2))
-    (c.in_ok-group.ensures ∙ ap group (flat _ _ c.in_ok-vec.ensures.items ∙ ap (λ z. doc_of c.in_ok-item.item · z) c.in_ok-accesses.ensures)))
+    (member_shown i p m _ _ _ _ _ _ (c.in_ok-item.ensures.shows p o.1 o.0) (c.in_ok-accesses.ensures.shows m (ap access_items c.deref.ensures.value ∙ o.2))
+    c.in_ok-nested_row.ensures)
 
 -- accesses_doc
 
@@ -771,9 +803,9 @@ record_doc-returns-clause-shows _ c (record_empty l r) at e =
     let none_there = no_items Label.rec_init init_parts c.args.inits.now q.0 in
     let first = rewritten (l ∷ []) (nothing_behind l) (freely (l ∷ []) (c.in_ok-open.ensures.shows l (starts_here c.args.span l (r ∷ []) at) p.0)) in
     let inside = freely [] (c.in_ok-items.ensures.none none_there) in
-    let last = rewritten (r ∷ []) (nothing_behind r) (freely (r ∷ []) (c.in_ok-close.ensures.shows r (ends_with c.args.span l [] r at) q.1)) in
-    λ before after st. let k = in_brackets (λ a b d. a · d) l [] r first inside last before after tt st in
-    (c.in_ok-entries_row.ensures ∙ if_so _ _ (tests_empty c.args.inits.now _ _ refl c.is_empty-none.ensures none_there) ∙ k.0, k.1)
+    let last = freely (r ∷ []) (c.in_ok-closed_record.ensures.shows r (ends_with c.args.span l [] r at) q.1) in
+    λ before after st. let k = in_brackets {Y = Doc × Doc} (λ a b d. (a, d)) l [] r first inside last before after tt st in
+    (ap (λ z. z.1) k.0 ∙ if_so _ _ (tests_empty c.args.inits.now _ _ refl c.is_empty-none.ensures none_there) ∙ ap (λ z. z.0 · table.leaf (as_leaf r)) k.0, k.1)
 record_doc-returns-clause-shows _ c (record_of l x r) at e =
     let w = to_z w64 (of_z w64 c.args.indent) in
     let fits : w ≡ c.args.indent = omega (arith, ints) in
@@ -782,10 +814,11 @@ record_doc-returns-clause-shows _ c (record_of l x r) at e =
     let q = closed (item_trees Label.rec_init init_parts c.args.inits.now) _ (parts kind_of_shown x) r p.1 in
     let first = rewritten (l ∷ []) (nothing_behind l) (freely (l ∷ []) (c.in_ok-open.ensures.shows l (starts_here c.args.span l (yield x ++ (r ∷ [])) at) p.0)) in
     let inside = freely (yield x) (c.in_ok-items.ensures.shows x q.0) in
-    let closing = rewritten (r ∷ []) (nothing_behind r) (freely (r ∷ []) (c.in_ok-close.ensures.shows r (ends_with c.args.span l (yield x) r at) q.1)) in
+    let last = freely (r ∷ []) (c.in_ok-closed_record.ensures.shows r (ends_with c.args.span l (yield x) r at) q.1) in
     λ before after st.
-    let k = in_brackets (λ a b d. a · nest w (group (line · b · line)) · d) l (yield x) r first inside closing before after tt st in
-    (c.in_ok-entries_row.ensures ∙ if_not _ _ (tests_full c.args.inits.now _ _ refl c.is_empty-none.ensures (some_inits c.args.inits.now x q.0)) ∙ k.0 ∙ ap (λ z. document z (record_of l x r)) fits, k.1)
+    let k = in_brackets {Y = Doc × Doc × Doc} (λ a b d. (a, b, d)) l (yield x) r first inside last before after tt st in
+    (ap (λ z. z.2) k.0 ∙ if_not _ _ (tests_full c.args.inits.now _ _ refl c.is_empty-none.ensures (some_inits c.args.inits.now x q.0)) ∙ ap (λ z. z.0 · nest w (group (line · z.1 · line)) · table.leaf (as_leaf r)) k.0
+    ∙ ap (λ z. document z (record_of l x r)) fits, k.1)
 record_doc-returns-clause-shows _ c t at e = absurd (only records _ t refl e)
 
 -- items_doc
@@ -797,13 +830,13 @@ items_doc-loop-item-preserved _ c =
     let node = c.item-item.result in
     let here = from_index items j node c.loop-item-test.true c.item-item.is in
     record {
-      kept = c.in_ok-expr_doc.ensures.kept ∙ c.in_ok-comma_before.ensures.kept ∙ c.loop-item.invariant.kept;
+      kept = c.in_ok-expr_doc.ensures.kept ∙ c.in_ok-push_comma.ensures.kept ∙ c.loop-item.invariant.kept;
       found = c.loop-item.invariant.found ∙ item_and_more (places c.args.tokens.now) Label.expr (λ s f. refl) expr_parts items j node here
-          ∙ and_true _ _ (as_before (λ s. has_its_tokens s (expr_parts node.inner)) _ _ _ (c.in_ok-comma_before.ensures.kept ∙ c.loop-item.invariant.kept) c.in_ok-expr_doc.ensures.found);
-      shown = next_item Expr.Expr kind.expr Label.expr expr_parts (to_z w64 (of_z w64 c.args.indent)) refl items c.loop-item.before node (drop j items) (drop (j + 1) items) (docs_of c.loop-item.docs.items) (docs_of c.push-in-loop-item.new.self.items)
-          (doc_of c.in_ok-comma_before.field-0) (doc_of c.in_ok-expr_doc.field-0) (map shown c.args.tokens.now) (map shown c.loop-item.tokens) (map shown c.comma_before.new.tokens) (map shown c.expr_doc.new.tokens)
-          here (some_at items j c.loop-item-test.true) c.loop-item.invariant.shown c.in_ok-comma_before.ensures.none c.in_ok-comma_before.ensures.shows
-          c.in_ok-expr_doc.ensures.shows (pushed_two _ _ _ _ _ c.in_ok-push.ensures.items c.in_ok-push-2.ensures.items);
+          ∙ and_true _ _ (as_before (λ s. has_its_tokens s (expr_parts node.inner)) _ _ _ (c.in_ok-push_comma.ensures.kept ∙ c.loop-item.invariant.kept) c.in_ok-expr_doc.ensures.found);
+      shown = next_item Expr.Expr kind.expr Label.expr expr_parts (to_z w64 (of_z w64 c.args.indent)) refl items c.loop-item.before node (drop j items) (drop (j + 1) items) (docs_of c.loop-item.docs.items) (docs_of c.push_comma.new.docs.items) (docs_of c.push.new.self.items)
+          (doc_of c.in_ok-expr_doc.field-0) (map shown c.args.tokens.now) (map shown c.loop-item.tokens) (map shown c.push_comma.new.tokens) (map shown c.expr_doc.new.tokens)
+          here (some_at items j c.loop-item-test.true) c.loop-item.invariant.shown (λ e. let h = c.in_ok-push_comma.ensures.none e in (ap docs_of h.0, ap (map shown) h.1)) c.in_ok-push_comma.ensures.puts
+          c.in_ok-expr_doc.ensures.shows (pushed _ _ _ c.in_ok-push.ensures.items);
     }
 
 pub items_doc-returns-in_err-expr_doc-clause-found : goal.items_doc-returns-in_err-expr_doc-clause-found
@@ -811,7 +844,7 @@ items_doc-returns-in_err-expr_doc-clause-found _ c =
     let node = c.item-item.result in
     missed _ _ _ _ c.from_residual-in_err-expr_doc.ensures.1 c.in_err-expr_doc.ensures.found
     (λ h. c.loop-item.invariant.found ∙ item_and_more (places c.args.tokens.now) Label.expr (λ s f. refl) expr_parts c.args.items.now c.loop-item.item-index node (from_index _ _ node c.loop-item-test.true c.item-item.is)
-    ∙ and_false _ _ (as_before (λ s. has_its_tokens s (expr_parts node.inner)) _ _ _ (c.in_ok-comma_before.ensures.kept ∙ c.loop-item.invariant.kept) h))
+    ∙ and_false _ _ (as_before (λ s. has_its_tokens s (expr_parts node.inner)) _ _ _ (c.in_ok-push_comma.ensures.kept ∙ c.loop-item.invariant.kept) h))
 
 pub items_doc-returns-clause-shows : goal.items_doc-returns-clause-shows
 items_doc-returns-clause-shows _ c t e before after st =
@@ -829,13 +862,13 @@ inits_doc-loop-init-preserved _ c =
     let node = c.init-item.result in
     let here = from_index inits j node c.loop-init-test.true c.init-item.is in
     record {
-      kept = c.in_ok-init_doc.ensures.kept ∙ c.in_ok-comma_before.ensures.kept ∙ c.loop-init.invariant.kept;
+      kept = c.in_ok-init_doc.ensures.kept ∙ c.in_ok-push_comma.ensures.kept ∙ c.loop-init.invariant.kept;
       found = c.loop-init.invariant.found ∙ item_and_more (places c.args.tokens.now) Label.rec_init (λ s f. refl) init_parts inits j node here
-          ∙ and_true _ _ (as_before (λ s. has_its_tokens s (init_parts node.inner)) _ _ _ (c.in_ok-comma_before.ensures.kept ∙ c.loop-init.invariant.kept) c.in_ok-init_doc.ensures.found);
-      shown = next_item RecInit.RecInit kind.init Label.rec_init init_parts (to_z w64 (of_z w64 c.args.indent)) refl inits c.loop-init.before node (drop j inits) (drop (j + 1) inits) (docs_of c.loop-init.docs.items) (docs_of c.push-in-loop-init.new.self.items)
-          (doc_of c.in_ok-comma_before.field-0) (doc_of c.in_ok-init_doc.field-0) (map shown c.args.tokens.now) (map shown c.loop-init.tokens) (map shown c.comma_before.new.tokens) (map shown c.init_doc.new.tokens)
-          here (some_at inits j c.loop-init-test.true) c.loop-init.invariant.shown c.in_ok-comma_before.ensures.none c.in_ok-comma_before.ensures.shows
-          (λ f at. c.in_ok-init_doc.ensures.shows f) (pushed_two _ _ _ _ _ c.in_ok-push.ensures.items c.in_ok-push-2.ensures.items);
+          ∙ and_true _ _ (as_before (λ s. has_its_tokens s (init_parts node.inner)) _ _ _ (c.in_ok-push_comma.ensures.kept ∙ c.loop-init.invariant.kept) c.in_ok-init_doc.ensures.found);
+      shown = next_item RecInit.RecInit kind.init Label.rec_init init_parts (to_z w64 (of_z w64 c.args.indent)) refl inits c.loop-init.before node (drop j inits) (drop (j + 1) inits) (docs_of c.loop-init.docs.items) (docs_of c.push_comma.new.docs.items) (docs_of c.push.new.self.items)
+          (doc_of c.in_ok-init_doc.field-0) (map shown c.args.tokens.now) (map shown c.loop-init.tokens) (map shown c.push_comma.new.tokens) (map shown c.init_doc.new.tokens)
+          here (some_at inits j c.loop-init-test.true) c.loop-init.invariant.shown (λ e. let h = c.in_ok-push_comma.ensures.none e in (ap docs_of h.0, ap (map shown) h.1)) c.in_ok-push_comma.ensures.puts
+          (λ f at. c.in_ok-init_doc.ensures.shows f) (pushed _ _ _ c.in_ok-push.ensures.items);
     }
 
 pub inits_doc-returns-in_err-init_doc-clause-found : goal.inits_doc-returns-in_err-init_doc-clause-found
@@ -843,7 +876,7 @@ inits_doc-returns-in_err-init_doc-clause-found _ c =
     let node = c.init-item.result in
     missed _ _ _ _ c.from_residual-in_err-init_doc.ensures.1 c.in_err-init_doc.ensures.found
     (λ h. c.loop-init.invariant.found ∙ item_and_more (places c.args.tokens.now) Label.rec_init (λ s f. refl) init_parts c.args.inits.now c.loop-init.init-index node (from_index _ _ node c.loop-init-test.true c.init-item.is)
-    ∙ and_false _ _ (as_before (λ s. has_its_tokens s (init_parts node.inner)) _ _ _ (c.in_ok-comma_before.ensures.kept ∙ c.loop-init.invariant.kept) h))
+    ∙ and_false _ _ (as_before (λ s. has_its_tokens s (init_parts node.inner)) _ _ _ (c.in_ok-push_comma.ensures.kept ∙ c.loop-init.invariant.kept) h))
 
 pub inits_doc-returns-clause-shows : goal.inits_doc-returns-clause-shows
 inits_doc-returns-clause-shows _ c t e before after st =
@@ -857,12 +890,12 @@ inits_doc-returns-clause-shows _ c t e before after st =
 pub init_doc-returns-in_err-key-clause-found : goal.init_doc-returns-in_err-key-clause-found
 init_doc-returns-in_err-key-clause-found _ c = missed _ _ _ _ c.from_residual.ensures.1 c.in_err-key.ensures.found (λ h. rw h refl)
 
-pub init_doc-returns-in_err-value-clause-found : goal.init_doc-returns-in_err-value-clause-found
-init_doc-returns-in_err-value-clause-found _ c = missed _ _ _ _ c.from_residual-in_err-value.ensures.1 c.in_err-value.ensures.found
-    (λ h. rw (c.in_ok-key.ensures.found, as_before (λ s. has_its_tokens s (expr_parts c.args.init.now.value.inner)) _ _ _ (c.in_ok-colon.ensures.kept ∙ c.in_ok-key.ensures.kept) h) refl)
+pub init_doc-returns-in_err-expr_doc-clause-found : goal.init_doc-returns-in_err-expr_doc-clause-found
+init_doc-returns-in_err-expr_doc-clause-found _ c = missed _ _ _ _ c.from_residual-in_err-expr_doc.ensures.1 c.in_err-expr_doc.ensures.found
+    (λ h. rw (c.in_ok-key.ensures.found, as_before (λ s. has_its_tokens s (expr_parts c.args.init.now.value.inner)) _ _ _ (c.in_ok-push_colon.ensures.kept ∙ c.in_ok-key.ensures.kept) h) refl)
 
 pub init_doc-returns-clause-found : goal.init_doc-returns-clause-found
-init_doc-returns-clause-found _ c = rw (c.in_ok-key.ensures.found, as_before (λ s. has_its_tokens s (expr_parts c.args.init.now.value.inner)) _ _ _ (c.in_ok-colon.ensures.kept ∙ c.in_ok-key.ensures.kept) c.in_ok-value.ensures.found) refl
+init_doc-returns-clause-found _ c = rw (c.in_ok-key.ensures.found, as_before (λ s. has_its_tokens s (expr_parts c.args.init.now.value.inner)) _ _ _ (c.in_ok-push_colon.ensures.kept ∙ c.in_ok-key.ensures.kept) c.in_ok-expr_doc.ensures.found) refl
 
 pub init_doc-returns-clause-shows : goal.init_doc-returns-clause-shows
 init_doc-returns-clause-shows _ c (init_of k x v) e =
@@ -872,36 +905,38 @@ init_doc-returns-clause-shows _ c (init_of k x v) e =
     let o = opened_tree Label.primary key _ _ k (leaf x (branch Label.expr (parts kind_of_shown v) none)) refl e in
     let p = opened_token _ _ x (branch Label.expr (parts kind_of_shown v) none) o.2 in
     let q = opened_tree Label.expr c.args.init.now.value.span _ _ v none refl p.1 in
-    let colon = rewritten (x ∷ []) (nothing_behind x) (c.in_ok-colon.ensures.shows x p.0) in
-    let behind = in_turn (λ a b. a · space · b) (Behind key) Always (x ∷ []) (yield v) colon (λ b h. tt) (freely (yield v) (c.in_ok-value.ensures.shows v q.1 q.0)) in
+    let colon = c.in_ok-push_colon.ensures.puts in
+    let behind = in_turn (λ a b. a · b) (Behind key) Always (x ∷ []) (yield v) (colon.2 x p.0) (λ b h. tt) (freely (yield v) (c.in_ok-expr_doc.ensures.shows v q.1 q.0)) in
     let all = in_turn (λ a b. a · b) Always (Behind key) (yield k) (x ∷ yield v) (freely (yield k) (c.in_ok-key.ensures.shows k o.1 o.0)) (λ b h. ends_here key (yield k) o.1 b) behind in
-    λ before after st. let r = all before after tt st in (c.in_ok-init_row.ensures ∙ r.0 ∙ ap (λ j. document j (init_of k x v)) fits, r.1)
+    let made = put_between _ _ _ c.in_ok-key.key colon.0 c.in_ok-expr_doc.field-0 c.in_ok-docs.ensures.items colon.1 c.in_ok-push.ensures.items in
+    λ before after st. let r = all before after tt st in
+    (made ∙ r.0 ∙ ap (λ z. document w k · z) (dot_assoc (table.leaf (as_leaf x)) space (document w v)) ∙ ap (λ j. document j (init_of k x v)) fits, r.1)
 
 -- the tokens stay in order from call to call, and the nodes get smaller
 
 pub items_doc-expr_doc-requires : goal.items_doc-expr_doc-requires
-items_doc-expr_doc-requires _ c = (search (rules, Or.the_lemmas), order_kept _ _ (c.in_ok-comma_before.ensures.kept ∙ c.loop-item.invariant.kept) c.requires)
+items_doc-expr_doc-requires _ c = (search (rules, Or.the_lemmas), order_kept _ _ (c.in_ok-push_comma.ensures.kept ∙ c.loop-item.invariant.kept) c.requires)
 
 pub inits_doc-init_doc-requires : goal.inits_doc-init_doc-requires
-inits_doc-init_doc-requires _ c = (search (rules, Or.the_lemmas), order_kept _ _ (c.in_ok-comma_before.ensures.kept ∙ c.loop-init.invariant.kept) c.requires)
+inits_doc-init_doc-requires _ c = (search (rules, Or.the_lemmas), order_kept _ _ (c.in_ok-push_comma.ensures.kept ∙ c.loop-init.invariant.kept) c.requires)
 
 pub init_doc-expr_doc-requires : goal.init_doc-expr_doc-requires
-init_doc-expr_doc-requires _ c = (search (rules, Or.the_lemmas), order_kept _ _ (c.in_ok-colon.ensures.kept ∙ c.in_ok-key.ensures.kept) c.requires)
+init_doc-expr_doc-requires _ c = (search (rules, Or.the_lemmas), order_kept _ _ (c.in_ok-push_colon.ensures.kept ∙ c.in_ok-key.ensures.kept) c.requires)
 
 pub accesses_doc-access_doc-requires : goal.accesses_doc-access_doc-requires
 accesses_doc-access_doc-requires _ c = (search (rules, Or.the_lemmas), order_kept _ _ (c.loop-access.invariant.kept) c.requires)
 
-pub add_doc-mult_doc-requires-in-loop-op : goal.add_doc-mult_doc-requires-in-loop-op
-add_doc-mult_doc-requires-in-loop-op _ c = (search (rules, Or.the_lemmas), order_kept _ _ (c.in_ok-sign_and_line.ensures.kept ∙ c.loop-op.invariant.kept) c.requires)
+pub sum_doc-mult_doc-requires-in-loop-op : goal.sum_doc-mult_doc-requires-in-loop-op
+sum_doc-mult_doc-requires-in-loop-op _ c = (search (rules, Or.the_lemmas), order_kept _ _ (c.in_ok-push_sign_and_line.ensures.kept ∙ c.loop-op.invariant.kept) c.requires)
 
-pub mult_doc-unary_doc-requires-in-loop-operand : goal.mult_doc-unary_doc-requires-in-loop-operand
-mult_doc-unary_doc-requires-in-loop-operand _ c = (search (rules, Or.the_lemmas), order_kept _ _ (c.in_ok-sign_and_line.ensures.kept ∙ c.loop-operand.invariant.kept) c.requires)
+pub product_doc-unary_doc-requires-in-loop-operand : goal.product_doc-unary_doc-requires-in-loop-operand
+product_doc-unary_doc-requires-in-loop-operand _ c = (search (rules, Or.the_lemmas), order_kept _ _ (c.in_ok-push_sign_and_line.ensures.kept ∙ c.loop-operand.invariant.kept) c.requires)
 
 pub ands_doc-relation_doc-requires-in-loop-operand : goal.ands_doc-relation_doc-requires-in-loop-operand
-ands_doc-relation_doc-requires-in-loop-operand _ c = (search (rules, Or.the_lemmas), order_kept _ _ (c.in_ok-breaking_sign.ensures.kept ∙ c.loop-operand.invariant.kept) c.requires)
+ands_doc-relation_doc-requires-in-loop-operand _ c = (search (rules, Or.the_lemmas), order_kept _ _ (c.in_ok-push_breaking_sign.ensures.kept ∙ c.loop-operand.invariant.kept) c.requires)
 
 pub ors_doc-and_doc-requires-in-loop-operand : goal.ors_doc-and_doc-requires-in-loop-operand
-ors_doc-and_doc-requires-in-loop-operand _ c = (search (rules, Or.the_lemmas), order_kept _ _ (c.in_ok-breaking_sign.ensures.kept ∙ c.loop-operand.invariant.kept) c.requires)
+ors_doc-and_doc-requires-in-loop-operand _ c = (search (rules, Or.the_lemmas), order_kept _ _ (c.in_ok-push_breaking_sign.ensures.kept ∙ c.loop-operand.invariant.kept) c.requires)
 
 pub member_doc-accesses_doc-requires : goal.member_doc-accesses_doc-requires
 member_doc-accesses_doc-requires _ c = (search (rules, Or.the_lemmas), order_kept _ _ (c.in_ok-item.ensures.kept) c.requires)

@@ -35,16 +35,16 @@ invariant-ands_doc-loop-operand l = record {
       l.last l.docs.items (map shown l.tokens) (relation_items (drop l.operand-index l.and.extended.items));
 }
 
-abbrev pub invariant-add_doc-loop-op : goal.invariant-add_doc-loop-op
-invariant-add_doc-loop-op l = record {
+abbrev pub invariant-sum_doc-loop-op : goal.invariant-sum_doc-loop-op
+invariant-sum_doc-loop-op l = record {
   kept : KeepsTokens l.fn.tokens l.tokens;
   found : has_its_tokens (places l.fn.tokens) (add_parts l.add) ≡ has_its_tokens (places l.fn.tokens) (add_items (drop l.op-index (out-Add l.add).extended.items));
   shown : MadeSoFar kind.add kind.mult Label.mult sign_and_line l.indent (inside_add l.indent) (add_parts l.add) (map shown l.fn.tokens)
       l.last l.docs.items (map shown l.tokens) (add_items (drop l.op-index (out-Add l.add).extended.items));
 }
 
-abbrev pub invariant-mult_doc-loop-operand : goal.invariant-mult_doc-loop-operand
-invariant-mult_doc-loop-operand l = record {
+abbrev pub invariant-product_doc-loop-operand : goal.invariant-product_doc-loop-operand
+invariant-product_doc-loop-operand l = record {
   kept : KeepsTokens l.fn.tokens l.tokens;
   found : has_its_tokens (places l.fn.tokens) (mult_parts l.mult) ≡ has_its_tokens (places l.fn.tokens) (mult_items (drop l.operand-index (out-Mult l.mult).extended.items));
   shown : MadeSoFar kind.mult kind.unary Label.unary sign_and_line l.indent (inside_mult l.indent) (mult_parts l.mult) (map shown l.fn.tokens)
