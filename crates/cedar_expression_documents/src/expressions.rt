@@ -31,8 +31,8 @@ use cedar_leaf_documents::rows::{
     type_and_in_row,
 };
 use cedar_leaf_documents::tokens::{
-    mark_after, mark_at_end, mark_at_start, push_breaking_sign, push_colon, push_comma,
-    push_sign_and_line, push_spaced_sign,
+    colon_row, mark_after, mark_at_end, mark_at_start, push_breaking_sign, push_comma,
+    push_sign_and_line, sign_row,
 };
 use cedar_tokens::token::{Span, WrappedToken};
 use cedar_tree::tree::{
@@ -274,8 +274,7 @@ fn comparison_doc<'src>(
     ensures shows { (o : Shown) (b : Tree Shown kind.add) → relop_text op ≡ token_value (text_of o) → IsNodeOf (add_parts right.now.inner) b
         → ShowsBehind before.end result tokens.old tokens.new (o ∷ yield b) (doc_of left.entry · space · leaf_of (as_leaf o) · space · document indent b) }
 {
-    let mut docs = vec![in alloc; left]?;
-    push_spaced_sign(alloc, rel_op_text(op), before, tokens, &mut docs)?;
+    let mut docs = sign_row(alloc, left, rel_op_text(op), before, tokens)?;
     docs.push(add_doc(alloc, &right.inner, indent, tokens)?)?;
     Ok(Document::Seq(docs))
 }
@@ -791,8 +790,7 @@ pub fn init_doc<'src>(
     ensures shows { (t : Tree Shown kind.init) → IsNodeOf (init_parts init.now) t → Shows result tokens.old tokens.new (yield t) (document indent t) }
 {
     let key = primary_doc(alloc, &init.key.inner, init.key.span, indent, tokens)?;
-    let mut docs = vec![in alloc; key]?;
-    push_colon(alloc, init.key.span, tokens, &mut docs)?;
+    let mut docs = colon_row(alloc, key, init.key.span, tokens)?;
     docs.push(expr_doc(alloc, &init.value.inner, init.value.span, indent, tokens)?)?;
     Ok(Document::Seq(docs))
 }

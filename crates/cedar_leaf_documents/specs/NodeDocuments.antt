@@ -59,8 +59,12 @@ abbrev pub ShowsBehind : {E : Type 0} → ℕ → Result Document E → List Wra
 ShowsBehind place result old new ts doc = (before after : List Shown) → end_of_tokens before ≡ place → map shown old ≡ before ++ (ts ++ after)
     → IfOk result (λ d. (doc_of d ≡ doc) × (map shown new ≡ (before ++ map emptied ts) ++ after))
 
--- a document is put behind others. It is this one of a token with this text that stands right behind this place; then the token has no comments, and nothing else has changed
-abbrev pub PutsBehind : {U E : Type 0} → ℕ → Result U E → List WrappedToken → List WrappedToken → List Document → List Document → List ℕ → (Shown → Doc) → Type 0
-PutsBehind place result old new docs more text doc = OnOk result ((d : Doc) × (docs_of more ≡ docs_of docs · d)
+-- A document is put behind others: this one of a token with this text that stands right behind this place, if one does; then the token has no comments, and
+-- nothing else has changed.
+abbrev pub IsPutBehind : ℕ → List WrappedToken → List WrappedToken → List Document → List Document → List ℕ → (Shown → Doc) → Type 0
+IsPutBehind place old new docs more text doc = (d : Doc) × (docs_of more ≡ docs_of docs · d)
     × ((t : Shown) → text ≡ token_value (text_of t) → (before after : List Shown) → end_of_tokens before ≡ place → map shown old ≡ before ++ (t ∷ after)
-        → (d ≡ doc t) × (map shown new ≡ (before ++ (emptied t ∷ [])) ++ after)))
+    → (d ≡ doc t) × (map shown new ≡ (before ++ (emptied t ∷ [])) ++ after))
+
+abbrev pub PutsBehind : {U E : Type 0} → ℕ → Result U E → List WrappedToken → List WrappedToken → List Document → List Document → List ℕ → (Shown → Doc) → Type 0
+PutsBehind place result old new docs more text doc = OnOk result (IsPutBehind place old new docs more text doc)

@@ -9,7 +9,7 @@ ghost use Rattle.cedar_layout.specs.Value.{doc_of};
 ghost use Rattle.cedar_layout.specs.Lookups.{AreInOrder, Parts, Shown, comment_parts, emptied, shown};
 ghost use Rattle.cedar_leaf_documents.specs.Found.{Finds, places, starts};
 ghost use Rattle.cedar_leaf_documents.specs.Kept.{KeepsTokens};
-ghost use Rattle.cedar_leaf_documents.specs.NodeDocuments.{PutsBehind, Shows, ShowsBehind, as_leaf, text_of};
+ghost use Rattle.cedar_leaf_documents.specs.NodeDocuments.{IsPutBehind, PutsBehind, Shows, ShowsBehind, as_leaf, text_of};
 ghost use Rattle.cedar_canonical.specs.Table.{C, leaf, space};
 
 use crate::made::NoDocument;
@@ -136,36 +136,42 @@ pub fn push_sign_and_line<'src>(
     push_mark(alloc, text, span, Document::Line, tokens, docs)
 }
 
-/// Puts `space . C(t) . space` of an operator behind a part.
+/// A row of `left` and `space . C(t) . space` of the operator behind it, with room for one document more.
 #[inline(never)]
-pub fn push_spaced_sign<'src>(
+pub fn sign_row<'src>(
     alloc: Global,
+    left: Document<'src>,
     text: &'src str,
     span: Span,
     tokens: &mut [WrappedToken<'src>],
-    docs: &mut Vec<Document<'src>>,
-) -> Result<(), AllocError>
+) -> Result<Vec<Document<'src>>, AllocError>
     requires { AreInOrder tokens.old }
     ensures kept { KeepsTokens tokens.old tokens.new }
-    ensures puts { PutsBehind span.end result tokens.old tokens.new docs.old.items docs.new.items text.now (λ t. space · leaf (as_leaf t) · space) }
+    ensures puts { IfOk result (λ v. IsPutBehind span.end tokens.old tokens.new (left.entry ∷ []) v.items text.now (λ t. space · leaf (as_leaf t) · space)) }
 {
+    let mut docs = Vec::with_capacity(alloc, 5)?;
+    docs.push(left)?;
     docs.push(Document::Text(" "))?;
-    push_mark(alloc, text, span, Document::Text(" "), tokens, docs)
+    push_mark(alloc, text, span, Document::Text(" "), tokens, &mut docs)?;
+    Ok(docs)
 }
 
-/// Puts `C(":") . space` of the colon behind a key.
+/// A row of `key` and `C(":") . space` of the colon behind it, with room for one document more.
 #[inline(never)]
-pub fn push_colon<'src>(
+pub fn colon_row<'src>(
     alloc: Global,
+    key: Document<'src>,
     span: Span,
     tokens: &mut [WrappedToken<'src>],
-    docs: &mut Vec<Document<'src>>,
-) -> Result<(), AllocError>
+) -> Result<Vec<Document<'src>>, AllocError>
     requires { AreInOrder tokens.old }
     ensures kept { KeepsTokens tokens.old tokens.new }
-    ensures puts { PutsBehind span.end result tokens.old tokens.new docs.old.items docs.new.items (codes ":") (λ t. leaf (as_leaf t) · space) }
+    ensures puts { IfOk result (λ v. IsPutBehind span.end tokens.old tokens.new (key.entry ∷ []) v.items (codes ":") (λ t. leaf (as_leaf t) · space)) }
 {
-    push_mark(alloc, ":", span, Document::Text(" "), tokens, docs)
+    let mut docs = Vec::with_capacity(alloc, 4)?;
+    docs.push(key)?;
+    push_mark(alloc, ":", span, Document::Text(" "), tokens, &mut docs)?;
+    Ok(docs)
 }
 
 /// Puts `C(",") . line` of the comma behind the item with this span; nothing where no item stands before.

@@ -248,20 +248,20 @@ first_doc-returns-in-IsIn-clause-shows _ c t e =
 pub comparison_doc-returns-in_err-add_doc-clause-found : goal.comparison_doc-returns-in_err-add_doc-clause-found
 comparison_doc-returns-in_err-add_doc-clause-found _ c =
     missed c.from_residual-in_err-add_doc.result _ _ _ c.from_residual-in_err-add_doc.ensures.1 c.in_err-add_doc.ensures.found
-    (λ h. as_before (λ z. has_its_tokens z (add_parts c.args.right.now.inner)) false c.args.tokens.now c.push_spaced_sign.new.tokens c.in_ok-push_spaced_sign.ensures.kept h)
+    (λ h. as_before (λ z. has_its_tokens z (add_parts c.args.right.now.inner)) false c.args.tokens.now c.sign_row.new.tokens c.in_ok-docs.ensures.kept h)
 
 pub comparison_doc-returns-clause-found : goal.comparison_doc-returns-clause-found
-comparison_doc-returns-clause-found _ c = as_before (λ z. has_its_tokens z (add_parts c.args.right.now.inner)) true c.args.tokens.now c.push_spaced_sign.new.tokens c.in_ok-push_spaced_sign.ensures.kept c.in_ok-add_doc.ensures.found
+comparison_doc-returns-clause-found _ c = as_before (λ z. has_its_tokens z (add_parts c.args.right.now.inner)) true c.args.tokens.now c.sign_row.new.tokens c.in_ok-docs.ensures.kept c.in_ok-add_doc.ensures.found
 
 pub comparison_doc-returns-clause-shows : goal.comparison_doc-returns-clause-shows
 comparison_doc-returns-clause-shows _ c o b f g =
     let i = to_z w64 (of_z w64 c.args.indent) in
     let w : i ≡ c.args.indent = omega (arith, ints) in
     let left = doc_of c.args.left in
-    let sign = c.in_ok-push_spaced_sign.ensures.puts in
+    let sign = c.in_ok-docs.ensures.puts in
     let second = rewritten (yield b) (ap (λ z. document z b) w) (freely (yield b) (c.in_ok-add_doc.ensures.shows b g)) in
     let all = in_turn (λ x y. left · x · y) (Behind c.args.before) Always (o ∷ []) (yield b) (sign.2 o (c.rel_op_text.ensures ∙ f)) (λ b h. tt) second in
-    let made = put_between _ _ _ c.args.left sign.0 c.in_ok-add_doc.field-0 c.in_ok-docs.ensures.items sign.1 c.in_ok-push.ensures.items in
+    let made = put_between _ _ c.args.left sign.0 c.in_ok-add_doc.field-0 sign.1 c.in_ok-push.ensures.items in
     λ before after at st. let r = all before after at st in (made ∙ r.0 ∙ sym (spaced left (table.leaf (as_leaf o)) space (document c.args.indent b)), r.1)
 
 -- keyword_doc
@@ -816,9 +816,11 @@ record_doc-returns-clause-shows _ c (record_of l x r) at e =
     let inside = freely (yield x) (c.in_ok-items.ensures.shows x q.0) in
     let last = freely (r ∷ []) (c.in_ok-closed_record.ensures.shows r (ends_with c.args.span l (yield x) r at) q.1) in
     λ before after st.
-    let k = in_brackets {Y = Doc × Doc × Doc} (λ a b d. (a, b, d)) l (yield x) r first inside last before after tt st in
-    (ap (λ z. z.2) k.0 ∙ if_not _ _ (tests_full c.args.inits.now _ _ refl c.is_empty-none.ensures (some_inits c.args.inits.now x q.0)) ∙ ap (λ z. z.0 · nest w (group (line · z.1 · line)) · table.leaf (as_leaf r)) k.0
-    ∙ ap (λ z. document z (record_of l x r)) fits, k.1)
+    let k = in_brackets {Y = Doc × Doc × Doc} (λ a b d. (a, b, d)) l (yield x) r first inside last before after tt st in (
+      ap (λ z. z.2) k.0 ∙ if_not _ _ (tests_full c.args.inits.now _ _ refl c.is_empty-none.ensures (some_inits c.args.inits.now x q.0)) ∙ ap (λ z. z.0 · nest w (group (line · z.1 · line)) · table.leaf (as_leaf r)) k.0
+          ∙ ap (λ z. document z (record_of l x r)) fits,
+      k.1,
+    )
 record_doc-returns-clause-shows _ c t at e = absurd (only records _ t refl e)
 
 -- items_doc
@@ -892,10 +894,10 @@ init_doc-returns-in_err-key-clause-found _ c = missed _ _ _ _ c.from_residual.en
 
 pub init_doc-returns-in_err-expr_doc-clause-found : goal.init_doc-returns-in_err-expr_doc-clause-found
 init_doc-returns-in_err-expr_doc-clause-found _ c = missed _ _ _ _ c.from_residual-in_err-expr_doc.ensures.1 c.in_err-expr_doc.ensures.found
-    (λ h. rw (c.in_ok-key.ensures.found, as_before (λ s. has_its_tokens s (expr_parts c.args.init.now.value.inner)) _ _ _ (c.in_ok-push_colon.ensures.kept ∙ c.in_ok-key.ensures.kept) h) refl)
+    (λ h. rw (c.in_ok-key.ensures.found, as_before (λ s. has_its_tokens s (expr_parts c.args.init.now.value.inner)) _ _ _ (c.in_ok-docs.ensures.kept ∙ c.in_ok-key.ensures.kept) h) refl)
 
 pub init_doc-returns-clause-found : goal.init_doc-returns-clause-found
-init_doc-returns-clause-found _ c = rw (c.in_ok-key.ensures.found, as_before (λ s. has_its_tokens s (expr_parts c.args.init.now.value.inner)) _ _ _ (c.in_ok-push_colon.ensures.kept ∙ c.in_ok-key.ensures.kept) c.in_ok-expr_doc.ensures.found) refl
+init_doc-returns-clause-found _ c = rw (c.in_ok-key.ensures.found, as_before (λ s. has_its_tokens s (expr_parts c.args.init.now.value.inner)) _ _ _ (c.in_ok-docs.ensures.kept ∙ c.in_ok-key.ensures.kept) c.in_ok-expr_doc.ensures.found) refl
 
 pub init_doc-returns-clause-shows : goal.init_doc-returns-clause-shows
 init_doc-returns-clause-shows _ c (init_of k x v) e =
@@ -905,10 +907,10 @@ init_doc-returns-clause-shows _ c (init_of k x v) e =
     let o = opened_tree Label.primary key _ _ k (leaf x (branch Label.expr (parts kind_of_shown v) none)) refl e in
     let p = opened_token _ _ x (branch Label.expr (parts kind_of_shown v) none) o.2 in
     let q = opened_tree Label.expr c.args.init.now.value.span _ _ v none refl p.1 in
-    let colon = c.in_ok-push_colon.ensures.puts in
+    let colon = c.in_ok-docs.ensures.puts in
     let behind = in_turn (λ a b. a · b) (Behind key) Always (x ∷ []) (yield v) (colon.2 x p.0) (λ b h. tt) (freely (yield v) (c.in_ok-expr_doc.ensures.shows v q.1 q.0)) in
     let all = in_turn (λ a b. a · b) Always (Behind key) (yield k) (x ∷ yield v) (freely (yield k) (c.in_ok-key.ensures.shows k o.1 o.0)) (λ b h. ends_here key (yield k) o.1 b) behind in
-    let made = put_between _ _ _ c.in_ok-key.key colon.0 c.in_ok-expr_doc.field-0 c.in_ok-docs.ensures.items colon.1 c.in_ok-push.ensures.items in
+    let made = put_between _ _ c.in_ok-key.key colon.0 c.in_ok-expr_doc.field-0 colon.1 c.in_ok-push.ensures.items in
     λ before after st. let r = all before after tt st in
     (made ∙ r.0 ∙ ap (λ z. document w k · z) (dot_assoc (table.leaf (as_leaf x)) space (document w v)) ∙ ap (λ j. document j (init_of k x v)) fits, r.1)
 
@@ -921,7 +923,7 @@ pub inits_doc-init_doc-requires : goal.inits_doc-init_doc-requires
 inits_doc-init_doc-requires _ c = (search (rules, Or.the_lemmas), order_kept _ _ (c.in_ok-push_comma.ensures.kept ∙ c.loop-init.invariant.kept) c.requires)
 
 pub init_doc-expr_doc-requires : goal.init_doc-expr_doc-requires
-init_doc-expr_doc-requires _ c = (search (rules, Or.the_lemmas), order_kept _ _ (c.in_ok-push_colon.ensures.kept ∙ c.in_ok-key.ensures.kept) c.requires)
+init_doc-expr_doc-requires _ c = (search (rules, Or.the_lemmas), order_kept _ _ (c.in_ok-docs.ensures.kept ∙ c.in_ok-key.ensures.kept) c.requires)
 
 pub accesses_doc-access_doc-requires : goal.accesses_doc-access_doc-requires
 accesses_doc-access_doc-requires _ c = (search (rules, Or.the_lemmas), order_kept _ _ (c.loop-access.invariant.kept) c.requires)
