@@ -1,5 +1,5 @@
 //! Formatting of whole texts.
-ghost use Rattle.std.specs.Prelude.{◌≡◌, ◌≤◌, ◌-◌, ◌↔◌, IsTrue, ◌++◌, List, map, IfOk, IfErr, OnOk, MatchResult, string_bytes};
+ghost use Rattle.std.specs.Prelude.{◌≡◌, ◌≤◌, ◌-◌, ◌↔◌, IsTrue, ◌++◌, List, map, IfOk, OnOk, MatchResult, string_bytes};
 ghost use Rattle.std.specs.List.{flat_map};
 ghost use Rattle.cedar_tokens.specs.Split.{Splits};
 ghost use Rattle.cedar_tokens.specs.Tokens.{comments_left};
