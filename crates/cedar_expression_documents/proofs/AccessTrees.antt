@@ -261,39 +261,50 @@ index_shown i (index l x y m) span s w old mid next new left word right made e f
 not_empty : (n : ℕ) → (suc n == 0) ≡ false
 not_empty n = grind (arith, nat_tests)
 
-pub call_shown : (i : ℤ) (t : Tree Shown accesses) (span : Span) (v : List (Node Expr.Expr)) (old mid next new : List Shown) (left items right made : Doc) (empty : Bool)
+pub call_shown : (i : ℤ) (t : Tree Shown accesses) (span : Span) (v : List (Node Expr.Expr)) (old mid next new : List Shown) (left items made : Doc) (empty : Bool)
     → node Label.access span (leaf (codes "(") (join (item_trees Label.expr expr_parts v) (leaf (codes ")") none))) none ≡ nodes_of (parts kind_of_shown t)
     → ((x : Shown) → x.span.start ≡ span.start → codes "(" ≡ token_value (text_of x) → Gives left (C (as_leaf x) (doc_of Nil')) old mid (x ∷ []))
     → (v ≡ [] → Gives items nil mid next [])
     → ((a : Tree Shown args) → IsNodeOf (item_trees Label.expr expr_parts v) a → Gives items (document i a) mid next (yield a))
-    → ((x : Shown) → x.span.end ≡ span.end → codes ")" ≡ token_value (text_of x) → Gives right (C (as_leaf x) (doc_of Nil')) next new (x ∷ []))
-    → empty ≡ (length v == 0) → made ≡ (if empty then left · right else left · nest i (line_or_nil · items) · line_or_nil · right)
+    → ((x : Shown) → x.span.end ≡ span.end → codes ")" ≡ token_value (text_of x)
+    → Gives made (if empty then left · table.leaf (as_leaf x) else left · nest i (line_or_nil · items) · line_or_nil · table.leaf (as_leaf x)) next new (x ∷ []))
+    → empty ≡ (length v == 0)
     → Gives made (document i t) old new (yield t)
-call_shown i no_access span v old mid next new left items right made empty e f none_shown items_shown g is_empty is_made = absurd (nothing_there (call_form span v no_access e))
-call_shown i (field d x m) span [] old mid next new left items right made empty e f none_shown items_shown g is_empty is_made = absurd (dotted_called (apart (call_form span [] (field d x m) e)))
-call_shown i (field d x m) span (n ∷ ns) old mid next new left items right made empty e f none_shown items_shown g is_empty is_made = absurd (dotted_called (apart (call_form span (n ∷ ns) (field d x m) e)))
-call_shown i (index l x y m) span [] old mid next new left items right made empty e f none_shown items_shown g is_empty is_made = absurd (called_indexed (sym (apart (call_form span [] (index l x y m) e))))
-call_shown i (index l x y m) span (n ∷ ns) old mid next new left items right made empty e f none_shown items_shown g is_empty is_made = absurd (called_indexed (sym (apart (call_form span (n ∷ ns) (index l x y m) e))))
-call_shown i (call_empty l y m) span (n ∷ ns) old mid next new left items right made empty e f none_shown items_shown g is_empty is_made = absurd (no_item span n ns l y m e)
-call_shown i (call l (args_one a) y m) span [] old mid next new left items right made empty e f none_shown items_shown g is_empty is_made = absurd (item_missing span l y (args_one a) m e)
-call_shown i (call l (args_more a x b) y m) span [] old mid next new left items right made empty e f none_shown items_shown g is_empty is_made = absurd (item_missing span l y (args_more a x b) m e)
-call_shown i (call_empty l y m) span [] old mid next new left items right made empty e f none_shown items_shown g is_empty is_made =
+call_shown i no_access span v old mid next new left items made empty e f none_shown items_shown g is_empty = absurd (nothing_there (call_form span v no_access e))
+call_shown i (field d x m) span [] old mid next new left items made empty e f none_shown items_shown g is_empty = absurd (dotted_called (apart (call_form span [] (field d x m) e)))
+call_shown i (field d x m) span (n ∷ ns) old mid next new left items made empty e f none_shown items_shown g is_empty = absurd (dotted_called (apart (call_form span (n ∷ ns) (field d x m) e)))
+call_shown i (index l x y m) span [] old mid next new left items made empty e f none_shown items_shown g is_empty = absurd (called_indexed (sym (apart (call_form span [] (index l x y m) e))))
+call_shown i (index l x y m) span (n ∷ ns) old mid next new left items made empty e f none_shown items_shown g is_empty = absurd (called_indexed (sym (apart (call_form span (n ∷ ns) (index l x y m) e))))
+call_shown i (call_empty l y m) span (n ∷ ns) old mid next new left items made empty e f none_shown items_shown g is_empty = absurd (no_item span n ns l y m e)
+call_shown i (call l (args_one a) y m) span [] old mid next new left items made empty e f none_shown items_shown g is_empty = absurd (item_missing span l y (args_one a) m e)
+call_shown i (call l (args_more a x b) y m) span [] old mid next new left items made empty e f none_shown items_shown g is_empty = absurd (item_missing span l y (args_more a x b) m e)
+call_shown i (call_empty l y m) span [] old mid next new left items made empty e f none_shown items_shown g is_empty =
     let o = opened Label.access span _ none (leaf l (leaf y none)) (parts kind_of_shown m) refl e in
     let p = opened_token (codes "(") _ l (leaf y none) o.0 in
     let q = opened_token (codes ")") none y none p.1 in
-    let between = in_turn (λ a b. b) Always Always [] (y ∷ []) (freely [] (none_shown refl)) (λ b j. tt) (mark y (g y (ends_with span l [] y o.1) q.0)) in
-    let all = in_turn (λ a b. a · b) Always Always (l ∷ []) (y ∷ []) (mark l (f l (starts_here span l (y ∷ []) o.1) p.0)) (λ b j. tt) between in
+    let between = in_turn (λ a b. b) Always Always [] (y ∷ []) (freely [] (none_shown refl)) (λ b j. tt) (freely (y ∷ []) (g y (ends_with span l [] y o.1) q.0)) in
+    let all = in_turn {X = Doc × Doc} (λ a b. (a, b)) Always Always (l ∷ []) (y ∷ []) (mark l (f l (starts_here span l (y ∷ []) o.1) p.0)) (λ b j. tt) between in
     subst (λ z. Gives made (document i (call_empty l y z)) old new (l ∷ y ∷ yield z)) (sym (no_more m o.2))
-    (λ b a st. let r = all b a tt st in (is_made ∙ ap (λ b. if b then left · right else left · nest i (line_or_nil · items) · line_or_nil · right) is_empty ∙ r.0 ∙ ap (λ z. table.leaf (as_leaf l) · z) (sym (dot-nil (table.leaf (as_leaf y)))), r.1))
-call_shown i (call l a y m) span (n ∷ ns) old mid next new left items right made empty e f none_shown items_shown g is_empty is_made =
+    (λ b a st.
+    let r = all b a tt st in (
+      ap (λ z. z.1) r.0 ∙ ap (λ b. if b then left · table.leaf (as_leaf y) else left · nest i (line_or_nil · items) · line_or_nil · table.leaf (as_leaf y)) is_empty ∙ ap (λ z. z.0 · table.leaf (as_leaf y)) r.0
+          ∙ ap (λ z. table.leaf (as_leaf l) · z) (sym (dot-nil (table.leaf (as_leaf y)))),
+      r.1,
+    ))
+call_shown i (call l a y m) span (n ∷ ns) old mid next new left items made empty e f none_shown items_shown g is_empty =
     let o = opened Label.access span _ none (leaf l (join (parts kind_of_shown a) (leaf y none))) (parts kind_of_shown m) refl e in
     let p = opened_token (codes "(") _ l (join (parts kind_of_shown a) (leaf y none)) o.0 in
     let q = closed (item_trees Label.expr expr_parts (n ∷ ns)) (codes ")") (parts kind_of_shown a) y p.1 in
     let at : IsAt span (l ∷ (yield a ++ y ∷ [])) = subst (λ z. IsAt span (l ∷ z)) (yield_join (parts kind_of_shown a) (leaf y none) ∙ ap (λ z. z ++ y ∷ []) (typed_leaves kind_of_shown a)) o.1 in
-    let between = in_turn (λ a b. nest i (line_or_nil · a) · line_or_nil · b) Always Always (yield a) (y ∷ []) (freely (yield a) (items_shown a q.0)) (λ b j. tt) (mark y (g y (ends_with span l (yield a) y at) q.1)) in
-    let all = in_turn (λ a b. a · b) Always Always (l ∷ []) (yield a ++ y ∷ []) (mark l (f l (starts_here span l (yield a ++ y ∷ []) at) p.0)) (λ b j. tt) between in
+    let between = in_turn {X = Doc × Doc} (λ a b. (a, b)) Always Always (yield a) (y ∷ []) (freely (yield a) (items_shown a q.0)) (λ b j. tt) (freely (y ∷ []) (g y (ends_with span l (yield a) y at) q.1)) in
+    let all = in_turn {X = Doc × Doc × Doc} (λ a (b : Doc × Doc). (a, b.0, b.1)) Always Always (l ∷ []) (yield a ++ y ∷ []) (mark l (f l (starts_here span l (yield a ++ y ∷ []) at) p.0)) (λ b j. tt) between in
     subst (λ z. Gives made (document i (call l a y z)) old new (l ∷ (yield a ++ y ∷ yield z))) (sym (no_more m o.2))
-    (λ b a' st. let r = all b a' tt st in (is_made ∙ ap (λ b. if b then left · right else left · nest i (line_or_nil · items) · line_or_nil · right) (is_empty ∙ not_empty (length ns)) ∙ r.0 ∙ ap (λ z. table.leaf (as_leaf l) · nest i (line_or_nil · document i a) · line_or_nil · z) (sym (dot-nil (table.leaf (as_leaf y)))), r.1))
+    (λ b a' st.
+    let r = all b a' tt st in (
+      ap (λ z. z.2) r.0 ∙ ap (λ b. if b then left · table.leaf (as_leaf y) else left · nest i (line_or_nil · items) · line_or_nil · table.leaf (as_leaf y)) (is_empty ∙ not_empty (length ns))
+          ∙ ap (λ z. z.0 · nest i (line_or_nil · z.1) · line_or_nil · table.leaf (as_leaf y)) r.0 ∙ ap (λ z. table.leaf (as_leaf l) · nest i (line_or_nil · document i a) · line_or_nil · z) (sym (dot-nil (table.leaf (as_leaf y)))),
+      r.1,
+    ))
 
 -- ---- what they need
 

@@ -9,7 +9,7 @@ ghost use Rattle.cedar_grammar.specs.TypedTrees.{Tree, parens, yield};
 ghost use Rattle.cedar_grammar.specs.TypedTrees as kind;
 ghost use Rattle.cedar_tree.specs.Erased.{access_parts, add_parts, expr_parts, mult_parts, or_parts, path_parts, primary_parts, relation_parts, relop_text, sign_leaves, unary_parts, variant};
 ghost use Rattle.cedar_tree.specs.NodeLists.{access_items, and_parts, init_parts, item_trees, member_parts};
-ghost use Rattle.cedar_layout.specs.Layout.{◌·◌, group, line, nest, nil};
+ghost use Rattle.cedar_layout.specs.Layout.{◌·◌, group, line, line_or_nil, nest, nil};
 ghost use Rattle.cedar_layout.specs.Value.{doc_of};
 ghost use Rattle.cedar_layout.specs.Lookups.{AreInOrder, Shown};
 ghost use Rattle.cedar_leaf_documents.specs.Found.{Finds, has_its_tokens, has_own, places};
@@ -608,8 +608,27 @@ fn call_doc<'src>(
 {
     let open = mark_at_start(alloc, "(", span, Document::Nil, tokens)?;
     let items = items_doc(alloc, arguments, indent, tokens)?;
-    let close = mark_at_end(alloc, ")", span, Document::Nil, tokens)?;
     let none = arguments.is_empty();
+    Ok(closed_call(alloc, open, items, none, span, indent, tokens)?)
+}
+
+// open . nest(i, line_ . items) . line_ . C(")"), and of no items open . C(")")
+#[inline(never)]
+fn closed_call<'src>(
+    alloc: Global,
+    open: Document<'src>,
+    items: Document<'src>,
+    none: bool,
+    span: Span,
+    indent: isize,
+    tokens: &mut [WrappedToken<'src>],
+) -> Result<Document<'src>, AllocError>
+    requires { AreInOrder tokens.old }
+    ensures kept { KeepsTokens tokens.old tokens.new }
+    ensures shows { (r : Shown) → r.span.end ≡ span.end → codes ")" ≡ token_value (text_of r) → Shows result tokens.old tokens.new (r ∷ [])
+        (if none then doc_of open.entry · leaf_of (as_leaf r) else doc_of open.entry · nest indent (line_or_nil · doc_of items.entry) · line_or_nil · leaf_of (as_leaf r)) }
+{
+    let close = mark_at_end(alloc, ")", span, Document::Nil, tokens)?;
     Ok(arguments_row(alloc, open, items, close, none, indent)?)
 }
 

@@ -693,8 +693,7 @@ pub call_doc-returns-clause-shows : goal.call_doc-returns-clause-shows
 call_doc-returns-clause-shows _ c = λ t e.
     let i = to_z w64 (of_z w64 c.args.indent) in
     at_indent i c.args.indent t (to_z-of_z c.ranges.indent)
-    (call_shown i t c.args.span c.args.arguments.now _ _ _ _ _ _ _ _ c.is_empty-none.result e c.in_ok-open.ensures.shows c.in_ok-items.ensures.none c.in_ok-items.ensures.shows c.in_ok-close.ensures.shows
-    c.is_empty-none.ensures c.in_ok-arguments_row.ensures)
+    (call_shown i t c.args.span c.args.arguments.now _ _ _ _ _ _ _ c.is_empty-none.result e c.in_ok-open.ensures.shows c.in_ok-items.ensures.none c.in_ok-items.ensures.shows c.in_ok-closed_call.ensures.shows c.is_empty-none.ensures)
 
 -- primary_doc
 
