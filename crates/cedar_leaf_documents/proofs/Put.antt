@@ -1,5 +1,5 @@
 -- Documents put behind others.
-use Rattle.std.proofs.Common.{◌≡◌, ℕ, List, [], ◌∷◌, ◌++◌, Result, Ok, Err, ap, ◌∙◌}
+use Rattle.std.proofs.Common.{◌≡◌, ℕ, List, [], ◌∷◌, ◌++◌, ap, ◌∙◌}
 use Rattle.std.specs.declared.alloc.Global.{Global}
 use Rattle.std.specs.declared.vec.Vec.{Vec}
 use Rattle.cedar_tokens.specs.declared.token.WrappedToken.{WrappedToken}
@@ -9,7 +9,7 @@ use Rattle.cedar_layout.specs.Value.{doc_of, docs_of}
 use Rattle.cedar_layout.specs.declared.layout.Document.{Document}
 use Rattle.cedar_layout.specs.declared.layout.Document.TheViews.{Seq}
 use Rattle.cedar_layout.proofs.Values.{doc_of_seq, docs_of-push, dot-nil, dot_assoc}
-use Rattle.cedar_leaf_documents.specs.NodeDocuments.{IsPutBehind, PutsBehind}
+use Rattle.cedar_leaf_documents.specs.NodeDocuments.{IsPutBehind}
 
 -- a document more, and two
 pub pushed : (ds es : List Document) (d : Document) → es ≡ ds ++ d ∷ [] → docs_of es ≡ docs_of ds · doc_of d
@@ -34,11 +34,3 @@ module _ (place : ℕ) (old new : List WrappedToken) (text : List ℕ) (doc : Sh
     p.1 ∙ ap (λ z. z · p.0) h ∙ dot_assoc (docs_of docs) first p.0,
     λ t e before after at st. let r = p.2 t e before after at st in (ap (λ z. first · z) r.0, r.1),
   )
-
-  -- both, of a call
-  pub puts_behind : {U E : Type 0} (docs mid more : List Document) (result : Result U E) (first : Doc) (other : Shown → Doc) → docs_of mid ≡ docs_of docs · first → ((t : Shown) → first · doc t ≡ other t) → PutsBehind place result old new mid more text doc
-      → PutsBehind place result old new docs more text other
-  puts_behind docs mid more (Ok u) first other h k p =
-      let q = is_put_behind docs mid more first h p in
-      (q.0, q.1, λ t e before after at st. let r = q.2 t e before after at st in (r.0 ∙ k t, r.1))
-  puts_behind docs mid more (Err e) first other h k p = tt

@@ -132,8 +132,11 @@ pub fn push_sign_and_line<'src>(
     ensures kept { KeepsTokens tokens.old tokens.new }
     ensures puts { PutsBehind span.end result tokens.old tokens.new docs.old.items docs.new.items text.now (λ t. space · leaf (as_leaf t) · line) }
 {
-    docs.push(Document::Text(" "))?;
-    push_mark(alloc, text, span, Document::Line, tokens, docs)
+    let sign = mark_after(alloc, text, span, Document::Nil, tokens)?;
+    // (one document, since laying out holds what is left of a sequence, one by one)
+    let row = vec![in alloc; Document::Text(" "), sign, Document::Line]?;
+    docs.push(Document::Seq(row))?;
+    Ok(())
 }
 
 /// A row of `left` and `space . C(t) . space` of the operator behind it, with room for one document more.

@@ -1,13 +1,17 @@
-use Rattle.std.proofs.Common.{ap, ◌∙◌}
+use Rattle.std.proofs.Common.{refl, ap, ◌∙◌}
 use Rattle.cedar_layout.specs.Layout.{◌·◌, line}
-use Rattle.cedar_layout.specs.Value.{docs_of}
+use Rattle.cedar_layout.specs.Value.{doc_of, docs_of}
 use Rattle.cedar_layout.proofs.Values.{doc_of_line, doc_of_text}
-use Rattle.cedar_canonical.specs.Table.{leaf, space}
-use Rattle.cedar_leaf_documents.specs.NodeDocuments.{as_leaf}
-use Rattle.cedar_leaf_documents.proofs.Put.{pushed, puts_behind}
+use Rattle.cedar_canonical.specs.Table.{space}
+use Rattle.cedar_leaf_documents.proofs.Flat.{also, laid, same}
+use Rattle.cedar_leaf_documents.proofs.Opened.{nothing_behind}
+use Rattle.cedar_leaf_documents.proofs.Put.{pushed}
 use Rattle.cedar_leaf_documents.proofs.tokens.push_sign_and_line.Goals as goal
 
 pub returns-clause-puts : goal.returns-clause-puts
 returns-clause-puts c =
-    puts_behind _ _ _ _ _ _ _ _ c.push_mark.result space (λ t. space · leaf (as_leaf t) · line) (pushed _ _ _ c.in_ok-push.ensures.items ∙ ap (λ z. docs_of c.args.docs.now.items · z) (doc_of_text _))
-    (λ t. ap (λ z. space · leaf (as_leaf t) · z) doc_of_line) c.push_mark.ensures.puts
+    let made = laid c.in_ok-row.row c.in_ok-row.ensures.items (also (doc_of_text _) (same c.in_ok-sign.sign (also doc_of_line refl))) in (
+      space · doc_of c.in_ok-sign.sign · line,
+      pushed _ _ _ c.in_ok-push.ensures.items ∙ ap (λ z. docs_of c.args.docs.now.items · z) made,
+      λ t e before after at st. let r = c.in_ok-sign.ensures.shows t e before after at st in (ap (λ z. space · z · line) (r.0 ∙ nothing_behind t), r.1),
+    )
