@@ -1,0 +1,21 @@
+-- What an output tells of its text.
+use Rattle.std.proofs.Common.{◌≡◌, ◌≢◌, ℕ, List, ap}
+use Rattle.std.specs.Str.{IsUtf8}
+use Rattle.cedar_tokens.specs.Listing.{ListingIsUnique, by_value}
+use Rattle.cedar_grammar.specs.Texts.{Accepted}
+use Rattle.cedar_canonical.specs.Canonical.{IsOutputOf, OutputIsItsOwn, OutputsTellLists, plain_listing}
+use Rattle.cedar_documents.specs.declared.config.Config.{Config}
+use Rattle.cedar_folder.specs.Runs.{HasOutput, IsUnformatted}
+
+module _ (tell : OutputsTellLists) (unique : ListingIsUnique) (c : Config) where
+  -- a text has one output
+  pub one_output : (x y z : List ℕ) → HasOutput c x y → HasOutput c x z → y ≡ z
+  one_output x y z h k = (tell c.line_width c.indent_width x x y z h.0 h.0 h.2 k.2).1 (ap (λ l. by_value (plain_listing l)) (unique x h.2.list k.2.list h.2.is_list k.2.is_list))
+
+  -- an accepted text with another output isn't its own
+  pub is_unformatted : (x y : List ℕ) → HasOutput c x y → y ≢ x → IsUnformatted c x
+  is_unformatted x y h other = (h.0, h.1, λ own. other (one_output x y x h own))
+
+-- an output is formatted
+pub output_is_formatted : (again : OutputIsItsOwn) (c : Config) (x y : List ℕ) → HasOutput c x y → IsUnformatted c y → ⊥
+output_is_formatted again c x y h (u, a, other) = other (u, a, again c.line_width c.indent_width x y h.0 h.2)

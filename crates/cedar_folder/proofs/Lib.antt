@@ -1,0 +1,5 @@
+pub mod Steps
+pub mod Replacing
+pub mod Layouts
+pub mod Handling
+pub mod Reporting

@@ -1,0 +1,119 @@
+//! Formatting or checking the files of a folder.
+ghost use Rattle.std.specs.Prelude.{◌≡◌, map, string_bytes};
+ghost use Rattle.cedar_folder.specs.Folders.{Follows};
+ghost use Rattle.cedar_folder.specs.Runs.{GivesLayout, Handles, HandlesAll, Replaces};
+
+use crate::folder::{Access, File, Folder, Outcome};
+use cedar_policy_formatter::fmt::outputs_are_canonical;
+use cedar_policy_formatter::lexer::listing_is_unique;
+use cedar_policy_formatter::{Config, FormatError, policies_str_to_pretty};
+use std::alloc::Global;
+use std::io;
+
+/// Formats the named files in order, or with `only_checks` says which aren't formatted, and reports on each.
+///
+/// Afterwards each named file that is accepted holds its output, with the access that it had; a refused one, and one that
+/// couldn't be read or replaced, holds what it held, and so does every other file. At every moment each file holds what it
+/// held or its output. With `only_checks` nothing changes. The run ends early where `report` says so.
+pub fn format_files<F: Folder>(
+    alloc: Global,
+    folder: &mut F,
+    names: &[String],
+    config: &Config,
+    only_checks: bool,
+)
+    ensures { Follows (HandlesAll config.now only_checks (map string_bytes names.now)) (F.picture folder.old) (F.picture folder.new) }
+{
+    outputs_are_canonical();
+    listing_is_unique();
+    for name in names {
+        let outcome = format_file(alloc, folder, name.as_str(), config, only_checks);
+        if !folder.report(name.as_str(), &outcome) {
+            return;
+        }
+    }
+}
+
+// Formats a file, or only says whether it is formatted.
+fn format_file<F: Folder>(
+    alloc: Global,
+    folder: &mut F,
+    name: &str,
+    config: &Config,
+    only_checks: bool,
+) -> Outcome
+    ensures { Follows (Handles config.now only_checks name.now result) (F.picture folder.old) (F.picture folder.new) }
+{
+    let file = match folder.read(alloc, name) {
+        Ok(file) => file,
+        Err(error) => return Outcome::Unread(error),
+    };
+    match layout_of(alloc, &file.bytes, config) {
+        Layout::Own => Outcome::Formatted,
+        Layout::Other(_) if only_checks => Outcome::Unformatted,
+        Layout::Other(output) => replace_file(alloc, folder, name, output.as_bytes(), file.access),
+        Layout::NotUtf8 => Outcome::NotUtf8,
+        Layout::Refused(error) => Outcome::Refused {
+            error,
+            bytes: file.bytes,
+        },
+    }
+}
+
+// How the bytes of a file are laid out.
+#[derive(Drop)]
+enum Layout {
+    // They are their own output.
+    Own,
+    // They aren't; this is their output.
+    Other(String),
+    NotUtf8,
+    Refused(FormatError),
+}
+
+// The layout of these bytes.
+fn layout_of(alloc: Global, bytes: &[u8], config: &Config) -> Layout
+    ensures { GivesLayout config.now bytes.now result }
+{
+    outputs_are_canonical();
+    listing_is_unique();
+    let Ok(text) = str::from_utf8(bytes) else {
+        return Layout::NotUtf8;
+    };
+    match policies_str_to_pretty(alloc, text, config) {
+        Ok(output) => {
+            if output.as_str() == text {
+                Layout::Own
+            } else {
+                Layout::Other(output)
+            }
+        }
+        Err(error) => Layout::Refused(error),
+    }
+}
+
+// Puts a file with these bytes in the place of one that is there, in one step.
+fn replace_file<F: Folder>(
+    alloc: Global,
+    folder: &mut F,
+    name: &str,
+    bytes: &[u8],
+    access: Access,
+) -> Outcome
+    ensures { Follows (Replaces name.now bytes.now access result) (F.picture folder.old) (F.picture folder.new) }
+{
+    let beside = match folder.unused_name(alloc, name) {
+        Ok(beside) => beside,
+        Err(error) => return Outcome::Unwritten(error),
+    };
+    if let Err(error) = folder.create(beside.as_str(), bytes, access) {
+        return Outcome::Unwritten(error);
+    }
+    let Err(error) = folder.rename(beside.as_str(), name) else {
+        return Outcome::Unformatted;
+    };
+    match folder.remove(beside.as_str()) {
+        Ok(()) => Outcome::Unwritten(error),
+        Err(_) => Outcome::LeftBeside { error, beside },
+    }
+}
