@@ -7,21 +7,21 @@ use Rattle.clap.specs.declared.error.kind.ErrorKind.{ErrorKind}
 use Rattle.clap.specs.declared.error.kind.ErrorKind.TheVariants.{OutOfMemory}
 use Rattle.clap.specs.declared.parser.matches.ArgMatches.{ArgMatches}
 
--- `-p FILE`
+-- `-p FILE` or `--policies FILE`
 abbrev pub file_rule : Rule
-file_rule = record (new_rule (codes "file")) { short = Some 112; value_names = 1 }
+file_rule = record (new_rule (codes "file")) { short = Some 112; long = Some (codes "policies"); value_names = 1 }
 
--- a number of 16 bits behind a letter
-abbrev pub number_rule : Text → ℕ → Rule
-number_rule id letter = record (new_rule id) { short = Some letter; value_names = 1; parser = Some (value.Signed (pos 0) (pos 65535)) }
+-- a number of 16 bits after a letter or a long name
+abbrev pub number_rule : Text → ℕ → Text → Rule
+number_rule id letter name = record (new_rule id) { short = Some letter; long = Some name; value_names = 1; parser = Some (value.Signed (pos 0) (pos 65535)) }
 
--- `--check`
+-- `-c` or `--check`
 abbrev pub check_rule : Rule
-check_rule = record (new_rule (codes "check")) { long = Some (codes "check"); action = Some SetTrue }
+check_rule = record (new_rule (codes "check")) { short = Some 99; long = Some (codes "check"); action = Some SetTrue }
 
--- `format [-p FILE] [-i N] [-l N] [--check]`
+-- `format [-p FILE] [-i N] [-l N] [-c]`, each option by its letter or its long name
 abbrev pub format_app : App
-format_app = with_rule (with_rule (with_rule (with_rule (new_app (codes "format")) file_rule) (number_rule (codes "indent") 105)) (number_rule (codes "width") 108)) check_rule
+format_app = with_rule (with_rule (with_rule (with_rule (new_app (codes "format")) file_rule) (number_rule (codes "indent") 105 (codes "indent-width"))) (number_rule (codes "width") 108 (codes "line-width"))) check_rule
 
 -- `cedar` with its version, without a subcommand `help`, which needs a subcommand
 abbrev pub bare_app : App

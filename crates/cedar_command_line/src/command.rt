@@ -7,6 +7,11 @@ ghost use Rattle.cedar_command_line.specs.CommandLine.{HasFault, HasMatches, ced
 use clap::{Arg, ArgAction, ArgMatches, Command, Error, value_parser};
 use std::alloc::{AllocError, Global};
 
+/// The version: the number of the Rust crate that this is a port of, the project's own (the file `VERSION`), and the kit that
+/// proves it (the file `KIT`). `tools/version` holds it against both files.
+pub const VERSION: &str =
+    "4.14.1 (noblesilk 1.0.0, proved with rattle-kit-13f logic dac8208d650f15bf)";
+
 /// The texts of the help that name a default.
 #[derive(Drop)]
 pub struct HelpTexts {
@@ -33,13 +38,13 @@ static EXAMPLES: &str = "Examples:
   cedar format < policies.cedar > formatted.cedar
   cedar format --check -p policies.cedar";
 
-// The command line: `cedar format [-p FILE] [-i N] [-l N] [--check]`.
+// The command line: `cedar format [-p FILE] [-i N] [-l N] [-c]`, or with long names.
 fn command<'a>(alloc: Global, texts: &'a HelpTexts) -> Result<Command<'a>, AllocError>
     ensures { IfOk result (λ c. app_of c ≡ cedar_app) }
 {
     Command::new(alloc, "cedar")
         .about("Formats Cedar policies")
-        .version("4.14.1")
+        .version(VERSION)
         .after_help(EXAMPLES)
         .subcommand_required(true)
         .disable_help_subcommand(true)
@@ -52,19 +57,23 @@ fn format_command<'a>(alloc: Global, texts: &'a HelpTexts) -> Result<Command<'a>
 {
     let file = Arg::new(alloc, "file")
         .short('p')
+        .long("policies")
         .value_name("FILE")
         .help("The policy file [default: standard input]");
     let indent = Arg::new(alloc, "indent")
         .short('i')
+        .long("indent-width")
         .value_name("N")
         .value_parser(value_parser!(u16))
         .help(texts.indent.as_str());
     let width = Arg::new(alloc, "width")
         .short('l')
+        .long("line-width")
         .value_name("N")
         .value_parser(value_parser!(u16))
         .help(texts.width.as_str());
     let check = Arg::new(alloc, "check")
+        .short('c')
         .long("check")
         .action(ArgAction::SetTrue)
         .help(

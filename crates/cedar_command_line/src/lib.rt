@@ -3,4 +3,4 @@
 
 mod command;
 
-pub use command::{HelpTexts, match_words};
+pub use command::{HelpTexts, VERSION, match_words};

@@ -1,0 +1,141 @@
+//! The words of the command line.
+use cedar_command_line::VERSION;
+use cedar_policy_formatter::Config;
+use clap::{Arg, ArgAction, ArgMatches, Command, Error, value_parser};
+use std::alloc::{AllocError, Global};
+
+/// What is done with a file that isn't formatted.
+#[derive(Clone, Copy, Debug, PartialEq, Eq)]
+pub enum Mode {
+    /// It is replaced, and its name is printed.
+    Write,
+    /// Its name is printed.
+    Check,
+    /// What would change is printed.
+    Diff,
+}
+
+/// What a run is asked for.
+#[derive(Drop)]
+pub struct Options<'a> {
+    pub mode: Mode,
+    /// How the files are laid out.
+    pub config: Config,
+    /// How many processes share the files. 0 stands for as many as there are cores.
+    pub jobs: u16,
+    /// Whether only faults and names are printed.
+    pub quiet: bool,
+    /// Files and folders that are left alone: names, or paths as they are walked.
+    pub excluded: Vec<&'a str>,
+    /// The files and folders, in order.
+    pub paths: Vec<&'a str>,
+}
+
+static EXAMPLES: &str = "Names of files that were replaced, or aren't formatted, go to standard output, and faults as \
+FILE:LINE:COLUMN: WHY to standard error; columns are counted in bytes.
+Status: 0; 3 with --check or --diff where a file isn't formatted; 1 where a file is refused, or can't be read or written
+(the others are done all the same); 2 for a usage error.
+
+Examples:
+  cedar-files policies
+  cedar-files --check policies
+  cedar-files - < policy.cedar";
+
+/// The command line.
+fn command<'a>(alloc: Global) -> Result<Command<'a>, AllocError> {
+    let check = Arg::new(alloc, "check")
+        .short('c')
+        .long("check")
+        .action(ArgAction::SetTrue)
+        .help("Print the names of the files that aren't formatted, and change nothing");
+    let diff = Arg::new(alloc, "diff")
+        .long("diff")
+        .action(ArgAction::SetTrue)
+        .conflicts_with("check")?
+        .help("Print what would change, and change nothing");
+    let jobs = Arg::new(alloc, "jobs")
+        .short('j')
+        .long("jobs")
+        .value_name("N")
+        .value_parser(value_parser!(u16).range(1..))
+        .help("The number of processes that share the files [default: the number of cores]");
+    let indent = Arg::new(alloc, "indent")
+        .short('i')
+        .long("indent-width")
+        .value_name("N")
+        .value_parser(value_parser!(u16))
+        .help("The indentation of a level, in columns [default: 2]");
+    let width = Arg::new(alloc, "width")
+        .short('l')
+        .long("line-width")
+        .value_name("N")
+        .value_parser(value_parser!(u16))
+        .help("The width of a line, in columns [default: 80]");
+    let quiet = Arg::new(alloc, "quiet")
+        .short('q')
+        .long("quiet")
+        .action(ArgAction::SetTrue)
+        .help("Don't show the progress and the summary");
+    let exclude = Arg::new(alloc, "exclude")
+        .long("exclude")
+        .value_name("NAME")
+        .action(ArgAction::Append)
+        .help("Leave files and folders of this name, or with this path, alone; may be repeated");
+    let path = Arg::new(alloc, "path")
+        .value_name("PATH")
+        .action(ArgAction::Append)
+        .num_args(1..)
+        .required(true)
+        .help("A file, or a folder that is searched for *.cedar; - for standard input");
+    Command::new(alloc, "cedar-files")
+        .about("Formats files of Cedar policies in place, or checks them")
+        .version(VERSION)
+        .after_help(EXAMPLES)
+        .arg(check)?
+        .arg(diff)?
+        .arg(jobs)?
+        .arg(indent)?
+        .arg(width)?
+        .arg(quiet)?
+        .arg(exclude)?
+        .arg(path)
+}
+
+/// What the words ask for, or why they are refused, or the help or the version that they ask for.
+pub fn read_options<'a>(alloc: Global, words: &'a [&'a str]) -> Result<Options<'a>, Error> {
+    let matches = command(alloc)?.try_get_matches_from(words)?;
+    let mut config = Config::default();
+    if let Some(width) = matches.get_one::<u16>("width") {
+        config.line_width = width as usize;
+    }
+    if let Some(indent) = matches.get_one::<u16>("indent") {
+        config.indent_width = indent as isize;
+    }
+    Ok(Options {
+        mode: mode_of(&matches),
+        config,
+        jobs: matches.get_one::<u16>("jobs").unwrap_or(0),
+        quiet: matches.get_flag("quiet"),
+        excluded: texts(alloc, &matches, "exclude")?,
+        paths: texts(alloc, &matches, "path")?,
+    })
+}
+
+fn mode_of(matches: &ArgMatches<'_>) -> Mode {
+    if matches.get_flag("check") {
+        Mode::Check
+    } else if matches.get_flag("diff") {
+        Mode::Diff
+    } else {
+        Mode::Write
+    }
+}
+
+// All values of an argument.
+fn texts<'a>(alloc: Global, matches: &ArgMatches<'a>, id: &str) -> Result<Vec<&'a str>, AllocError> {
+    let mut found = Vec::new(alloc);
+    if let Some(values) = matches.get_strs(id) {
+        found.extend_from_slice(values)?;
+    }
+    Ok(found)
+}

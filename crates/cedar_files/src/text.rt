@@ -1,0 +1,40 @@
+//! Standard input.
+use crate::disk::tell_refusal;
+use crate::options::{Mode, Options};
+use crate::{FAILED, UNFORMATTED};
+use cedar_policy_formatter::{ReadFault, Watched, policies_str_to_pretty, read_text};
+use std::io;
+use std::io::Write;
+
+/// Formats standard input to standard output, or only checks it, and answers the status.
+pub fn format_text(rt: &HostRuntime, options: &Options<'_>) -> io::Result<u8> {
+    let mut input = Watched::new(rt.stdin());
+    let text = match read_text(rt.alloc(), &mut input) {
+        Ok(text) => text,
+        Err(fault) => {
+            let why = match fault {
+                ReadFault::Read => "cannot be read",
+                ReadFault::NotUtf8 => "input is not UTF-8",
+                ReadFault::OutOfMemory => "out of memory",
+            };
+            write!(rt.stderr(), "standard input: {why}\n")?;
+            return Ok(FAILED);
+        }
+    };
+    match policies_str_to_pretty(rt.alloc(), text.as_str(), &options.config) {
+        Ok(output) if options.mode == Mode::Check => {
+            Ok(if output.as_str() == text.as_str() { 0 } else { UNFORMATTED })
+        }
+        Ok(output) => {
+            let mut out = rt.stdout();
+            out.write_all(output.as_bytes())?;
+            out.flush()?;
+            Ok(0)
+        }
+        Err(error) => {
+            let told = format!(in rt.alloc(); "{error}")?;
+            tell_refusal(&mut rt.stderr(), "standard input", text.as_bytes(), told.as_str())?;
+            Ok(FAILED)
+        }
+    }
+}
