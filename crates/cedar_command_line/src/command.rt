@@ -1,8 +1,8 @@
 //! The words that the program takes.
 ghost use Rattle.std.specs.Prelude.{◌≡◌, IfOk, MatchResult, false, map, string_bytes};
-ghost use Rattle.clap.specs.Words.{app_of, kind_of};
+ghost use Rattle.clap.specs.Words.{app_of, kind_of, rule_of};
 ghost use Rattle.clap.specs.declared.builder.command.Command.TheViews.{out-Command as fields_of};
-ghost use Rattle.cedar_command_line.specs.CommandLine.{HasFault, HasMatches, cedar_app, format_app};
+ghost use Rattle.cedar_command_line.specs.CommandLine.{HasFault, HasMatches, cedar_app, check_rule, file_rule, format_app, number_rule};
 
 use clap::{Arg, ArgAction, ArgMatches, Command, Error, value_parser};
 use std::alloc::{AllocError, Global};
@@ -55,37 +55,58 @@ fn command<'a>(alloc: Global, texts: &'a HelpTexts) -> Result<Command<'a>, Alloc
 fn format_command<'a>(alloc: Global, texts: &'a HelpTexts) -> Result<Command<'a>, AllocError>
     ensures { IfOk result (λ c. (app_of c ≡ format_app) × ((fields_of c).has_globals ≡ false)) }
 {
-    let file = Arg::new(alloc, "file")
+    Command::new(alloc, "format")
+        .about("Formats policies and writes them to standard output")
+        .after_help(EXAMPLES)
+        .arg(file_arg(alloc))?
+        .arg(number_arg(alloc, "indent", 'i', "indent-width", &texts.indent))?
+        .arg(number_arg(alloc, "width", 'l', "line-width", &texts.width))?
+        .arg(check_arg(alloc))
+}
+
+// The option of the file.
+fn file_arg<'a>(alloc: Global) -> Arg<'a>
+    ensures rule { rule_of result ≡ file_rule }
+    ensures local { result.global ≡ false }
+{
+    Arg::new(alloc, "file")
         .short('p')
         .long("policies")
         .value_name("FILE")
-        .help("The policy file [default: standard input]");
-    let indent = Arg::new(alloc, "indent")
-        .short('i')
-        .long("indent-width")
+        .help("The policy file [default: standard input]")
+}
+
+// An option for a number, by a letter or a long name.
+fn number_arg<'a>(
+    alloc: Global,
+    id: &'a str,
+    letter: char,
+    name: &'a str,
+    help: &'a str,
+) -> Arg<'a>
+    ensures rule { rule_of result ≡ number_rule id.entry.now letter name.entry.now }
+    ensures local { result.global ≡ false }
+{
+    Arg::new(alloc, id)
+        .short(letter)
+        .long(name)
         .value_name("N")
         .value_parser(value_parser!(u16))
-        .help(texts.indent.as_str());
-    let width = Arg::new(alloc, "width")
-        .short('l')
-        .long("line-width")
-        .value_name("N")
-        .value_parser(value_parser!(u16))
-        .help(texts.width.as_str());
-    let check = Arg::new(alloc, "check")
+        .help(help)
+}
+
+// The flag that asks for a check alone.
+fn check_arg<'a>(alloc: Global) -> Arg<'a>
+    ensures rule { rule_of result ≡ check_rule }
+    ensures local { result.global ≡ false }
+{
+    Arg::new(alloc, "check")
         .short('c')
         .long("check")
         .action(ArgAction::SetTrue)
         .help(
             "Only say whether the policies are formatted: status 0 if they are, 3 if they aren't",
-        );
-    Command::new(alloc, "format")
-        .about("Formats policies and writes them to standard output")
-        .after_help(EXAMPLES)
-        .arg(file)?
-        .arg(indent)?
-        .arg(width)?
-        .arg(check)
+        )
 }
 
 /// What stands behind `cedar format` in the words, which begin with the program's name; or why they are refused, or
