@@ -77,13 +77,7 @@ fn file_arg<'a>(alloc: Global) -> Arg<'a>
 }
 
 // An option for a number, by a letter or a long name.
-fn number_arg<'a>(
-    alloc: Global,
-    id: &'a str,
-    letter: char,
-    name: &'a str,
-    help: &'a str,
-) -> Arg<'a>
+fn number_arg<'a>(alloc: Global, id: &'a str, letter: char, name: &'a str, help: &'a str) -> Arg<'a>
     ensures rule { rule_of result ≡ number_rule id.entry.now letter name.entry.now }
     ensures local { result.global ≡ false }
 {
@@ -104,9 +98,7 @@ fn check_arg<'a>(alloc: Global) -> Arg<'a>
         .short('c')
         .long("check")
         .action(ArgAction::SetTrue)
-        .help(
-            "Only say whether the policies are formatted: status 0 if they are, 3 if they aren't",
-        )
+        .help("Only say whether the policies are formatted: status 0 if they are, 3 if they aren't")
 }
 
 /// What stands behind `cedar format` in the words, which begin with the program's name; or why they are refused, or

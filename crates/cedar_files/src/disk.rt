@@ -14,6 +14,7 @@ use std::{fs, io};
 
 // The most names that are tried for a file beside another.
 const MOST_NAMES: u32 = 1000;
+
 const BYTE_ORDER_MARK: [u8; 3] = [0xef, 0xbb, 0xbf];
 
 /// The folder of the disk, as one part of a run sees it. Names of files that aren't formatted go to standard output, each
@@ -74,7 +75,11 @@ impl<'a> Disk<'a> {
             Outcome::Refused { error, bytes } => {
                 let told = format!(in self.rt.alloc(); "{error}")?;
                 tell_refusal(&mut errors, name, bytes.as_slice(), told.as_str())?;
-                if *error == FormatError::OutOfMemory { 'f' } else { 'r' }
+                if *error == FormatError::OutOfMemory {
+                    'f'
+                } else {
+                    'r'
+                }
             }
             Outcome::Unread(error) => {
                 tell_fault(&mut errors, name, "cannot be read", error)?;
@@ -176,7 +181,12 @@ fn fill(mut file: fs::File, bytes: &[u8], access: Access) -> io::Result<()> {
 }
 
 // Reports that a file couldn't be read or written, and why.
-fn tell_fault<W: Write>(errors: &mut W, name: &str, what: &str, error: &io::Error) -> io::Result<()> {
+fn tell_fault<W: Write>(
+    errors: &mut W,
+    name: &str,
+    what: &str,
+    error: &io::Error,
+) -> io::Result<()> {
     match error.kind() {
         ErrorKind::NotFound => write!(errors, "{name}: {what}: no such file\n"),
         ErrorKind::PermissionDenied => write!(errors, "{name}: {what}: no permission\n"),
@@ -190,7 +200,12 @@ fn tell_fault<W: Write>(errors: &mut W, name: &str, what: &str, error: &io::Erro
 
 /// Reports a refusal as `NAME:LINE:COLUMN: WHY`. `told` is what the error says, with its byte; line and column are counted
 /// from 1, columns in bytes.
-pub fn tell_refusal<W: Write>(errors: &mut W, name: &str, bytes: &[u8], told: &str) -> io::Result<()> {
+pub fn tell_refusal<W: Write>(
+    errors: &mut W,
+    name: &str,
+    bytes: &[u8],
+    told: &str,
+) -> io::Result<()> {
     let Some((why, at)) = told.rsplit_once(" at byte ") else {
         return write!(errors, "{name}: {told}\n");
     };

@@ -44,7 +44,10 @@ fn main(rt: HostRuntime) -> ExitCode {
             }
         },
         Err(_) => {
-            let _ = write!(rt.stderr(), "cedar-files: a word of the command line is not UTF-8\n");
+            let _ = write!(
+                rt.stderr(),
+                "cedar-files: a word of the command line is not UTF-8\n"
+            );
             MISUSED
         }
     };
@@ -65,7 +68,10 @@ fn run(rt: &HostRuntime, words: &[String]) -> io::Result<u8> {
     };
     let given = if task == "part" { 5 } else { 2 };
     if words.len() < given {
-        let _ = write!(rt.stderr(), "cedar-files: this program is run by the script of that name\n");
+        let _ = write!(
+            rt.stderr(),
+            "cedar-files: this program is run by the script of that name\n"
+        );
         return Ok(MISUSED);
     }
     let line = line_of(rt, &words[given..])?;
@@ -94,7 +100,11 @@ fn line_of<'a>(rt: &HostRuntime, words: &'a [String]) -> io::Result<Vec<&'a str>
 fn answer(rt: &HostRuntime, error: &Error) -> u8 {
     if error.use_stderr() {
         let _ = write!(rt.stderr(), "{error}");
-        return if error.kind() == ErrorKind::OutOfMemory { FAILED } else { MISUSED };
+        return if error.kind() == ErrorKind::OutOfMemory {
+            FAILED
+        } else {
+            MISUSED
+        };
     }
     match write!(rt.stdout(), "{error}") {
         Ok(()) => ANSWERED,

@@ -31,7 +31,8 @@ pub struct Options<'a> {
     pub paths: Vec<&'a str>,
 }
 
-static EXAMPLES: &str = "Names of files that were replaced, or aren't formatted, go to standard output, and faults as \
+static EXAMPLES: &str =
+    "Names of files that were replaced, or aren't formatted, go to standard output, and faults as \
 FILE:LINE:COLUMN: WHY to standard error; columns are counted in bytes.
 Status: 0; 3 with --check or --diff where a file isn't formatted; 1 where a file is refused, or can't be read or written
 (the others are done all the same); 2 for a usage error.
@@ -132,7 +133,11 @@ fn mode_of(matches: &ArgMatches<'_>) -> Mode {
 }
 
 // All values of an argument.
-fn texts<'a>(alloc: Global, matches: &ArgMatches<'a>, id: &str) -> Result<Vec<&'a str>, AllocError> {
+fn texts<'a>(
+    alloc: Global,
+    matches: &ArgMatches<'a>,
+    id: &str,
+) -> Result<Vec<&'a str>, AllocError> {
     let mut found = Vec::new(alloc);
     if let Some(values) = matches.get_strs(id) {
         found.extend_from_slice(values)?;

@@ -40,7 +40,13 @@ pub fn do_part(rt: &HostRuntime, part: &Part<'_>, options: &Options<'_>) -> io::
     let stop = format!(in alloc; "{}/stop", part.folder)?;
     let marks = fs::create(rt, format!(in alloc; "{}/{number}.marks", part.folder)?)?;
     let mut disk = Disk::new(rt, stop.as_str(), marks, part.number);
-    format_files(alloc, &mut disk, names.as_slice(), &options.config, options.mode != Mode::Write);
+    format_files(
+        alloc,
+        &mut disk,
+        names.as_slice(),
+        &options.config,
+        options.mode != Mode::Write,
+    );
     Ok(if disk.is_broken() { FAILED } else { 0 })
 }
 

@@ -21,7 +21,13 @@ pub fn write_plan(rt: &HostRuntime, options: &Options<'_>) -> io::Result<u8> {
         Mode::Diff => "diff",
     };
     let quiet = if options.quiet { "quiet" } else { "loud" };
-    write!(out, "{} {mode} {quiet} {} {}\n", options.jobs, found.files.len(), found.faults)?;
+    write!(
+        out,
+        "{} {mode} {quiet} {} {}\n",
+        options.jobs,
+        found.files.len(),
+        found.faults
+    )?;
     for file in &found.files {
         write!(out, "{file}\0")?;
     }

@@ -23,7 +23,11 @@ pub fn format_text(rt: &HostRuntime, options: &Options<'_>) -> io::Result<u8> {
     };
     match policies_str_to_pretty(rt.alloc(), text.as_str(), &options.config) {
         Ok(output) if options.mode == Mode::Check => {
-            Ok(if output.as_str() == text.as_str() { 0 } else { UNFORMATTED })
+            Ok(if output.as_str() == text.as_str() {
+                0
+            } else {
+                UNFORMATTED
+            })
         }
         Ok(output) => {
             let mut out = rt.stdout();
@@ -33,7 +37,12 @@ pub fn format_text(rt: &HostRuntime, options: &Options<'_>) -> io::Result<u8> {
         }
         Err(error) => {
             let told = format!(in rt.alloc(); "{error}")?;
-            tell_refusal(&mut rt.stderr(), "standard input", text.as_bytes(), told.as_str())?;
+            tell_refusal(
+                &mut rt.stderr(),
+                "standard input",
+                text.as_bytes(),
+                told.as_str(),
+            )?;
             Ok(FAILED)
         }
     }

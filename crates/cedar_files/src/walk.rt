@@ -65,7 +65,8 @@ impl<'a> Walk<'a> {
             self.files.push(String::from_str(alloc, path)?)?;
             return Ok(());
         }
-        self.folders.push(String::from_str(alloc, path.trim_end_matches('/'))?)?;
+        self.folders
+            .push(String::from_str(alloc, path.trim_end_matches('/'))?)?;
         for _ in 0..u64::MAX {
             let Some(folder) = self.folders.pop() else {
                 break;
@@ -85,7 +86,12 @@ impl<'a> Walk<'a> {
             match entry {
                 Ok(entry) => {
                     let kind = entry.file_type()?;
-                    self.sort_in(folder, entry.file_name(), kind.is_dir(), kind.is_file() || kind.is_symlink())?;
+                    self.sort_in(
+                        folder,
+                        entry.file_name(),
+                        kind.is_dir(),
+                        kind.is_file() || kind.is_symlink(),
+                    )?;
                 }
                 Err(error) => self.tell(folder, &error),
             }
@@ -94,7 +100,13 @@ impl<'a> Walk<'a> {
     }
 
     // Takes a folder, or a file or link whose name ends in `.cedar`.
-    fn sort_in(&mut self, folder: &str, name: &str, is_folder: bool, is_file: bool) -> io::Result<()> {
+    fn sort_in(
+        &mut self,
+        folder: &str,
+        name: &str,
+        is_folder: bool,
+        is_file: bool,
+    ) -> io::Result<()> {
         let alloc = self.rt.alloc();
         let path = format!(in alloc; "{folder}/{name}")?;
         if name.starts_with('.') || self.is_excluded(name) || self.is_excluded(path.as_str()) {
@@ -117,8 +129,14 @@ impl<'a> Walk<'a> {
         self.faults = self.faults.saturating_add(1);
         let mut errors = self.rt.stderr();
         let _ = match error.kind() {
-            ErrorKind::InvalidFilename => write!(errors, "{folder}: has a name that is not UTF-8, which is left alone\n"),
-            ErrorKind::PermissionDenied => write!(errors, "{folder}: cannot be read: no permission\n"),
+            ErrorKind::InvalidFilename => write!(
+                errors,
+                "{folder}: has a name that is not UTF-8, which is left alone\n"
+            ),
+            ErrorKind::PermissionDenied => write!(
+                errors,
+                "{folder}: cannot be read: no permission\n"
+            ),
             _ => write!(errors, "{folder}: cannot be read: {error}\n"),
         };
     }
