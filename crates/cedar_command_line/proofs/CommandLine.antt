@@ -1,5 +1,5 @@
 -- What clap says of this command line's words.
-use Rattle.std.proofs.Common.{◌≡◌, ◌∙◌, ap, sym, subst, refl, inl, inr, true, List, Result, Ok, Err, IfOk, MatchResult}
+use Rattle.std.proofs.Common.{◌≡◌, ◌∙◌, ap, sym, subst, refl, true, List, Result, Ok, Err, IfOk, MatchResult}
 use Rattle.clap.specs.Words.{App, FailsBy, HasKind, Text, fault_of, is_simple, is_simple_and_free, kind_of, subcommand_of}
 use Rattle.clap.specs.Simple.{HasMatchesOf}
 use Rattle.clap.specs.declared.error.Error.{Error}
