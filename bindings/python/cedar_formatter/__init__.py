@@ -8,8 +8,8 @@ A text is a `str`, or bytes in UTF-8 (`bytes`, `bytearray`, `memoryview`); anyth
 refused raises `Refused`, and bytes that aren't UTF-8 raise `NotUtf8`; both are `ValueError`s and have `kind`, `byte`, `line`
 and `column`. Where memory runs out it is a `MemoryError`.
 
-The library is what the variable CEDAR_FORMATTER names; else the one in this package, as pip installs it; else the one in
-PREFIX/lib, as a release installs it; else bindings/out of the repository.
+The library is what the variable CEDAR_FORMATTER names; else the one in this package, where pip puts it; else that of the
+repository, bindings/out; else the one of a release, PREFIX/lib.
 """
 import ctypes
 import enum

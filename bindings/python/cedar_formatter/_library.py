@@ -6,11 +6,11 @@ RESULT, NO_ROOM = 0, 10
 NAME = "libcedar_formatter.so.1"
 
 _HERE = os.path.dirname(os.path.realpath(__file__))
-# In the package; PREFIX/lib, from PREFIX/share/noblesilk/python; and the repository's, from bindings/python.
+# In the package; the repository's, from bindings/python; and PREFIX/lib, from PREFIX/share/noblesilk/python.
 _PLACES = (
     os.path.join(_HERE, NAME),
-    os.path.join(_HERE, "..", "..", "..", "..", "lib", NAME),
     os.path.join(_HERE, "..", "..", "out", "libcedar_formatter.so"),
+    os.path.join(_HERE, "..", "..", "..", "..", "lib", NAME),
 )
 
 
