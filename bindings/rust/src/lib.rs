@@ -126,11 +126,11 @@ pub fn format(text: &str, config: &Config) -> Result<String, Error> {
     ffi::format(text, config)
 }
 
-/// Whether a text is as [`format`] lays it out.
+/// Whether a text is as [`format()`] lays it out.
 ///
 /// # Errors
 ///
-/// Those of [`format`].
+/// Those of [`format()`].
 pub fn is_formatted(text: &str, config: &Config) -> Result<bool, Error> {
     ffi::is_formatted(text, config)
 }
@@ -140,7 +140,7 @@ pub fn is_formatted(text: &str, config: &Config) -> Result<bool, Error> {
 ///
 /// # Errors
 ///
-/// Those of [`format`]; a refusal of `a` comes before one of `b`.
+/// Those of [`format()`]; a refusal of `a` comes before one of `b`.
 pub fn same_layout(a: &str, b: &str, config: &Config) -> Result<bool, Error> {
     ffi::same_layout(a, b, config)
 }
