@@ -1,0 +1,149 @@
+//! The calls of `include/cedar_formatter.h`.
+use crate::{Config, Error, Place};
+
+#[repr(C)]
+struct Answer {
+    kind: u32,
+    number: usize,
+}
+
+#[repr(C)]
+struct PlaceAnswer {
+    kind: u32,
+    line: usize,
+    column: usize,
+}
+
+const RESULT: u32 = 0;
+const NO_ROOM: u32 = 10;
+
+extern "C" {
+    fn cedar_format(
+        text: *const u8,
+        len: usize,
+        width: usize,
+        indent: isize,
+        out: *mut u8,
+        room: usize,
+        answer: *mut Answer,
+    );
+    fn cedar_is_formatted(
+        text: *const u8,
+        len: usize,
+        width: usize,
+        indent: isize,
+        answer: *mut Answer,
+    );
+    fn cedar_same_layout(
+        a: *const u8,
+        a_len: usize,
+        b: *const u8,
+        b_len: usize,
+        width: usize,
+        indent: isize,
+        answer: *mut Answer,
+    );
+    fn cedar_place(text: *const u8, len: usize, at: usize, place: *mut PlaceAnswer);
+}
+
+impl Answer {
+    fn new() -> Self {
+        Answer {
+            kind: RESULT,
+            number: 0,
+        }
+    }
+
+    fn result(&self) -> Result<usize, Error> {
+        let at = self.number;
+        match self.kind {
+            RESULT => Ok(self.number),
+            1 => Err(Error::UnknownCharacter { at }),
+            2 => Err(Error::UnfinishedString { at }),
+            3 => Err(Error::NumberTooLarge { at }),
+            4 => Err(Error::Grammar { at }),
+            5 => Err(Error::TooDeep { at }),
+            8 => Err(Error::OutOfMemory),
+            // (6 and 7 are proved never to be answered, a str is UTF-8, and only `format` has a room)
+            kind => unreachable!("an answer of kind {kind}"),
+        }
+    }
+}
+
+pub fn format(text: &str, config: &Config) -> Result<String, Error> {
+    let mut room = text.len().saturating_mul(2).saturating_add(64);
+    loop {
+        let mut out: Vec<u8> = Vec::new();
+        out.try_reserve_exact(room)
+            .map_err(|_| Error::OutOfMemory)?;
+        let mut answer = Answer::new();
+        // SAFETY: the text is valid UTF-8 of that length, and `out` has `room` bytes that nothing else refers to.
+        unsafe {
+            cedar_format(
+                text.as_ptr(),
+                text.len(),
+                config.line_width,
+                config.indent_width,
+                out.as_mut_ptr(),
+                room,
+                &mut answer,
+            );
+        }
+        if answer.kind == NO_ROOM {
+            room = answer.number;
+            continue;
+        }
+        let len = answer.result()?;
+        // SAFETY: a result's length is at most `room`, and the call has written that many bytes.
+        unsafe { out.set_len(len) };
+        return Ok(String::from_utf8(out).expect("a layout is UTF-8"));
+    }
+}
+
+pub fn is_formatted(text: &str, config: &Config) -> Result<bool, Error> {
+    let mut answer = Answer::new();
+    // SAFETY: the text is valid UTF-8 of that length.
+    unsafe {
+        cedar_is_formatted(
+            text.as_ptr(),
+            text.len(),
+            config.line_width,
+            config.indent_width,
+            &mut answer,
+        )
+    };
+    Ok(answer.result()? == 1)
+}
+
+pub fn same_layout(a: &str, b: &str, config: &Config) -> Result<bool, Error> {
+    let (width, indent) = (config.line_width, config.indent_width);
+    let mut answer = Answer::new();
+    // SAFETY: the texts are valid UTF-8 of those lengths; they may overlap.
+    unsafe {
+        cedar_same_layout(
+            a.as_ptr(),
+            a.len(),
+            b.as_ptr(),
+            b.len(),
+            width,
+            indent,
+            &mut answer,
+        )
+    };
+    Ok(answer.result()? == 1)
+}
+
+pub fn place(text: &str, at: usize) -> Place {
+    let mut found = PlaceAnswer {
+        kind: RESULT,
+        line: 0,
+        column: 0,
+    };
+    // SAFETY: the text is valid UTF-8 of that length.
+    unsafe { cedar_place(text.as_ptr(), text.len(), at, &mut found) };
+    debug_assert_eq!(found.kind, RESULT);
+    Place {
+        line: found.line,
+        column: found.column,
+    }
+}

@@ -1,0 +1,152 @@
+//! The formatter for Cedar policies.
+//!
+//! ```
+//! use cedar_formatter::{format, Config};
+//!
+//! let layout = format("permit(principal,action,resource);", &Config::default())?;
+//! assert_eq!(layout, "permit (principal, action, resource);\n");
+//! # Ok::<(), cedar_formatter::Error>(())
+//! ```
+//!
+//! The crate stands on the proved library for C, which it links statically. It has no state, so its calls may run on several
+//! threads at the same time. A call needs 1 MiB of stack; a thread of the standard library has 2 MiB if nothing else is asked
+//! for.
+#![warn(missing_docs)]
+
+use std::fmt;
+
+mod ffi;
+
+/// How policies are laid out.
+#[derive(Clone, Copy, Debug, PartialEq, Eq, Hash)]
+pub struct Config {
+    /// Columns of a line.
+    pub line_width: usize,
+    /// Columns of a level; a negative number moves to the left.
+    pub indent_width: isize,
+}
+
+impl Default for Config {
+    /// 80 columns a line, and 2 a level.
+    fn default() -> Self {
+        Config {
+            line_width: 80,
+            indent_width: 2,
+        }
+    }
+}
+
+/// Why there is no result. `at` is a byte of the text, counted from 0; [`place`] gives its line and column.
+#[derive(Clone, Copy, Debug, PartialEq, Eq, Hash)]
+pub enum Error {
+    /// No blank, comment or token begins at the byte.
+    UnknownCharacter {
+        /// The byte.
+        at: usize,
+    },
+    /// The string that begins at the byte has no end.
+    UnfinishedString {
+        /// The byte.
+        at: usize,
+    },
+    /// The number that begins at the byte is above 18446744073709551615.
+    NumberTooLarge {
+        /// The byte.
+        at: usize,
+    },
+    /// The token that begins at the byte can't stand there; at the text's length, one is missing.
+    Grammar {
+        /// The byte.
+        at: usize,
+    },
+    /// The token that begins at the byte is nested more than 128 deep.
+    TooDeep {
+        /// The byte.
+        at: usize,
+    },
+    /// Out of memory.
+    OutOfMemory,
+}
+
+impl Error {
+    /// The byte at which the text is refused, if it is.
+    pub fn at(&self) -> Option<usize> {
+        match *self {
+            Error::UnknownCharacter { at }
+            | Error::UnfinishedString { at }
+            | Error::NumberTooLarge { at }
+            | Error::Grammar { at }
+            | Error::TooDeep { at } => Some(at),
+            Error::OutOfMemory => None,
+        }
+    }
+}
+
+impl fmt::Display for Error {
+    fn fmt(&self, f: &mut fmt::Formatter<'_>) -> fmt::Result {
+        f.write_str(match self {
+            Error::UnknownCharacter { .. } => "unknown character",
+            Error::UnfinishedString { .. } => "unfinished string",
+            Error::NumberTooLarge { .. } => "number too large",
+            Error::Grammar { .. } => "not in the grammar",
+            Error::TooDeep { .. } => "nested too deeply",
+            Error::OutOfMemory => "out of memory",
+        })?;
+        match self.at() {
+            Some(at) => write!(f, " at byte {at}"),
+            None => Ok(()),
+        }
+    }
+}
+
+impl std::error::Error for Error {}
+
+/// Where a byte is in a text.
+#[derive(Clone, Copy, Debug, PartialEq, Eq, PartialOrd, Ord, Hash)]
+pub struct Place {
+    /// The line, from 1. Only a line feed ends a line.
+    pub line: usize,
+    /// The column, from 1, in characters.
+    pub column: usize,
+}
+
+impl fmt::Display for Place {
+    /// Writes `LINE:COLUMN`.
+    fn fmt(&self, f: &mut fmt::Formatter<'_>) -> fmt::Result {
+        write!(f, "{}:{}", self.line, self.column)
+    }
+}
+
+/// Lays out policies.
+///
+/// # Errors
+///
+/// Why the text is refused, or [`Error::OutOfMemory`].
+pub fn format(text: &str, config: &Config) -> Result<String, Error> {
+    ffi::format(text, config)
+}
+
+/// Whether a text is as [`format()`] lays it out.
+///
+/// # Errors
+///
+/// Those of [`format()`].
+pub fn is_formatted(text: &str, config: &Config) -> Result<bool, Error> {
+    ffi::is_formatted(text, config)
+}
+
+/// Whether two texts are laid out alike: their tokens and comments are the same, but for trailing commas and leading zeros of
+/// numbers. The answer is the same for every [`Config`].
+///
+/// # Errors
+///
+/// Those of [`format()`]; a refusal of `a` comes before one of `b`.
+pub fn same_layout(a: &str, b: &str, config: &Config) -> Result<bool, Error> {
+    ffi::same_layout(a, b, config)
+}
+
+/// The line and the column of a byte, counted from 0. A byte inside a character is where the character begins, and one past
+/// the end where the text ends.
+pub fn place(text: &str, at: usize) -> Place {
+    ffi::place(text, at)
+}

@@ -1,0 +1,64 @@
+use cedar_formatter::{format, is_formatted, place, same_layout, Config, Error, Place};
+
+const PACKED: &str = "permit(principal,action,resource);";
+const LAID_OUT: &str = "permit (principal, action, resource);\n";
+const REFUSED: &str = "permit(principal,action,resource) when { context.a = 1 };";
+
+#[test]
+fn lays_out() {
+    let config = Config::default();
+    assert_eq!(format(PACKED, &config).as_deref(), Ok(LAID_OUT));
+    assert_eq!(format("", &config).as_deref(), Ok("\n"));
+    assert_eq!(is_formatted(PACKED, &config), Ok(false));
+    assert_eq!(is_formatted(LAID_OUT, &config), Ok(true));
+    assert_eq!(same_layout(PACKED, LAID_OUT, &config), Ok(true));
+    assert_eq!(same_layout(PACKED, "", &config), Ok(false));
+}
+
+#[test]
+fn heeds_the_width() {
+    let config = Config {
+        line_width: 30,
+        ..Config::default()
+    };
+    assert_eq!(
+        format(PACKED, &config).as_deref(),
+        Ok("permit\n(principal, action, resource);\n")
+    );
+}
+
+#[test]
+fn asks_again_for_a_longer_result() {
+    let config = Config {
+        indent_width: 40,
+        ..Config::default()
+    };
+    let text = "permit(principal is A,action,resource);".repeat(40);
+    let indent = " ".repeat(40);
+    let policy =
+        format!("permit (\n{indent}principal is A,\n{indent}action,\n{indent}resource\n);\n");
+    let wanted = vec![policy; 40].join("\n");
+    assert!(wanted.len() > 2 * text.len() + 64);
+    assert_eq!(format(&text, &config), Ok(wanted));
+}
+
+#[test]
+fn tells_why_and_where() {
+    let error = format(REFUSED, &Config::default()).unwrap_err();
+    assert_eq!(error, Error::UnknownCharacter { at: 51 });
+    assert_eq!(error.at(), Some(51));
+    assert_eq!(error.to_string(), "unknown character at byte 51");
+    assert_eq!(is_formatted(REFUSED, &Config::default()), Err(error));
+    assert_eq!(same_layout("", REFUSED, &Config::default()), Err(error));
+    assert_eq!(Error::OutOfMemory.to_string(), "out of memory");
+    assert_eq!(Error::OutOfMemory.at(), None);
+}
+
+#[test]
+fn counts_columns_in_characters() {
+    let text = "// é\n\"é\" +";
+    assert_eq!(place(text, 0), Place { line: 1, column: 1 });
+    assert_eq!(place(text, 6), Place { line: 2, column: 1 });
+    assert_eq!(place(text, 9), Place { line: 2, column: 3 });
+    assert_eq!(place(text, 99).to_string(), "2:6");
+}
