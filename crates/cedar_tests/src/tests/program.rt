@@ -104,7 +104,11 @@ fn formats(rt: HostRuntime) -> Result<(), AllocError> {
         (
             ["cedar", "--version"].as_slice(),
             PACKED,
-            ("cedar 4.14.1\n", "", 0),
+            (
+                "cedar 4.14.1 (noblesilk 1.0.0, proved with rattle-kit-13f logic dac8208d650f15bf)\n",
+                "",
+                0,
+            ),
         ),
         (["cedar", "format"].as_slice(), "", ("\n", "", 0)),
         (["cedar", "format"].as_slice(), not_whole, ("", grammar, 1)),
@@ -137,6 +141,16 @@ fn formats(rt: HostRuntime) -> Result<(), AllocError> {
             ["cedar", "format", "--check", "-l", "36"].as_slice(),
             NARROW,
             ("", "", 0),
+        ),
+        (
+            ["cedar", "format", "-c", "--line-width", "36"].as_slice(),
+            NARROW,
+            ("", "", 0),
+        ),
+        (
+            ["cedar", "format", "--indent-width", "4"].as_slice(),
+            TYPED,
+            (TYPED_AT_4, "", 0),
         ),
     ] {
         let got = run_with(&rt, words, input.as_bytes(), (0, 0, 0))?;
@@ -189,6 +203,8 @@ fn faults_of_the_command_line(rt: HostRuntime) -> Result<(), AllocError> {
         ["cedar", "format", "-l", "a"].as_slice(),
         ["cedar", "format", "-l"].as_slice(),
         ["cedar", "format", "-p"].as_slice(),
+        ["cedar", "format", "--policies"].as_slice(),
+        ["cedar", "format", "--line-width", "65536"].as_slice(),
         ["cedar", "format", "-x"].as_slice(),
         ["cedar", "format", "file"].as_slice(),
         ["cedar", "other"].as_slice(),
@@ -226,7 +242,7 @@ fn reads_files(rt: HostRuntime) -> Result<(), io::Error> {
     let got = run_with(&rt, words.as_slice(), b"", (0, 0, 0))?;
     let want = ("", "cedar: cannot read none.cedar\n", 1);
     expect_outcome(&rt, &got, words.as_slice(), want);
-    let words = ["cedar", "format", "--check", "-p", "none.cedar"];
+    let words = ["cedar", "format", "--check", "--policies", "none.cedar"];
     let got = run_with(&rt, words.as_slice(), b"", (0, 0, 0))?;
     expect_outcome(&rt, &got, words.as_slice(), want);
     fs::write(&rt, "f.cedar", PACKED)?;
