@@ -1,5 +1,6 @@
 -- What an output tells of its text.
-use Rattle.std.proofs.Common.{◌≡◌, ◌≢◌, ℕ, List, ap}
+use Rattle.std.proofs.Common.{◌≡◌, ◌≢◌, ◌∙◌, ℕ, List, Bool, true, false, ap, subst, sym}
+use Rattle.std.specs.Prelude.{◌↔◌, IsTrue}
 use Rattle.std.specs.Str.{IsUtf8}
 use Rattle.cedar_tokens.specs.Listing.{ListingIsUnique, by_value}
 use Rattle.cedar_grammar.specs.Texts.{Accepted}
@@ -15,6 +16,12 @@ module _ (tell : OutputsTellLists) (unique : ListingIsUnique) (c : Config) where
   -- an accepted text with another output isn't its own
   pub is_unformatted : (x y : List ℕ) → HasOutput c x y → y ≢ x → IsUnformatted c x
   is_unformatted x y h other = (h.0, h.1, λ own. other (one_output x y x h own))
+
+  -- so it is where the comparison says so
+  pub other_layout : (x t y : List ℕ) (b : Bool) → (t ≡ x) × IsUtf8 x → Accepted t → IsOutputOf c.line_width c.indent_width t y → IsUtf8 y → (IsTrue b ↔ (y ≡ t)) → b ≡ false → IsUnformatted c x × HasOutput c x y × IsUtf8 y
+  other_layout x t y b (e, u) a o v tells differs =
+      let h : HasOutput c x y = (u, subst Accepted e a, subst (λ z. IsOutputOf c.line_width c.indent_width z y) e o) in
+      (is_unformatted x y h (λ same. let bad : false ≡ true = sym differs ∙ tells.1 (same ∙ sym e) in cc), h, v)
 
 -- an output is formatted
 pub output_is_formatted : (again : OutputIsItsOwn) (c : Config) (x y : List ℕ) → HasOutput c x y → IsUnformatted c y → ⊥

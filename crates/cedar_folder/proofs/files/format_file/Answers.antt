@@ -1,10 +1,36 @@
-use Rattle.std.proofs.Common.{refl, subst}
+use Rattle.std.proofs.Common.{◌≡◌, Some, refl, subst, sym}
+use Rattle.std.specs.Prelude.{string_bytes}
 use Rattle.std.specs.Str.{IsUtf8}
-use Rattle.cedar_folder.specs.Folders.{stored}
-use Rattle.cedar_folder.specs.declared.folder.Outcome.TheVariants.{NotUtf8}
-use Rattle.cedar_folder.proofs.Steps.{as_one}
-use Rattle.cedar_folder.proofs.Handling.{of_read}
+use Rattle.cedar_folder.specs.Folders.{Follows, stored}
+use Rattle.cedar_folder.specs.Runs.{GivesLayout, Handles, HasOutput, HoldsReplaced, IsUnformatted}
+use Rattle.cedar_folder.specs.declared.files.Layout.TheVariants.{Other}
+use Rattle.cedar_folder.specs.declared.folder.Outcome.TheVariants.{NotUtf8, Unformatted}
+use Rattle.cedar_folder.proofs.Steps.{as_one, of_two}
+use Rattle.cedar_folder.proofs.Handling.{of_read, of_replaced}
 use Rattle.cedar_folder.proofs.files.format_file.Goals as goal
+
+pub returns-in-Other : goal.returns-in-Other
+returns-in-Other g c =
+    let pic = g.F.Folder.picture in
+    let only = c.args.only_checks in
+    let f = stored c.in-Ok.file in
+    let isnt : IsUnformatted c.args.config.now f.bytes = subst (λ z. IsUnformatted c.args.config.now z) c.deref.ensures.value c.in-Other.ensures.0 in
+    as_one (λ p q h. of_read c.args.config.now c.args.name.now only Unformatted f p q h (isnt, subst (λ b. HoldsReplaced b c.args.config.now f (Some f)) (sym c.if-only_checks.true) refl))
+    (pic c.args.folder.now) (pic c.read.new.self) c.in-Ok.ensures
+
+pub returns-in-Other-2 : goal.returns-in-Other-2
+returns-in-Other-2 g c =
+    let pic = g.F.Folder.picture in
+    let config = c.args.config.now in
+    let name = c.args.name.now in
+    let f = stored c.in-Ok.file in
+    let o = c.replace_file.result in
+    let ys = c.as_bytes.result.now in
+    let given : GivesLayout config f.bytes (Other c.in-Other.field-0) = subst (λ z. GivesLayout config z (Other c.in-Other.field-0)) c.deref.ensures.value c.in-Other.ensures in
+    let is : string_bytes c.in-Other.field-0 ≡ ys = sym c.as_bytes.ensures.value in
+    subst (λ b. Follows (Handles config b name o) (pic c.args.folder.now) (pic c.replace_file.new.folder)) (sym c.if-only_checks.false)
+    (of_two (λ p q r h done. of_replaced config name f ys given.0 (subst (λ z. HasOutput config f.bytes z) is given.1) (subst (λ z. IsUtf8 z) is given.2) o p q r h done)
+    (pic c.args.folder.now) (pic c.read.new.self) (pic c.replace_file.new.folder) c.in-Ok.ensures c.replace_file.ensures)
 
 pub returns-in-NotUtf8 : goal.returns-in-NotUtf8
 returns-in-NotUtf8 g c =
