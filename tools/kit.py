@@ -1,0 +1,31 @@
+"""Where the Rattle kit lies, for the scripts that call its programs."""
+import os
+import subprocess
+import sys
+
+ROOT = os.path.dirname(os.path.dirname(os.path.realpath(__file__)))
+
+
+def ask(script, word):
+    """What `rt WORD` prints; where it doesn't run, the script ends with one sentence."""
+    try:
+        told = subprocess.run(["rt", word], stdin=subprocess.DEVNULL, capture_output=True, text=True, check=True)
+    except FileNotFoundError:
+        sys.exit(f"{script}: there is no rt on the PATH: it is the Rattle kit's command, see \"Use\" in {ROOT}/README.md")
+    except (OSError, subprocess.CalledProcessError) as error:
+        sys.exit(f"{script}: the Rattle kit's rt does not run ({error}), see \"Use\" in {ROOT}/README.md")
+    return told.stdout.strip()
+
+
+def folder(script):
+    """The kit's folder."""
+    return os.path.dirname(ask(script, "doc"))
+
+
+def warn(script):
+    """Tells where another kit is at work than the one in the file KIT."""
+    with open(f"{ROOT}/KIT", encoding="utf-8") as it:
+        wanted = it.read().strip()
+    found = ask(script, "version")
+    if found != wanted:
+        print(f"{script}: this kit is {found}, and the repository is proved with {wanted}", file=sys.stderr)
