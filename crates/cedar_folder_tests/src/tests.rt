@@ -1,0 +1,106 @@
+//! What no clause says: that calls succeed with ample memory, and what is reported where they do.
+use cedar_folder::format_files;
+use cedar_policy_formatter::Config;
+use memory::Memory;
+use std::alloc::{AllocError, Global};
+use std::process::Abort;
+
+mod memory;
+
+const PACKED: &str = "permit(principal,action,resource);";
+
+const LAID_OUT: &str = "permit (principal, action, resource);\n";
+
+const REFUSED: &str = "permit(principal,action,resource) when { 1 + };";
+
+// The names of the files, with one that isn't there.
+fn names(alloc: Global) -> Result<Vec<String>, AllocError> {
+    let mut names = Vec::new(alloc);
+    for name in ["packed", "formatted", "refused", "nowhere", "other"] {
+        names.push(String::from_str(alloc, name)?)?;
+    }
+    Ok(names)
+}
+
+// A folder with one file of each kind, whose n-th call fails; none does at 0.
+fn folder(alloc: Global, fails_at: usize) -> Result<Memory, AllocError> {
+    let mut folder = Memory::new(alloc, fails_at);
+    folder.add("packed", PACKED)?;
+    folder.add("formatted", LAID_OUT)?;
+    folder.add("refused", REFUSED)?;
+    folder.add("other", PACKED)?;
+    folder.add("unnamed", PACKED)?;
+    Ok(folder)
+}
+
+// The folder after a run over it.
+fn run(alloc: Global, fails_at: usize, only_checks: bool) -> Result<Memory, AllocError> {
+    let mut folder = folder(alloc, fails_at)?;
+    let names = names(alloc)?;
+    format_files(
+        alloc,
+        &mut folder,
+        names.as_slice(),
+        &Config::default(),
+        only_checks,
+    );
+    Ok(folder)
+}
+
+fn expect_file(rt: &impl Abort, folder: &Memory, name: &str, text: &str) {
+    let held = folder.text_of(name);
+    assert!(rt; held == Some(text.as_bytes()), "{name}");
+}
+
+fn expect_report(rt: &impl Abort, folder: &Memory, wanted: &str) {
+    assert_eq!(rt; folder.report(), wanted);
+}
+
+#[test]
+fn files_are_replaced(rt: HostRuntime) -> Result<(), AllocError> {
+    let folder = run(rt.alloc(), 0, false)?;
+    expect_report(
+        &rt,
+        &folder,
+        "packed: unformatted\nformatted: formatted\nrefused: refused\nnowhere: unread\nother: unformatted\n",
+    );
+    expect_file(&rt, &folder, "packed", LAID_OUT);
+    expect_file(&rt, &folder, "formatted", LAID_OUT);
+    expect_file(&rt, &folder, "refused", REFUSED);
+    expect_file(&rt, &folder, "other", LAID_OUT);
+    expect_file(&rt, &folder, "unnamed", PACKED);
+    assert_eq!(rt; folder.len(), 5);
+    Ok(())
+}
+
+#[test]
+fn a_check_changes_nothing(rt: HostRuntime) -> Result<(), AllocError> {
+    let folder = run(rt.alloc(), 0, true)?;
+    expect_report(
+        &rt,
+        &folder,
+        "packed: unformatted\nformatted: formatted\nrefused: refused\nnowhere: unread\nother: unformatted\n",
+    );
+    expect_file(&rt, &folder, "packed", PACKED);
+    expect_file(&rt, &folder, "other", PACKED);
+    assert_eq!(rt; folder.len(), 5);
+    Ok(())
+}
+
+#[test]
+fn each_call_fails_in_turn(rt: HostRuntime) -> Result<(), AllocError> {
+    let whole = run(rt.alloc(), 0, false)?;
+    for n in 1..=whole.calls() {
+        let folder = run(rt.alloc(), n, false)?;
+        for name in ["packed", "other"] {
+            let held = folder.text_of(name);
+            let is_either = held == Some(PACKED.as_bytes()) || held == Some(LAID_OUT.as_bytes());
+            assert!(rt; is_either, "{name} after call {n} failed");
+        }
+        expect_file(&rt, &folder, "formatted", LAID_OUT);
+        expect_file(&rt, &folder, "refused", REFUSED);
+        expect_file(&rt, &folder, "unnamed", PACKED);
+        assert_eq!(rt; folder.len(), 5, "after call {n} failed");
+    }
+    Ok(())
+}
