@@ -67,21 +67,21 @@ fn run(rt: &HostRuntime, words: &[String]) -> io::Result<u8> {
         None => "",
     };
     let given = if task == "part" { 5 } else { 2 };
-    if words.len() < given {
+    let Some(rest) = words.get(given..) else {
         let _ = write!(
             rt.stderr(),
             "cedar-files: this program is run by the script of that name\n"
         );
         return Ok(MISUSED);
-    }
-    let line = line_of(rt, &words[given..])?;
+    };
+    let line = line_of(rt, rest)?;
     let options = match read_options(rt.alloc(), line.as_slice()) {
         Ok(options) => options,
         Err(error) => return Ok(answer(rt, &error)),
     };
     match task {
         "plan" => plan::write_plan(rt, &options),
-        "part" => part::do_part(rt, &Part::new(&words[2..5]), &options),
+        "part" => part::do_part(rt, &Part::new(words), &options),
         _ => text::format_text(rt, &options),
     }
 }

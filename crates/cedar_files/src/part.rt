@@ -3,7 +3,7 @@ use crate::disk::Disk;
 use crate::options::{Mode, Options};
 use crate::{FAILED, MISUSED};
 use cedar_folder::format_files;
-use std::io::Write;
+use std::alloc::{AllocError, Global};
 use std::{fs, io};
 
 /// Which part it is: `number` of `parts`, from 1, of the plan in the folder.
@@ -15,16 +15,16 @@ pub struct Part<'a> {
 }
 
 impl<'a> Part<'a> {
-    /// The part that three words name: the folder, the number and how many there are.
+    /// The part that the program's words name: after `part` the folder, the number and how many there are.
     pub fn new(words: &'a [String]) -> Part<'a> {
         let word = |n: usize| match words.get(n) {
             Some(word) => word.as_str(),
             None => "",
         };
         Part {
-            folder: word(0),
-            number: word(1),
-            parts: word(2),
+            folder: word(2),
+            number: word(3),
+            parts: word(4),
         }
     }
 }
@@ -36,7 +36,7 @@ pub fn do_part(rt: &HostRuntime, part: &Part<'_>, options: &Options<'_>) -> io::
         return Ok(MISUSED);
     };
     let plan = fs::read_to_string(rt, format!(in alloc; "{}/plan", part.folder)?)?;
-    let names = share_of(rt, plan.as_str(), number, parts)?;
+    let names = share_of(alloc, plan.as_str(), number, parts)?;
     let stop = format!(in alloc; "{}/stop", part.folder)?;
     let marks = fs::create(rt, format!(in alloc; "{}/{number}.marks", part.folder)?)?;
     let mut disk = Disk::new(rt, stop.as_str(), marks, part.number);
@@ -50,29 +50,29 @@ pub fn do_part(rt: &HostRuntime, part: &Part<'_>, options: &Options<'_>) -> io::
     Ok(if disk.is_broken() { FAILED } else { 0 })
 }
 
-// The names of a part: as many as of every other, or one more, in the plan's order.
-fn share_of(rt: &HostRuntime, plan: &str, number: usize, parts: usize) -> io::Result<Vec<String>> {
-    let alloc = rt.alloc();
+// The names of a part: equal shares in the plan's order, and fewer for the last ones.
+fn share_of(
+    alloc: Global,
+    plan: &str,
+    number: usize,
+    parts: usize,
+) -> Result<Vec<String>, AllocError> {
     let mut names = Vec::new(alloc);
     let Some((_, list)) = plan.split_once('\n') else {
         return Ok(names);
     };
-    let mut count = list.bytes().filter(|byte| *byte == 0).count();
-    let mut left = parts;
-    let mut rest = list;
-    for n in 1..=parts {
-        let share = count.div_ceil(left);
-        for _ in 0..share {
-            let Some((name, more)) = rest.split_once('\0') else {
-                break;
-            };
-            if n == number {
-                names.push(String::from_str(alloc, name)?)?;
-            }
-            rest = more;
+    let mut all = Vec::new(alloc);
+    for name in list.split_terminator('\0') {
+        all.push(name)?;
+    }
+    if parts == 0 {
+        return Ok(names);
+    }
+    let size = all.len().div_ceil(parts).max(1);
+    for share in all.chunks(size).skip(number.saturating_sub(1)).take(1) {
+        for name in share {
+            names.push(String::from_str(alloc, name)?)?;
         }
-        count -= share;
-        left -= 1;
     }
     Ok(names)
 }
