@@ -14,7 +14,7 @@ read_of (Some xs) (Some ys) x g a = (sym (g.0.0 ∙ ap (λ l. x ++ l) g.0.1 ∙ 
 
 module _ (c : Config) (known new : Option (List ℕ)) (b : Bool) where
   pub is_formatted : b ≡ true → TellsCheck c.line_width c.indent_width known new (Ok b) → Checks c known 0
-  is_formatted e (x, g, a, tells) = inr (x, read_of known new x g a, inl (refl, tells.0 e))
+  is_formatted e (x, g, a, tells) = inr (x, read_of known new x g a, inl (refl, (g.1, tells.0 e)))
 
   pub is_unformatted : b ≡ false → TellsCheck c.line_width c.indent_width known new (Ok b) → Checks c known 3
-  is_unformatted e (x, g, a, tells) = inr (x, read_of known new x g a, inr (refl, λ h. let bad : false ≡ true = sym e ∙ tells.1 h in cc))
+  is_unformatted e (x, g, a, tells) = inr (x, read_of known new x g a, inr (refl, λ h. let bad : false ≡ true = sym e ∙ tells.1 h.1 in cc))

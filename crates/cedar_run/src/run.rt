@@ -1,7 +1,7 @@
 //! A run of the program.
 ghost use Rattle.std.specs.Prelude.{◌≡◌, ◌≢◌, IfOk, map, string_bytes};
 ghost use Rattle.std.specs.Io.KnownBytes.{Keeps};
-ghost use Rattle.cedar_streams.specs.Devices.{device_of, has_failed};
+ghost use Rattle.cedar_streams.specs.Devices.{device_of, has_failed, is_flushed};
 ghost use Rattle.clap.specs.Words.{kind_of};
 ghost use Rattle.cedar_run.specs.Runs.{AnswersKind, AnswersWords, Checks, Formats, RunsTo, known_text, status_of};
 
@@ -36,7 +36,7 @@ pub fn run_words<R: Files + AllocGlobal, I: Read + Drop, O: Write, E: Write>(
     output: &mut Watched<O>,
     errors: &mut E,
 ) -> u8
-    ensures { AnswersWords (map string_bytes words.now) (I.remaining input) (O.contents (device_of output.old)) (O.contents (device_of output.new)) (has_failed output.new) result }
+    ensures { AnswersWords (map string_bytes words.now) (I.remaining input) (O.contents (device_of output.old)) (O.contents (device_of output.new)) (has_failed output.new) (is_flushed output.new) result }
 {
     let alloc = rt.alloc();
     let Config {
@@ -54,7 +54,7 @@ pub fn run_words<R: Files + AllocGlobal, I: Read + Drop, O: Write, E: Write>(
 
 // The help, or what is wrong with the words.
 fn answer_words<O: Write, E: Write>(error: &Error, output: &mut Watched<O>, errors: &mut E) -> u8
-    ensures { AnswersKind (kind_of error.now) (O.contents (device_of output.old)) (O.contents (device_of output.new)) result }
+    ensures { AnswersKind (kind_of error.now) (O.contents (device_of output.old)) (O.contents (device_of output.new)) (is_flushed output.new) result }
 {
     if error.kind() == ErrorKind::OutOfMemory {
         return tell_memory(errors);
@@ -80,7 +80,7 @@ pub fn run_options<R: Files + AllocGlobal, I: Read + Drop, O: Write, E: Write>(
     output: &mut Watched<O>,
     errors: &mut E,
 ) -> u8
-    ensures run { RunsTo options.now (known_text options.now (I.remaining input)) (O.contents (device_of output.old)) (O.contents (device_of output.new)) (has_failed output.new) result }
+    ensures run { RunsTo options.now (known_text options.now (I.remaining input)) (O.contents (device_of output.old)) (O.contents (device_of output.new)) (has_failed output.new) (is_flushed output.new) result }
     ensures quiet { result ≢ 1 → Keeps (E.contents errors.old) (E.contents errors.new) }
 {
     match run_on_text(rt, options, input, output) {
@@ -96,7 +96,7 @@ fn run_on_text<R: Files + AllocGlobal, I: Read + Drop, O: Write>(
     input: I,
     output: &mut Watched<O>,
 ) -> Result<u8, RunFault>
-    ensures run { RunsTo options.now (known_text options.now (I.remaining input)) (O.contents (device_of output.old)) (O.contents (device_of output.new)) (has_failed output.new) (status_of result) }
+    ensures run { RunsTo options.now (known_text options.now (I.remaining input)) (O.contents (device_of output.old)) (O.contents (device_of output.new)) (has_failed output.new) (is_flushed output.new) (status_of result) }
     ensures ok { IfOk result (λ s. s ≢ 1) }
 {
     let alloc = rt.alloc();
@@ -116,7 +116,7 @@ fn run_on<I: Read + Drop, O: Write>(
     input: I,
     output: &mut Watched<O>,
 ) -> Result<u8, RunFault>
-    ensures run { RunsTo options.now (I.remaining input) (O.contents (device_of output.old)) (O.contents (device_of output.new)) (has_failed output.new) (status_of result) }
+    ensures run { RunsTo options.now (I.remaining input) (O.contents (device_of output.old)) (O.contents (device_of output.new)) (has_failed output.new) (is_flushed output.new) (status_of result) }
     ensures ok { IfOk result (λ s. s ≢ 1) }
 {
     let mut input = Watched::new(input);
@@ -134,7 +134,7 @@ fn format<I: Read, O: Write>(
     input: &mut Watched<I>,
     output: &mut Watched<O>,
 ) -> Result<u8, RunFault>
-    ensures run { Formats config.now (I.remaining (device_of input.old)) (O.contents (device_of output.old)) (O.contents (device_of output.new)) (has_failed output.new) (status_of result) }
+    ensures run { Formats config.now (I.remaining (device_of input.old)) (O.contents (device_of output.old)) (O.contents (device_of output.new)) (has_failed output.new) (is_flushed output.new) (status_of result) }
     ensures ok { IfOk result (λ s. s ≢ 1) }
 {
     format_stream(alloc, input, output, config)?;

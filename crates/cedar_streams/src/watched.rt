@@ -2,27 +2,32 @@
 ghost use Rattle.std.specs.Prelude.{◌≡◌, IsTrue, IsFalse, OnOk, OnErr};
 ghost use Rattle.std.specs.Io.{ReadsAtMost, WritesAtMost};
 ghost use Rattle.std.specs.Io.KnownBytes.{Keeps, ReadConsumes, WriteAppends};
-ghost use Rattle.cedar_streams.specs.Devices.{device_of, has_failed, IsFailedWrite};
+ghost use Rattle.cedar_streams.specs.Devices.{device_of, has_failed, is_flushed, IsFailedWrite, TakesSome};
 
 use std::io;
 use std::io::{Read, Write};
 
-/// A reader or a writer that remembers whether it failed.
+/// A reader or a writer that remembers whether it failed, and whether all that it took is flushed.
+///
+/// It is flushed while it has taken nothing since the last flush, and that flush succeeded.
 #[derive(Debug, Drop)]
 pub struct Watched<D> {
     device: D,
     has_failed: bool,
+    is_flushed: bool,
 }
 
 impl<D> Watched<D> {
-    /// The device, which has not failed yet.
+    /// The device, which has not failed yet and has nothing to flush.
     pub fn new(device: D) -> Watched<D>
         ensures device { device_of result ≡ device }
         ensures fresh { IsFalse (has_failed result) }
+        ensures flushed { IsTrue (is_flushed result) }
     {
         Watched {
             device,
             has_failed: false,
+            is_flushed: true,
         }
     }
 
@@ -42,6 +47,7 @@ impl<R: Read> Read for Watched<R> {
         ensures bytes { ReadConsumes (R.remaining (device_of self.old)) (R.remaining (device_of self.new)) result buf.new }
         ensures ok { OnOk result (has_failed self.new ≡ has_failed self.old) }
         ensures err { OnErr result (IsTrue (has_failed self.new)) }
+        ensures flushed { is_flushed self.new ≡ is_flushed self.old }
     {
         let result = self.device.read(buf);
         if result.is_err() {
@@ -59,11 +65,14 @@ impl<W: Write> Write for Watched<W> {
         ensures bytes { WriteAppends (W.contents (device_of self.old)) (W.contents (device_of self.new)) result buf.now }
         ensures fails { IsFailedWrite result buf.now → IsTrue (has_failed self.new) }
         ensures succeeds { ¬ (IsFailedWrite result buf.now) → has_failed self.new ≡ has_failed self.old }
+        ensures taken { TakesSome result → IsFalse (is_flushed self.new) }
+        ensures untaken { ¬ (TakesSome result) → is_flushed self.new ≡ is_flushed self.old }
     {
         let result = self.device.write(buf);
         match &result {
             Ok(0) if !buf.is_empty() => self.has_failed = true,
-            Ok(_) => {}
+            Ok(0) => {}
+            Ok(_) => self.is_flushed = false,
             Err(_) => self.has_failed = true,
         }
         result
@@ -72,7 +81,11 @@ impl<W: Write> Write for Watched<W> {
     fn flush(&mut self) -> io::Result<()>
         ensures bytes { Keeps (W.contents (device_of self.old)) (W.contents (device_of self.new)) }
         ensures fault { has_failed self.new ≡ has_failed self.old }
+        ensures ok { OnOk result (IsTrue (is_flushed self.new)) }
+        ensures err { OnErr result (IsFalse (is_flushed self.new)) }
     {
-        self.device.flush()
+        let result = self.device.flush();
+        self.is_flushed = result.is_ok();
+        result
     }
 }
