@@ -5,12 +5,11 @@ use Rattle.std.specs.declared.alloc.AllocError.{AllocError}
 use Rattle.std.proofs.lemmas.List.{append-nil}
 use Rattle.std.proofs.lemmas.Bool.{false≢true}
 use Rattle.cedar_tokens.specs.Listing.{token_value}
-use Rattle.cedar_tokens.specs.Tokens.{bare}
 use Rattle.cedar_tokens.specs.declared.token.Span.{Span}
 use Rattle.cedar_tokens.specs.declared.token.WrappedToken.{WrappedToken}
 use Rattle.cedar_grammar.specs.Trees.{Label, Forest, branch, leaf, none}
 use Rattle.cedar_grammar.specs.Trees as forest
-use Rattle.cedar_grammar.specs.TypedTrees.{NodeKind, PartKind, Tree, Clause, yield, parts, part_yield, part_parts}
+use Rattle.cedar_grammar.specs.TypedTrees.{NodeKind, PartKind, Tree, Clause, tree_yield, parts, part_yield, part_parts}
 use Rattle.cedar_grammar.proofs.TreeLaws.{typed_leaves, part_leaves}
 use Rattle.cedar_layout.specs.Layout.{Doc}
 use Rattle.cedar_layout.specs.Lookups.{AreInOrder, Shown, emptied, shown}
@@ -28,8 +27,7 @@ use Rattle.cedar_documents.specs.ShownNodes.{IsNodeWith, IsPartWith, IsRowWith, 
 use Rattle.cedar_canonical.specs.Table as table
 use Rattle.cedar_leaf_documents.specs.declared.made.NoDocument.{NoDocument}
 use Rattle.cedar_leaf_documents.specs.declared.made.NoDocument.TheVariants.{NoToken, OutOfMemory}
-use Rattle.cedar_leaf_documents.proofs.Keeping.{refilled}
-use Rattle.cedar_tokens.proofs.KeptOrder.{order_kept}
+use Rattle.cedar_leaf_documents.proofs.Keeping.{order_stays, refilled}
 use Rattle.cedar_documents.proofs.OwnTokens.{AreSigned, Within, first_starts, own, signed_tree}
 
 -- A document that a function made of the tokens of a context, and its answer: the slice is that of the n tokens before, `left` is what
@@ -64,17 +62,17 @@ places_shown [] = refl
 places_shown (t ∷ ts) = ap (λ z. t.span ∷ z) (places_shown ts)
 
 module _ {made : Result Document NoDocument} {result : Result (Option Document) AllocError} {nodes : Erased} {has : List Span → Bool} {n : ℕ} {old slice left : List WrappedToken} (c : Called made result nodes has n old slice left) where
-  kept_so : map bare left ≡ map bare old
-  kept_so = c.kept ∙ ap (map bare) c.given
+  kept_so : KeepsTokens old left
+  kept_so = subst (λ z. KeepsTokens z left) c.given c.kept
 
   filled : after_call n old left ≡ left
   filled = refilled old left n c.len kept_so
 
   pub kept_after : KeepsTokens old (after_call n old left)
-  kept_after = ap (map bare) filled ∙ kept_so
+  kept_after = subst (λ z. KeepsTokens old z) (sym filled) kept_so
 
   pub order_after : AreInOrder (after_call n old left)
-  order_after = order_kept old (after_call n old left) kept_after c.order
+  order_after = order_stays old (after_call n old left) kept_after c.order
 
   found_so : Finds made (has_its_tokens (places old) nodes)
   found_so = subst (λ z. Finds made z) (ap (λ z. has (places z)) c.given ∙ sym c.same) c.found
@@ -108,11 +106,11 @@ module _ {made : Result Document NoDocument} {result : Result (Option Document) 
       (subst (λ z. IfOk result (λ r. IsSomeAnd r (λ d. (doc_of d ≡ z) × (map shown left ≡ (before ++ map emptied ts) ++ after)))) (sym p) k))
 
 -- the nodes of a typed tree have their tokens, where these stand side by side
-node_own : {k : NodeKind} {P : List Span} (l : Label) (span : Span) (inner : Erased) (t : Tree Shown k) → is_node l ≡ true → AreSigned (branch l (parts kind_of_shown t) none) → IsAt span (yield t) → IsNodeOf inner t → Within P (yield t) → has_its_tokens P (branch (l, Some span) inner none) ≡ true
+node_own : {k : NodeKind} {P : List Span} (l : Label) (span : Span) (inner : Erased) (t : Tree Shown k) → is_node l ≡ true → AreSigned (branch l (parts kind_of_shown t) none) → IsAt span (tree_yield t) → IsNodeOf inner t → Within P (tree_yield t) → has_its_tokens P (branch (l, Some span) inner none) ≡ true
 node_own {P = P} l span inner t is s at n w =
     let f = parts kind_of_shown t in
     let ts = forest.yield f in
-    let leaves : ts ++ [] ≡ yield t = append-nil ts ∙ typed_leaves kind_of_shown t in
+    let leaves : ts ++ [] ≡ tree_yield t = append-nil ts ∙ typed_leaves kind_of_shown t in
     let place : Some span ≡ (if is_node l then span_of text_of (λ (u : Shown). u.span) ts else None) =
     sym at ∙ ap (span_of text_of (λ (u : Shown). u.span)) (sym (typed_leaves kind_of_shown t)) ∙ ap (λ b. if b then span_of text_of (λ (u : Shown). u.span) ts else None) (sym is) in
     ap (λ z. has_its_tokens P (branch (l, Some span) z none)) n
@@ -132,20 +130,20 @@ clause_own {P = P} l span inner t is s at n w =
 
 module _ {made : Result Document NoDocument} {result : Result (Option Document) AllocError} {has : List Span → Bool} {n : ℕ} {old slice left : List WrappedToken} (i : ℤ) {j : ℤ} (width : j ≡ i) where
   pub shown_node : {k : NodeKind} (l : Label) (span : Span) (inner : Erased) → is_node l ≡ true → ((t : Tree Shown k) → AreSigned (branch l (parts kind_of_shown t) none)) → Called made result (branch (l, Some span) inner none) has n old slice left
-      → ((t : Tree Shown k) → IsAt span (yield t) → IsNodeOf inner t → Shows made slice left (yield t) (document j t)) → (ts : List Shown) (doc : Doc) → IsNodeWith k span inner i ts doc → ShowsPart result old (after_call n old left) ts doc
-  shown_node l span inner is signed c h ts doc (t, s, m, q, p) = shown_part_with c (yield t) ts (document i t) doc q p (node_own l span inner t is (signed t) s m) (subst (λ z. Shows made slice left (yield t) (document z t)) width (h t s m))
+      → ((t : Tree Shown k) → IsAt span (tree_yield t) → IsNodeOf inner t → Shows made slice left (tree_yield t) (document j t)) → (ts : List Shown) (doc : Doc) → IsNodeWith k span inner i ts doc → ShowsPart result old (after_call n old left) ts doc
+  shown_node l span inner is signed c h ts doc (t, s, m, q, p) = shown_part_with c (tree_yield t) ts (document i t) doc q p (node_own l span inner t is (signed t) s m) (subst (λ z. Shows made slice left (tree_yield t) (document z t)) width (h t s m))
 
   pub shown_part : {k : PartKind} (l : Label) (span : Span) (inner : Erased) → is_node l ≡ true → ((t : Clause Shown k) → AreSigned (branch l (part_parts kind_of_shown t) none)) → Called made result (branch (l, Some span) inner none) has n old slice left
       → ((t : Clause Shown k) → IsAt span (part_yield t) → IsPartOf inner t → Shows made slice left (part_yield t) (part_document j t)) → (ts : List Shown) (doc : Doc) → IsPartWith k span inner i ts doc → ShowsPart result old (after_call n old left) ts doc
   shown_part l span inner is signed c h ts doc (t, s, m, q, p) = shown_part_with c (part_yield t) ts (part_document i t) doc q p (clause_own l span inner t is (signed t) s m) (subst (λ z. Shows made slice left (part_yield t) (part_document z t)) width (h t s m))
 
   pub shown_row : {k : NodeKind} (inner : Erased) → Called made result inner has n old slice left
-      → ((t : Tree Shown k) → IsNodeOf inner t → Shows made slice left (yield t) (document j t)) → (ts : List Shown) (doc : Doc) → IsRowWith k inner i ts doc → ShowsPart result old (after_call n old left) ts doc
+      → ((t : Tree Shown k) → IsNodeOf inner t → Shows made slice left (tree_yield t) (document j t)) → (ts : List Shown) (doc : Doc) → IsRowWith k inner i ts doc → ShowsPart result old (after_call n old left) ts doc
   shown_row inner c h ts doc (t, m, q, p) =
-      shown_part_with c (yield t) ts (document i t) doc q p
-      (λ w. ap (has_its_tokens (places old)) m ∙ own (parts kind_of_shown t) (signed_tree t) (subst (λ z. Within (places old) z) (sym (typed_leaves kind_of_shown t)) w)) (subst (λ z. Shows made slice left (yield t) (document z t)) width (h t m))
+      shown_part_with c (tree_yield t) ts (document i t) doc q p
+      (λ w. ap (has_its_tokens (places old)) m ∙ own (parts kind_of_shown t) (signed_tree t) (subst (λ z. Within (places old) z) (sym (typed_leaves kind_of_shown t)) w)) (subst (λ z. Shows made slice left (tree_yield t) (document z t)) width (h t m))
 
 pub shown_leaf : {made : Result Document NoDocument} {result : Result (Option Document) AllocError} {nodes : Erased} {n : ℕ} {old slice left : List WrappedToken} (span : Span) (text : List ℕ) → Called made result nodes (starts span.start) n old slice left
-    → ((t : Shown) → t.span.start ≡ span.start → text ≡ token_value (text_of t) → Shows made slice left (t ∷ []) (table.leaf (as_leaf t))) → (ts : List Shown) (doc : Doc) → IsLeafWith span text ts doc → ShowsPart result old (after_call n old left) ts doc
+    → ((t : Shown) → t.span.start ≡ span.start → text ≡ token_value (text_of t) → Shows made slice left (t ∷ []) (table.printed (as_leaf t))) → (ts : List Shown) (doc : Doc) → IsLeafWith span text ts doc → ShowsPart result old (after_call n old left) ts doc
 shown_leaf {old = old} span text c h ts doc (t, s, m, q, p) =
-    shown_part_with c (t ∷ []) ts (table.leaf (as_leaf t)) doc q p (λ w. c.same ∙ ap (λ z. starts z.start (places old)) (sym s) ∙ first_starts t [] w) (h t (ap (λ z. z.start) s) m)
+    shown_part_with c (t ∷ []) ts (table.printed (as_leaf t)) doc q p (λ w. c.same ∙ ap (λ z. starts z.start (places old)) (sym s) ∙ first_starts t [] w) (h t (ap (λ z. z.start) s) m)

@@ -41,11 +41,11 @@ module _ (tokens : List WrappedToken) where
 
   tree_met : {k : kind.NodeKind} (f : Forest Label Shown) (s : Span) → OfTree k f → span_in f ≡ Some s → StandTogether tokens (yield f) → Met (IsNodeWith k s (nodes_of f))
   tree_met f s (t, e) at w i =
-      let y : yield f ≡ kind.yield t = ap yield e ∙ typed_leaves kind_of_shown t in
-      (kind.yield t, document i t, (t, subst (λ z. span_of text_of (λ (x : Shown). x.span) z ≡ Some s) y at, ap nodes_of e, refl, refl), subst (StandTogether tokens) y w)
+      let y : yield f ≡ kind.tree_yield t = ap yield e ∙ typed_leaves kind_of_shown t in
+      (kind.tree_yield t, document i t, (t, subst (λ z. span_of text_of (λ (x : Shown). x.span) z ≡ Some s) y at, ap nodes_of e, refl, refl), subst (StandTogether tokens) y w)
 
   row_met : {k : kind.NodeKind} (f : Forest Label Shown) (inner : Erased) → inner ≡ nodes_of f → OfTree k f → StandTogether tokens (yield f) → Met (IsRowWith k inner)
-  row_met f inner q (t, e) w i = (kind.yield t, document i t, (t, q ∙ ap nodes_of e, refl, refl), subst (StandTogether tokens) (ap yield e ∙ typed_leaves kind_of_shown t) w)
+  row_met f inner q (t, e) w i = (kind.tree_yield t, document i t, (t, q ∙ ap nodes_of e, refl, refl), subst (StandTogether tokens) (ap yield e ∙ typed_leaves kind_of_shown t) w)
 
   part_met : {k : kind.PartKind} (f : Forest Label Shown) (s : Span) → OfPart k f → span_in f ≡ Some s → StandTogether tokens (yield f) → Met (IsPartWith k s (nodes_of f))
   part_met f s (t, e) at w i =
@@ -58,7 +58,7 @@ module _ (tokens : List WrappedToken) where
   token_met : (f : Forest Label Shown) (s : Span) → OfToken f → span_in f ≡ Some s → StandTogether tokens (yield f) → Met (λ i. IsTokenWith s (nodes_of f))
   token_met f s (x, e) at w i =
       let is : x.span ≡ s = some_same x.span s (subst (λ z. span_in z ≡ Some s) e at) in
-      (x ∷ [], table.leaf (as_leaf x), (token_value (text_of x), ap nodes_of e, (x, is, refl, refl, refl)), subst (λ z. StandTogether tokens (yield z)) e w)
+      (x ∷ [], table.printed (as_leaf x), (token_value (text_of x), ap nodes_of e, (x, is, refl, refl, refl)), subst (λ z. StandTogether tokens (yield z)) e w)
 
   -- label by label
   met : (l : Label) (f : Forest Label Shown) (s : Span) → IsTyped l f → (if is_node l then span_in f else None) ≡ Some s → StandTogether tokens (yield f) → MeetsItsTokens tokens l s (nodes_of f)

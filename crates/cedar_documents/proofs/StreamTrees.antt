@@ -19,7 +19,7 @@ use Rattle.cedar_grammar.specs.Kinds.{is, is_closing}
 use Rattle.cedar_grammar.specs.TokenKinds.{kind_of}
 use Rattle.cedar_grammar.specs.Grammar.{G}
 use Rattle.cedar_grammar.specs.Laws.{kind_of_decorated}
-use Rattle.cedar_grammar.specs.Texts.{greatest_depth, tokens}
+use Rattle.cedar_grammar.specs.Texts.{greatest_depth, only_tokens}
 use Rattle.cedar_grammar.specs.Placed.{Placed, placed, with_places, kind_of_placed}
 use Rattle.cedar_grammar.specs.TrailingCommas.{plain, drop_if, without_trailing}
 use Rattle.cedar_grammar.specs.TypedTrees.{Clause, policy, set_tree, policy_trees, part_yield}
@@ -63,9 +63,9 @@ stream_places : (text : List ℕ) (ws : List WrappedToken) (l : Listing) (units 
 stream_places text ws l units split is_list e spans =
     let u : is_list.units ≡ units = split_unique text is_list.units units is_list.split split in
     let v : spans.units ≡ units = split_unique text spans.units units spans.split split in
-    let texts : map (λ w. token_text w.token) ws ≡ tokens units =
-    sym (map_map (λ (d : Decorated). d.text) decorated ws) ∙ ap (map (λ (d : Decorated). d.text)) (sym e) ∙ ap (λ (m : Listing). map (λ d. d.text) m.tokens) is_list.value ∙ listing_texts is_list.units ∙ ap tokens u in
-    places_zipped ws ∙ ap (λ z. with_places z (map (λ w. w.span) ws)) texts ∙ ap (with_places (tokens units)) (spans.value ∙ ap (token_spans 0) v)
+    let texts : map (λ w. token_text w.token) ws ≡ only_tokens units =
+    sym (map_map (λ (d : Decorated). d.text) decorated ws) ∙ ap (map (λ (d : Decorated). d.text)) (sym e) ∙ ap (λ (m : Listing). map (λ d. d.text) m.tokens) is_list.value ∙ listing_texts is_list.units ∙ ap only_tokens u in
+    places_zipped ws ∙ ap (λ z. with_places z (map (λ w. w.span) ws)) texts ∙ ap (with_places (only_tokens units)) (spans.value ∙ ap (token_spans 0) v)
 
 -- without its trailing commas a list of tokens has the places that are left
 kept_places : (ws : List WrappedToken) → map place_of (map shown (kept_tokens ws)) ≡ plain kind_of_placed (map place_of (map shown ws))

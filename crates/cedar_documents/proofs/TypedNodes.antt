@@ -3,7 +3,7 @@ use Rattle.std.proofs.Common.{◌≡◌, Bool, true, false, List, [], ◌∷◌,
 use Rattle.std.specs.Prelude.{⊤, if◌then◌else◌}
 use Rattle.cedar_grammar.specs.Kinds.{is}
 use Rattle.cedar_grammar.specs.Trees.{Label, Forest, none, leaf, branch, join}
-use Rattle.cedar_grammar.specs.TypedTrees.{Tree, Clause, parts, part_parts, policy_trees, name_one, name_more, ref_of, args_one, args_more, init_of, inits_one, inits_more, literal, slot, reference, named, parens, list_empty, list_of, record_empty, record_of, no_access, field, call_empty, call, index, member_of, unsigned, signed, products_one, products_more, mult_of, sums_one, sums_more, add_of, single, compare, has_or_like, is_type, is_in, ands_one, ands_more, ors_one, ors_more, plain_expr, if_expr, variable_bare, variable_is, variable_op, variable_is_op, cond_of, no_cond, conds_more, annotation_bare, annotation_value, no_annotation, annotations_more, policy_of}
+use Rattle.cedar_grammar.specs.TypedTrees.{Tree, Clause, parts, part_parts, policy_trees, name_one, name_more, ref_of, args_one, args_more, init_of, inits_one, inits_more, literal, slot, reference, named, parens, list_empty, list_of, record_empty, record_of, no_access, field, call_empty, call, index, member_of, unsigned, signed, products_one, products_more, mult_of, sums_one, sums_more, add_of, single, compare, has_or_like, is_type, is_in, ands_one, ands_more, ors_one, ors_more, ors_expr, if_expr, variable_bare, variable_is, variable_op, variable_is_op, cond_of, no_cond, conds_more, annotation_bare, annotation_value, no_annotation, annotations_more, policy_of}
 use Rattle.cedar_grammar.specs.TypedTrees as kind
 use Rattle.cedar_grammar.specs.declared.kind.Kind.{Kind}
 use Rattle.cedar_layout.specs.Lookups.{Shown}
@@ -103,7 +103,7 @@ typed_tree (ands_one r) = ((r, refl), typed_tree r, tt)
 typed_tree (ands_more r o m) = ((r, refl), typed_tree r, typed_tree m)
 typed_tree (ors_one a) = ((a, refl), typed_tree a, tt)
 typed_tree (ors_more a o m) = ((a, refl), typed_tree a, typed_tree m)
-typed_tree (plain_expr o) = ((o, refl), typed_tree o, tt)
+typed_tree (ors_expr o) = ((o, refl), typed_tree o, tt)
 typed_tree (if_expr i c t a f b) = ((c, refl), typed_tree c, ((a, refl), typed_tree a, ((b, refl), typed_tree b, tt)))
 
 pub typed_part : {k : kind.PartKind} (t : Clause Shown k) → AreTyped (part_parts kind_of_shown t)

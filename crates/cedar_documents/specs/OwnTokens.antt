@@ -4,7 +4,7 @@ use Rattle.std.specs.List.{Contains}
 use Rattle.cedar_tokens.specs.Listing.{IsListing}
 use Rattle.cedar_tokens.specs.Places.{AreTokenSpans}
 use Rattle.cedar_tokens.specs.PlainList.{kept_tokens}
-use Rattle.cedar_tokens.specs.Tokens.{decorated}
+use Rattle.cedar_tokens.specs.Tokens.{bare, decorated}
 use Rattle.cedar_tokens.specs.declared.token.Span.{Span}
 use Rattle.cedar_tokens.specs.declared.token.WrappedToken.{WrappedToken}
 use Rattle.cedar_grammar.specs.Trees.{Label, none, leaf, branch}
@@ -16,7 +16,6 @@ use Rattle.cedar_tree.specs.NodeTrees.{IsTreeOf}
 use Rattle.cedar_tree.specs.declared.tree.Node.{Node}
 use Rattle.cedar_tree.specs.declared.tree.Policies.{Policies}
 use Rattle.cedar_tree.specs.declared.tree.Policy.{Policy}
-use Rattle.cedar_leaf_documents.specs.Kept.{KeepsTokens}
 use Rattle.cedar_documents.specs.ShownNodes.{IsLeafWith, IsNodeWith, IsPartWith, IsRowWith}
 
 -- these trees hold a node with this label, span and parts: as one of them, or inside one
@@ -71,7 +70,7 @@ pub record AreTokensOf (text : List ℕ) (tokens : List WrappedToken) : Type 0 w
   pub closing : List (List ℕ)
   pub listing : IsListing text (record { tokens = map decorated stream; closing = closing })
   pub spans : AreTokenSpans text (map (λ w. w.span) stream)
-  pub kept : KeepsTokens (kept_tokens stream) tokens
+  pub kept : map bare tokens ≡ map bare (kept_tokens stream)
 
 -- each policy of an accepted text meets its tokens
 abbrev pub PoliciesMeetTheirTokens : Type 0

@@ -3,13 +3,13 @@ use Rattle.std.specs.Prelude.{◌≡◌, ℕ, ℤ, List, [], ◌∷◌, ◌++◌
 use Rattle.cedar_tokens.specs.Listing.{token_value}
 use Rattle.cedar_tokens.specs.declared.token.Span.{Span}
 use Rattle.cedar_tokens.specs.declared.token.WrappedToken.{WrappedToken}
-use Rattle.cedar_grammar.specs.TypedTrees.{NodeKind, Tree, PartKind, Clause, yield, part_yield}
+use Rattle.cedar_grammar.specs.TypedTrees.{NodeKind, Tree, PartKind, Clause, tree_yield, part_yield}
 use Rattle.cedar_layout.specs.Layout.{Doc}
 use Rattle.cedar_layout.specs.Lookups.{Shown, shown, emptied}
 use Rattle.cedar_layout.specs.Value.{doc_of}
 use Rattle.cedar_layout.specs.declared.layout.Document.{Document}
 use Rattle.cedar_tree.specs.Erased.{Erased}
-use Rattle.cedar_canonical.specs.Table.{leaf as leaf_of}
+use Rattle.cedar_canonical.specs.Table.{printed as leaf_of}
 use Rattle.std.specs.declared.alloc.AllocError.{AllocError}
 use Rattle.cedar_leaf_documents.specs.declared.made.NoDocument.{NoDocument}
 use Rattle.cedar_leaf_documents.specs.declared.made.NoDocument.TheVariants.{NoToken, OutOfMemory}
@@ -18,11 +18,11 @@ use Rattle.cedar_policy_documents.specs.PartDocuments.{IsPartOf, part_document}
 
 -- a node with this span and these parts is the tree of the tokens ts, and the table's document of that tree is doc
 abbrev pub IsNodeWith : (k : NodeKind) → Span → Erased → ℤ → List Shown → Doc → Type 0
-IsNodeWith k span inner i ts doc = (t : Tree Shown k) × IsAt span (yield t) × IsNodeOf inner t × (ts ≡ yield t) × (doc ≡ document i t)
+IsNodeWith k span inner i ts doc = (t : Tree Shown k) × IsAt span (tree_yield t) × IsNodeOf inner t × (ts ≡ tree_yield t) × (doc ≡ document i t)
 
 -- the same of trees in a row, which have no span as a whole
 abbrev pub IsRowWith : (k : NodeKind) → Erased → ℤ → List Shown → Doc → Type 0
-IsRowWith k inner i ts doc = (t : Tree Shown k) × IsNodeOf inner t × (ts ≡ yield t) × (doc ≡ document i t)
+IsRowWith k inner i ts doc = (t : Tree Shown k) × IsNodeOf inner t × (ts ≡ tree_yield t) × (doc ≡ document i t)
 
 -- the same of a part of a policy outside expressions
 abbrev pub IsPartWith : (k : PartKind) → Span → Erased → ℤ → List Shown → Doc → Type 0

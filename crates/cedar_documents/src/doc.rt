@@ -1,4 +1,6 @@
 //! The document of each node: its tokens, each between its comments, with the places where a line may break.
+#![tactic(auto, using(cedar_leaf_documents::proofs::Keeping::all_kept))]
+
 ghost use Rattle.std.specs.Prelude.{◌≡◌, ℤ, List, [], Some, None, Ok, codes, true, IfOk, is_some};
 ghost use Rattle.cedar_grammar.specs.Trees.{Label, branch, leaf, none};
 ghost use Rattle.cedar_grammar.specs.TypedTrees as kind;
@@ -49,8 +51,8 @@ pub trait Doc<'src> {
     ///
     /// `None` exactly where an identifier, a string, a literal or a slot in it has no token that starts where it does, or
     /// where the number of tokens between the start of signs and their member isn't the number of these signs. It is never
-    /// so where the part's own tokens stand side by side. After `None` or a refusal tokens and spans are as before, some
-    /// comments may be taken, and the context is of no more use.
+    /// so where the part's own tokens stand side by side. After `None` or a refusal tokens and spans are as before, each
+    /// token's leading lines and its trailing text are as before or taken, and the context is of no more use.
     fn to_doc(
         &self,
         alloc: Global,

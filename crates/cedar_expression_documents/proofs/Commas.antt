@@ -5,7 +5,7 @@ use Rattle.std.proofs.lemmas.List.{map-append, at_drop_more, at_drop_all}
 use Rattle.cedar_tokens.specs.Listing.{token_value}
 use Rattle.cedar_tokens.specs.declared.token.Span.{Span}
 use Rattle.cedar_grammar.specs.Trees.{Label, Forest, leaf, branch, none}
-use Rattle.cedar_grammar.specs.TypedTrees.{NodeKind, Tree, parts, yield, expr, init, args, inits, args_one, args_more, inits_one, inits_more}
+use Rattle.cedar_grammar.specs.TypedTrees.{NodeKind, Tree, parts, tree_yield, expr, init, args, inits, args_one, args_more, inits_one, inits_more}
 use Rattle.cedar_layout.specs.Layout.{Doc, nil, line, ◌·◌}
 use Rattle.cedar_layout.specs.Lookups.{Shown, emptied}
 use Rattle.cedar_layout.specs.Value.{doc_of, docs_of}
@@ -29,17 +29,17 @@ row_parts l (x ∷ xs) = leaf x.0 (branch l (parts kind_of_shown x.1) (row_parts
 
 abbrev pub row_yield : {k : NodeKind} → List (Shown × Tree Shown k) → List Shown
 row_yield [] = []
-row_yield (x ∷ xs) = x.0 ∷ (yield x.1 ++ row_yield xs)
+row_yield (x ∷ xs) = x.0 ∷ (tree_yield x.1 ++ row_yield xs)
 
 abbrev pub row_document : {k : NodeKind} → ℤ → List (Shown × Tree Shown k) → Doc
 row_document i [] = nil
-row_document i (x ∷ xs) = table.leaf (as_leaf x.0) · line · document i x.1 · row_document i xs
+row_document i (x ∷ xs) = table.printed (as_leaf x.0) · line · document i x.1 · row_document i xs
 
 -- The items up to a place are done: their tokens have no comments, the last one ends at s, and the documents made are those of the items done.
 pub record Stage (X : Type 0) (k : NodeKind) (l : Label) (inside : X → Erased) (i : ℤ) (s : Span) (left : List (Node X)) (docs : Doc) (now : List Shown) (f : Tree Shown k) (row : List (Shown × Tree Shown k)) (b a : List Shown) : Type 0 where
   pub finished : List Shown
   pub rest : List (Shown × Tree Shown k)
-  pub tokens : yield f ++ row_yield row ≡ finished ++ row_yield rest
+  pub tokens : tree_yield f ++ row_yield row ≡ finished ++ row_yield rest
   pub nodes : more_trees l inside left ≡ nodes_of (row_parts l rest)
   pub place : end_of_tokens (b ++ map emptied finished) ≡ s.end
   pub shown_now : now ≡ (b ++ map emptied finished) ++ (row_yield rest ++ a)
@@ -49,31 +49,31 @@ pub record Stage (X : Type 0) (k : NodeKind) (l : Label) (inside : X → Erased)
 abbrev pub Progress : (X : Type 0) (k : NodeKind) → Label → (X → Erased) → ℤ → List (Node X) → Option Span → List (Node X) → Doc → List Shown → List Shown → Type 0
 Progress X k l inside i whole None left docs old now = (left ≡ whole) × (docs ≡ nil) × (now ≡ old)
 Progress X k l inside i whole (Some s) left docs old now = (whole ≡ [] → ⊥) × ((f : Tree Shown k) (row : List (Shown × Tree Shown k)) → item_trees l inside whole ≡ nodes_of (branch l (parts kind_of_shown f) (row_parts l row))
-    → (b a : List Shown) → old ≡ b ++ ((yield f ++ row_yield row) ++ a) → Stage X k l inside i s left docs now f row b a)
+    → (b a : List Shown) → old ≡ b ++ ((tree_yield f ++ row_yield row) ++ a) → Stage X k l inside i s left docs now f row b a)
 
 module _ (X : Type 0) (k : NodeKind) (l : Label) (inside : X → Erased) (i : ℤ) (is : is_node l ≡ true) where
   -- what the document of an item, and of a comma, is
   abbrev IsMade : Node X → Doc → List Shown → List Shown → Type 0
-  IsMade n d old new = (f : Tree Shown k) → IsAt n.span (yield f) → inside n.inner ≡ nodes_of (parts kind_of_shown f) → (b a : List Shown) → old ≡ b ++ (yield f ++ a) → (d ≡ document i f) × (new ≡ (b ++ map emptied (yield f)) ++ a)
+  IsMade n d old new = (f : Tree Shown k) → IsAt n.span (tree_yield f) → inside n.inner ≡ nodes_of (parts kind_of_shown f) → (b a : List Shown) → old ≡ b ++ (tree_yield f ++ a) → (d ≡ document i f) × (new ≡ (b ++ map emptied (tree_yield f)) ++ a)
 
   abbrev IsComma : Span → Doc → List Shown → List Shown → Type 0
-  IsComma s d old new = (t : Shown) → codes "," ≡ token_value (text_of t) → (b a : List Shown) → end_of_tokens b ≡ s.end → old ≡ b ++ (t ∷ a) → (d ≡ table.leaf (as_leaf t) · line) × (new ≡ (b ++ (emptied t ∷ [])) ++ a)
+  IsComma s d old new = (t : Shown) → codes "," ≡ token_value (text_of t) → (b a : List Shown) → end_of_tokens b ≡ s.end → old ≡ b ++ (t ∷ a) → (d ≡ table.printed (as_leaf t) · line) × (new ≡ (b ++ (emptied t ∷ [])) ++ a)
 
   first_stage : (n : Node X) (ns : List (Node X)) (docs d : Doc) (old new : List Shown) → IsMade n d old new → docs ≡ d → (f : Tree Shown k) (row : List (Shown × Tree Shown k))
-      → item_trees l inside (n ∷ ns) ≡ nodes_of (branch l (parts kind_of_shown f) (row_parts l row)) → (b a : List Shown) → old ≡ b ++ ((yield f ++ row_yield row) ++ a) → Stage X k l inside i n.span ns docs new f row b a
+      → item_trees l inside (n ∷ ns) ≡ nodes_of (branch l (parts kind_of_shown f) (row_parts l row)) → (b a : List Shown) → old ≡ b ++ ((tree_yield f ++ row_yield row) ++ a) → Stage X k l inside i n.span ns docs new f row b a
   first_stage n ns docs d old new h q f row e b a st =
       let o = opened_tree l n.span (inside n.inner) (more_trees l inside ns) f (row_parts l row) is e in
-      let r = h f o.1 o.0 b (row_yield row ++ a) (st ∙ ap (λ z. b ++ z) (append_assoc (yield f) (row_yield row) a)) in
-      record { finished = yield f; rest = row; tokens = refl; nodes = o.2; place = ends_here n.span (yield f) o.1 b; shown_now = r.1; made = ap (λ z. z · row_document i row) (q ∙ r.0) }
+      let r = h f o.1 o.0 b (row_yield row ++ a) (st ∙ ap (λ z. b ++ z) (append_assoc (tree_yield f) (row_yield row) a)) in
+      record { finished = tree_yield f; rest = row; tokens = refl; nodes = o.2; place = ends_here n.span (tree_yield f) o.1 b; shown_now = r.1; made = ap (λ z. z · row_document i row) (q ∙ r.0) }
 
   next_stage : (s : Span) (n : Node X) (ns : List (Node X)) (docs docs' c d : Doc) (now mid new : List Shown) (f : Tree Shown k) (row : List (Shown × Tree Shown k)) (b a : List Shown)
-      → IsComma s c now mid → IsMade n d mid new → docs' ≡ (docs · c) · d → (finished : List Shown) (rest : List (Shown × Tree Shown k)) → yield f ++ row_yield row ≡ finished ++ row_yield rest
+      → IsComma s c now mid → IsMade n d mid new → docs' ≡ (docs · c) · d → (finished : List Shown) (rest : List (Shown × Tree Shown k)) → tree_yield f ++ row_yield row ≡ finished ++ row_yield rest
       → more_trees l inside (n ∷ ns) ≡ nodes_of (row_parts l rest) → end_of_tokens (b ++ map emptied finished) ≡ s.end → now ≡ (b ++ map emptied finished) ++ (row_yield rest ++ a) → docs · row_document i rest ≡ document i f · row_document i row
       → Stage X k l inside i n.span ns docs' new f row b a
   next_stage s n ns docs docs' c d now mid new f row b a hc hd q finished [] tk e p st m = absurd cc
   next_stage s n ns docs docs' c d now mid new f row b a hc hd q finished (x ∷ xs) tk e p st m =
       let t = x.0 in
-      let ts = yield x.1 in
+      let ts = tree_yield x.1 in
       let front = b ++ map emptied finished in
       let o = opened_token (codes ",") _ t (branch l (parts kind_of_shown x.1) (row_parts l xs)) e in
       let u = opened_tree l n.span (inside n.inner) (more_trees l inside ns) x.1 (row_parts l xs) is o.1 in
@@ -88,10 +88,10 @@ module _ (X : Type 0) (k : NodeKind) (l : Label) (inside : X → Erased) (i : �
         nodes = u.2;
         place = ap end_of_tokens (sym moved) ∙ ends_here n.span ts u.1 (front ++ (emptied t ∷ []));
         shown_now = w.1 ∙ ap (λ z. z ++ (row_yield xs ++ a)) moved;
-        made = ap (λ z. z · row_document i xs) (q ∙ ap (λ z. (docs · z) · d) v.0 ∙ ap (λ z. (docs · (table.leaf (as_leaf t) · line)) · z) w.0)
-            ∙ dot_assoc (docs · (table.leaf (as_leaf t) · line)) (document i x.1) (row_document i xs)
-            ∙ dot_assoc docs (table.leaf (as_leaf t) · line) (document i x.1 · row_document i xs)
-            ∙ ap (λ z. docs · z) (dot_assoc (table.leaf (as_leaf t)) line (document i x.1 · row_document i xs))
+        made = ap (λ z. z · row_document i xs) (q ∙ ap (λ z. (docs · z) · d) v.0 ∙ ap (λ z. (docs · (table.printed (as_leaf t) · line)) · z) w.0)
+            ∙ dot_assoc (docs · (table.printed (as_leaf t) · line)) (document i x.1) (row_document i xs)
+            ∙ dot_assoc docs (table.printed (as_leaf t) · line) (document i x.1 · row_document i xs)
+            ∙ ap (λ z. docs · z) (dot_assoc (table.printed (as_leaf t)) line (document i x.1 · row_document i xs))
             ∙ m;
       }
 
@@ -112,16 +112,16 @@ module _ (X : Type 0) (k : NodeKind) (l : Label) (inside : X → Erased) (i : �
         next_stage s n ns docs docs' r.0 d now mid new f row b a r.2 hd (q ∙ ap (λ z. z · d) r.1) y.finished y.rest y.tokens (ap (more_trees l inside) (sym e) ∙ y.nodes) y.place y.shown_now y.made,
   )
 
-  last_stage : (s : Span) (docs : Doc) (now : List Shown) (f : Tree Shown k) (row : List (Shown × Tree Shown k)) (b a : List Shown) (finished : List Shown) (rest : List (Shown × Tree Shown k)) → yield f ++ row_yield row ≡ finished ++ row_yield rest
+  last_stage : (s : Span) (docs : Doc) (now : List Shown) (f : Tree Shown k) (row : List (Shown × Tree Shown k)) (b a : List Shown) (finished : List Shown) (rest : List (Shown × Tree Shown k)) → tree_yield f ++ row_yield row ≡ finished ++ row_yield rest
       → more_trees l inside [] ≡ nodes_of (row_parts l rest) → now ≡ (b ++ map emptied finished) ++ (row_yield rest ++ a) → docs · row_document i rest ≡ document i f · row_document i row
-      → (docs ≡ document i f · row_document i row) × (now ≡ (b ++ map emptied (yield f ++ row_yield row)) ++ a)
+      → (docs ≡ document i f · row_document i row) × (now ≡ (b ++ map emptied (tree_yield f ++ row_yield row)) ++ a)
   last_stage s docs now f row b a finished [] tk e st m = (sym (dot-nil docs) ∙ m, st ∙ ap (λ z. (b ++ map emptied z) ++ a) (sym (append-nil finished) ∙ sym tk))
   last_stage s docs now f row b a finished (x ∷ xs) tk e st m = absurd cc
 
   -- all items are done
   pub all_items : (whole : List (Node X)) (before : Option Span) (left : List (Node X)) (docs : Doc) (old now : List Shown) → left ≡ [] → Progress X k l inside i whole before left docs old now → (f : Tree Shown k) (row : List (Shown × Tree Shown k))
-      → item_trees l inside whole ≡ nodes_of (branch l (parts kind_of_shown f) (row_parts l row)) → (b a : List Shown) → old ≡ b ++ ((yield f ++ row_yield row) ++ a)
-      → (docs ≡ document i f · row_document i row) × (now ≡ (b ++ map emptied (yield f ++ row_yield row)) ++ a)
+      → item_trees l inside whole ≡ nodes_of (branch l (parts kind_of_shown f) (row_parts l row)) → (b a : List Shown) → old ≡ b ++ ((tree_yield f ++ row_yield row) ++ a)
+      → (docs ≡ document i f · row_document i row) × (now ≡ (b ++ map emptied (tree_yield f ++ row_yield row)) ++ a)
   all_items whole None left docs old now e p f row g b a st =
       let h : none ≡ nodes_of (branch l (parts kind_of_shown f) (row_parts l row)) = ap (item_trees l inside) (sym e ∙ p.0) ∙ g in
       absurd cc
@@ -170,16 +170,16 @@ args_nodes : (t : Tree Shown args) → parts kind_of_shown t ≡ branch Label.ex
 args_nodes (args_one e) = refl
 args_nodes (args_more e c r) = ap (λ z. branch Label.expr (parts kind_of_shown e) (leaf c z)) (args_nodes r)
 
-args_tokens : (t : Tree Shown args) → yield t ≡ yield (first_arg t) ++ row_yield (other_args t)
-args_tokens (args_one e) = sym (append-nil (yield e))
-args_tokens (args_more e c r) = ap (λ z. yield e ++ (c ∷ z)) (args_tokens r)
+args_tokens : (t : Tree Shown args) → tree_yield t ≡ tree_yield (first_arg t) ++ row_yield (other_args t)
+args_tokens (args_one e) = sym (append-nil (tree_yield e))
+args_tokens (args_more e c r) = ap (λ z. tree_yield e ++ (c ∷ z)) (args_tokens r)
 
 args_document : (i : ℤ) (t : Tree Shown args) → document i t ≡ document i (first_arg t) · row_document i (other_args t)
 args_document i (args_one e) = sym (dot-nil (document i e))
-args_document i (args_more e c r) = ap (λ z. document i e · table.leaf (as_leaf c) · line · z) (args_document i r)
+args_document i (args_more e c r) = ap (λ z. document i e · table.printed (as_leaf c) · line · z) (args_document i r)
 
 pub all_args : (i : ℤ) (whole : List (Node Expr.Expr)) (before : Option Span) (left : List (Node Expr.Expr)) (docs : Doc) (old now : List Shown) → left ≡ [] → Progress Expr.Expr expr Label.expr expr_parts i whole before left docs old now
-    → (t : Tree Shown args) → item_trees Label.expr expr_parts whole ≡ nodes_of (parts kind_of_shown t) → (b a : List Shown) → old ≡ b ++ (yield t ++ a) → (docs ≡ document i t) × (now ≡ (b ++ map emptied (yield t)) ++ a)
+    → (t : Tree Shown args) → item_trees Label.expr expr_parts whole ≡ nodes_of (parts kind_of_shown t) → (b a : List Shown) → old ≡ b ++ (tree_yield t ++ a) → (docs ≡ document i t) × (now ≡ (b ++ map emptied (tree_yield t)) ++ a)
 all_args i whole before left docs old now e p t g b a st =
     let r = all_items Expr.Expr expr Label.expr expr_parts i refl whole before left docs old now e p (first_arg t) (other_args t) (g ∙ ap (λ z. nodes_of z) (args_nodes t)) b a (st ∙ ap (λ z. b ++ (z ++ a)) (args_tokens t)) in
     (r.0 ∙ sym (args_document i t), r.1 ∙ ap (λ z. (b ++ map emptied z) ++ a) (sym (args_tokens t)))
@@ -196,16 +196,16 @@ inits_nodes : (t : Tree Shown inits) → parts kind_of_shown t ≡ branch Label.
 inits_nodes (inits_one e) = refl
 inits_nodes (inits_more e c r) = ap (λ z. branch Label.rec_init (parts kind_of_shown e) (leaf c z)) (inits_nodes r)
 
-inits_tokens : (t : Tree Shown inits) → yield t ≡ yield (first_init t) ++ row_yield (other_inits t)
-inits_tokens (inits_one e) = sym (append-nil (yield e))
-inits_tokens (inits_more e c r) = ap (λ z. yield e ++ (c ∷ z)) (inits_tokens r)
+inits_tokens : (t : Tree Shown inits) → tree_yield t ≡ tree_yield (first_init t) ++ row_yield (other_inits t)
+inits_tokens (inits_one e) = sym (append-nil (tree_yield e))
+inits_tokens (inits_more e c r) = ap (λ z. tree_yield e ++ (c ∷ z)) (inits_tokens r)
 
 inits_document : (i : ℤ) (t : Tree Shown inits) → document i t ≡ document i (first_init t) · row_document i (other_inits t)
 inits_document i (inits_one e) = sym (dot-nil (document i e))
-inits_document i (inits_more e c r) = ap (λ z. document i e · table.leaf (as_leaf c) · line · z) (inits_document i r)
+inits_document i (inits_more e c r) = ap (λ z. document i e · table.printed (as_leaf c) · line · z) (inits_document i r)
 
 pub all_inits : (i : ℤ) (whole : List (Node RecInit.RecInit)) (before : Option Span) (left : List (Node RecInit.RecInit)) (docs : Doc) (old now : List Shown) → left ≡ [] → Progress RecInit.RecInit init Label.rec_init init_parts i whole before left docs old now
-    → (t : Tree Shown inits) → item_trees Label.rec_init init_parts whole ≡ nodes_of (parts kind_of_shown t) → (b a : List Shown) → old ≡ b ++ (yield t ++ a) → (docs ≡ document i t) × (now ≡ (b ++ map emptied (yield t)) ++ a)
+    → (t : Tree Shown inits) → item_trees Label.rec_init init_parts whole ≡ nodes_of (parts kind_of_shown t) → (b a : List Shown) → old ≡ b ++ (tree_yield t ++ a) → (docs ≡ document i t) × (now ≡ (b ++ map emptied (tree_yield t)) ++ a)
 all_inits i whole before left docs old now e p t g b a st =
     let r = all_items RecInit.RecInit init Label.rec_init init_parts i refl whole before left docs old now e p (first_init t) (other_inits t) (g ∙ ap (λ z. nodes_of z) (inits_nodes t)) b a (st ∙ ap (λ z. b ++ (z ++ a)) (inits_tokens t)) in
     (r.0 ∙ sym (inits_document i t), r.1 ∙ ap (λ z. (b ++ map emptied z) ++ a) (sym (inits_tokens t)))

@@ -3,12 +3,11 @@ use Rattle.std.proofs.Common.{◌≡◌, codes, ℕ, ℤ, Bool, true, false, Lis
 use Rattle.std.proofs.lemmas.List.{append_assoc, map-append}
 use Rattle.std.specs.Prelude.{IfOk, if◌then◌else◌, ◌&&◌}
 use Rattle.cedar_tokens.specs.Listing.{token_value}
-use Rattle.cedar_tokens.specs.Tokens.{bare}
 use Rattle.cedar_tokens.specs.declared.token.Span.{Span}
 use Rattle.cedar_tokens.specs.declared.token.WrappedToken.{WrappedToken}
 use Rattle.cedar_grammar.specs.Trees.{Label, Forest, leaf, branch, none}
 use Rattle.cedar_grammar.specs.Trees as forest
-use Rattle.cedar_grammar.specs.TypedTrees.{Tree, parts, yield, add, relation, name, single, compare, has_or_like, is_type, is_in}
+use Rattle.cedar_grammar.specs.TypedTrees.{Tree, parts, tree_yield, add, relation, name, single, compare, has_or_like, is_type, is_in}
 use Rattle.cedar_layout.specs.Layout.{Doc, ◌·◌, group, line, nest}
 use Rattle.cedar_layout.specs.Lookups.{Shown, emptied}
 use Rattle.cedar_layout.proofs.Values.{dot_assoc}
@@ -26,6 +25,7 @@ use Rattle.cedar_canonical.specs.Table as table
 use Rattle.cedar_canonical.specs.Table.{space}
 use Rattle.cedar_leaf_documents.specs.NodeDocuments.{IsAt, IsNodeOf, as_leaf, document, end_of_tokens, kind_of_shown, nodes_of, text_of}
 use Rattle.cedar_leaf_documents.specs.Found.{Finds, has_its_tokens, has_own, places}
+use Rattle.cedar_leaf_documents.specs.Kept.{KeepsTokens}
 use Rattle.cedar_leaf_documents.specs.declared.made.NoDocument.{NoDocument}
 use Rattle.cedar_expression_documents.specs.Inside.Operands.{first_of}
 use Rattle.cedar_leaf_documents.proofs.Found.{and_false, finds_before}
@@ -107,29 +107,29 @@ going_on result F s first d old mid new xs ys at h k before after st =
     (ap (λ z. z ++ after) (append_assoc before (map emptied xs) (map emptied ys) ∙ ap (λ z. before ++ z) (sym (map-append emptied xs ys)))) (k b after (ends_here s xs at before) r.1)
 
 -- a relation is shown where its first operand is made and the rest follows
-at_width : {E : Type 0} {i j : ℤ} (result : Result Document E) (old new : List Shown) → j ≡ i → (t : Tree Shown relation) → ShowsAll result old new (yield t) (document j t) → ShowsAll result old new (yield t) (document i t)
-at_width result old new same t h = subst (λ z. ShowsAll result old new (yield t) (document z t)) same h
+at_width : {E : Type 0} {i j : ℤ} (result : Result Document E) (old new : List Shown) → j ≡ i → (t : Tree Shown relation) → ShowsAll result old new (tree_yield t) (document j t) → ShowsAll result old new (tree_yield t) (document i t)
+at_width result old new same t h = subst (λ z. ShowsAll result old new (tree_yield t) (document z t)) same h
 
 module _ {E : Type 0} {i j : ℤ} {s : Span} {p : Erased} {old mid : List Shown} (result : Result Document E) (new : List Shown) (same : j ≡ i) (first : Document)
-    (clause : (a : Tree Shown add) → IsNodeOf p a → GivesIf Always (doc_of first) (document j a) old mid (yield a)) where
+    (clause : (a : Tree Shown add) → IsNodeOf p a → GivesIf Always (doc_of first) (document j a) old mid (tree_yield a)) where
   module _ {q : Erased} {at : Span} {text : List ℕ} where
     -- a comparison
     pub compared : (t : Tree Shown relation) → branch (Label.add, Some s) p (branch (Label.compare, None) (leaf text (branch (Label.add, Some at) q none)) none) ≡ nodes_of (parts kind_of_shown t)
-        → ((o : Shown) (b : Tree Shown add) → text ≡ token_value (text_of o) → IsNodeOf q b → Follows result s mid new (o ∷ yield b) (doc_of first · space · table.leaf (as_leaf o) · space · document j b)) → ShowsAll result old new (yield t) (document i t)
+        → ((o : Shown) (b : Tree Shown add) → text ≡ token_value (text_of o) → IsNodeOf q b → Follows result s mid new (o ∷ tree_yield b) (doc_of first · space · table.printed (as_leaf o) · space · document j b)) → ShowsAll result old new (tree_yield t) (document i t)
     compared (single a) e k = absurd cc
     compared (compare a o b) e k =
         let x = opened_tree Label.add s p _ a (branch Label.compare (leaf o (branch Label.add (parts kind_of_shown b) none)) none) refl e in
         let v = opened_variant Label.compare _ _ (leaf o (branch Label.add (parts kind_of_shown b) none)) none x.2 in
         let w = opened_token text _ o (branch Label.add (parts kind_of_shown b) none) v.0 in
         let y = opened_tree Label.add at q none b none refl w.1 in
-        at_width result old new same (compare a o b) (going_on result (λ z. z · space · table.leaf (as_leaf o) · space · document j b) s first (document j a) old mid new (yield a) (o ∷ yield b) x.1 (clause a x.0) (k o b w.0 y.0))
+        at_width result old new same (compare a o b) (going_on result (λ z. z · space · table.printed (as_leaf o) · space · document j b) s first (document j a) old mid new (tree_yield a) (o ∷ tree_yield b) x.1 (clause a x.0) (k o b w.0 y.0))
     compared (has_or_like a o b) e k = let h = label_behind Label.compare Label.has_or_like s p _ _ a (leaf o (branch Label.add (parts kind_of_shown b) none)) e in absurd cc
     compared (is_type a o n) e k = let h = label_behind Label.compare Label.is_type s p _ _ a (leaf o (branch Label.name (parts kind_of_shown n) none)) e in absurd cc
     compared (is_in a o n x b) e k = let h = label_behind Label.compare Label.is_type s p _ _ a (leaf o (branch Label.name (parts kind_of_shown n) (leaf x (branch Label.add (parts kind_of_shown b) none)))) e in absurd cc
 
     -- `has` or `like`
     pub worded : (t : Tree Shown relation) → branch (Label.add, Some s) p (branch (Label.has_or_like, None) (leaf text (branch (Label.add, Some at) q none)) none) ≡ nodes_of (parts kind_of_shown t)
-        → ((o : Shown) (b : Tree Shown add) → text ≡ token_value (text_of o) → IsNodeOf q b → Follows result s mid new (o ∷ yield b) (group (doc_of first · line · table.leaf (as_leaf o) · line · nest j (document j b)))) → ShowsAll result old new (yield t) (document i t)
+        → ((o : Shown) (b : Tree Shown add) → text ≡ token_value (text_of o) → IsNodeOf q b → Follows result s mid new (o ∷ tree_yield b) (group (doc_of first · line · table.printed (as_leaf o) · line · nest j (document j b)))) → ShowsAll result old new (tree_yield t) (document i t)
     worded (single a) e k = absurd cc
     worded (compare a o b) e k = let h = label_behind Label.has_or_like Label.compare s p _ _ a (leaf o (branch Label.add (parts kind_of_shown b) none)) e in absurd cc
     worded (has_or_like a o b) e k =
@@ -137,14 +137,14 @@ module _ {E : Type 0} {i j : ℤ} {s : Span} {p : Erased} {old mid : List Shown}
         let v = opened_variant Label.has_or_like _ _ (leaf o (branch Label.add (parts kind_of_shown b) none)) none x.2 in
         let w = opened_token text _ o (branch Label.add (parts kind_of_shown b) none) v.0 in
         let y = opened_tree Label.add at q none b none refl w.1 in
-        at_width result old new same (has_or_like a o b) (going_on result (λ z. group (z · line · table.leaf (as_leaf o) · line · nest j (document j b))) s first (document j a) old mid new (yield a) (o ∷ yield b) x.1 (clause a x.0) (k o b w.0 y.0))
+        at_width result old new same (has_or_like a o b) (going_on result (λ z. group (z · line · table.printed (as_leaf o) · line · nest j (document j b))) s first (document j a) old mid new (tree_yield a) (o ∷ tree_yield b) x.1 (clause a x.0) (k o b w.0 y.0))
     worded (is_type a o n) e k = let h = label_behind Label.has_or_like Label.is_type s p _ _ a (leaf o (branch Label.name (parts kind_of_shown n) none)) e in absurd cc
     worded (is_in a o n x b) e k = let h = label_behind Label.has_or_like Label.is_type s p _ _ a (leaf o (branch Label.name (parts kind_of_shown n) (leaf x (branch Label.add (parts kind_of_shown b) none)))) e in absurd cc
 
   module _ {path : Erased} {type : Span} {is_text : List ℕ} where
     -- `is` and a type
     pub typed : (t : Tree Shown relation) → branch (Label.add, Some s) p (branch (Label.is_type, None) (leaf is_text (branch (Label.name, Some type) path none)) none) ≡ nodes_of (parts kind_of_shown t)
-        → ((o : Shown) (n : Tree Shown name) → is_text ≡ token_value (text_of o) → IsNodeOf path n → Follows result s mid new (o ∷ yield n) (group (doc_of first · space · table.leaf (as_leaf o) · space · nest j (document j n)))) → ShowsAll result old new (yield t) (document i t)
+        → ((o : Shown) (n : Tree Shown name) → is_text ≡ token_value (text_of o) → IsNodeOf path n → Follows result s mid new (o ∷ tree_yield n) (group (doc_of first · space · table.printed (as_leaf o) · space · nest j (document j n)))) → ShowsAll result old new (tree_yield t) (document i t)
     typed (single a) e k = absurd cc
     typed (compare a o b) e k = let h = label_behind Label.is_type Label.compare s p _ _ a (leaf o (branch Label.add (parts kind_of_shown b) none)) e in absurd cc
     typed (has_or_like a o b) e k = let h = label_behind Label.is_type Label.has_or_like s p _ _ a (leaf o (branch Label.add (parts kind_of_shown b) none)) e in absurd cc
@@ -153,7 +153,7 @@ module _ {E : Type 0} {i j : ℤ} {s : Span} {p : Erased} {old mid : List Shown}
         let v = opened_variant Label.is_type _ _ (leaf o (branch Label.name (parts kind_of_shown n) none)) none x.2 in
         let w = opened_token is_text _ o (branch Label.name (parts kind_of_shown n) none) v.0 in
         let y = opened_tree Label.name type path none n none refl w.1 in
-        at_width result old new same (is_type a o n) (going_on result (λ z. group (z · space · table.leaf (as_leaf o) · space · nest j (document j n))) s first (document j a) old mid new (yield a) (o ∷ yield n) x.1 (clause a x.0) (k o n w.0 y.0))
+        at_width result old new same (is_type a o n) (going_on result (λ z. group (z · space · table.printed (as_leaf o) · space · nest j (document j n))) s first (document j a) old mid new (tree_yield a) (o ∷ tree_yield n) x.1 (clause a x.0) (k o n w.0 y.0))
     typed (is_in a o n x b) e k =
         let y = opened_tree Label.add s p _ a (branch Label.is_type (leaf o (branch Label.name (parts kind_of_shown n) (leaf x (branch Label.add (parts kind_of_shown b) none)))) none) refl e in
         let v = opened_variant Label.is_type _ _ (leaf o (branch Label.name (parts kind_of_shown n) (leaf x (branch Label.add (parts kind_of_shown b) none)))) none y.2 in
@@ -165,8 +165,8 @@ module _ {E : Type 0} {i j : ℤ} {s : Span} {p : Erased} {old mid : List Shown}
       -- and `in` with an operand
       pub placed : (t : Tree Shown relation)
           → branch (Label.add, Some s) p (branch (Label.is_type, None) (leaf is_text (branch (Label.name, Some type) path (leaf in_text (branch (Label.add, Some at) q none)))) none) ≡ nodes_of (parts kind_of_shown t)
-          → ((o : Shown) (n : Tree Shown name) (x : Shown) (b : Tree Shown add) → is_text ≡ token_value (text_of o) → IsAt type (yield n) → IsNodeOf path n → in_text ≡ token_value (text_of x) → IsNodeOf q b
-          → Follows result s mid new (o ∷ (yield n ++ (x ∷ yield b))) (group (doc_of first · space · table.leaf (as_leaf o) · space · nest j (document j n) · line · table.leaf (as_leaf x) · space · nest j (document j b)))) → ShowsAll result old new (yield t) (document i t)
+          → ((o : Shown) (n : Tree Shown name) (x : Shown) (b : Tree Shown add) → is_text ≡ token_value (text_of o) → IsAt type (tree_yield n) → IsNodeOf path n → in_text ≡ token_value (text_of x) → IsNodeOf q b
+          → Follows result s mid new (o ∷ (tree_yield n ++ (x ∷ tree_yield b))) (group (doc_of first · space · table.printed (as_leaf o) · space · nest j (document j n) · line · table.printed (as_leaf x) · space · nest j (document j b)))) → ShowsAll result old new (tree_yield t) (document i t)
       placed (single a) e k = absurd cc
       placed (compare a o b) e k = let h = label_behind Label.is_type Label.compare s p _ _ a (leaf o (branch Label.add (parts kind_of_shown b) none)) e in absurd cc
       placed (has_or_like a o b) e k = let h = label_behind Label.is_type Label.has_or_like s p _ _ a (leaf o (branch Label.add (parts kind_of_shown b) none)) e in absurd cc
@@ -183,12 +183,12 @@ module _ {E : Type 0} {i j : ℤ} {s : Span} {p : Erased} {old mid : List Shown}
           let z = opened_tree Label.name type path _ n (leaf x (branch Label.add (parts kind_of_shown b) none)) refl w.1 in
           let u = opened_token in_text _ x (branch Label.add (parts kind_of_shown b) none) z.2 in
           let y = opened_tree Label.add at q none b none refl u.1 in
-          at_width result old new same (is_in a o n x b) (going_on result (λ z. group (z · space · table.leaf (as_leaf o) · space · nest j (document j n) · line · table.leaf (as_leaf x) · space · nest j (document j b))) s first (document j a) old mid new (yield a) (o ∷ (yield n ++ (x ∷ yield b))) f.1 (clause a f.0) (k o n x b w.0 z.1 z.0 u.0 y.0))
+          at_width result old new same (is_in a o n x b) (going_on result (λ z. group (z · space · table.printed (as_leaf o) · space · nest j (document j n) · line · table.printed (as_leaf x) · space · nest j (document j b))) s first (document j a) old mid new (tree_yield a) (o ∷ (tree_yield n ++ (x ∷ tree_yield b))) f.1 (clause a f.0) (k o n x b w.0 z.1 z.0 u.0 y.0))
 
 -- one operand alone
-pub alone : {s : Span} {p : Erased} {old new : List Shown} {i j : ℤ} (first : Document) → j ≡ i → ((a : Tree Shown add) → IsNodeOf p a → GivesIf Always (doc_of first) (document j a) old new (yield a))
-    → (t : Tree Shown relation) → branch (Label.add, Some s) p none ≡ nodes_of (parts kind_of_shown t) → GivesIf Always (doc_of first) (document i t) old new (yield t)
-alone {s = s} {p = p} first same clause (single a) e = let x = opened_tree Label.add s p none a none refl e in rewritten (yield a) (ap (λ z. document z a) same) (clause a x.0)
+pub alone : {s : Span} {p : Erased} {old new : List Shown} {i j : ℤ} (first : Document) → j ≡ i → ((a : Tree Shown add) → IsNodeOf p a → GivesIf Always (doc_of first) (document j a) old new (tree_yield a))
+    → (t : Tree Shown relation) → branch (Label.add, Some s) p none ≡ nodes_of (parts kind_of_shown t) → GivesIf Always (doc_of first) (document i t) old new (tree_yield t)
+alone {s = s} {p = p} first same clause (single a) e = let x = opened_tree Label.add s p none a none refl e in rewritten (tree_yield a) (ap (λ z. document z a) same) (clause a x.0)
 alone {s = s} {p = p} first same clause (compare a o b) e = absurd (nothing_follows Label.compare s p a (leaf o (branch Label.add (parts kind_of_shown b) none)) e)
 alone {s = s} {p = p} first same clause (has_or_like a o b) e = absurd (nothing_follows Label.has_or_like s p a (leaf o (branch Label.add (parts kind_of_shown b) none)) e)
 alone {s = s} {p = p} first same clause (is_type a o n) e = absurd (nothing_follows Label.is_type s p a (leaf o (branch Label.name (parts kind_of_shown n) none)) e)
@@ -226,6 +226,6 @@ needs_rest ps s l w p q o h = rw (h, o) (last_true (has_its_tokens ps q))
 
 -- so what is found behind it is found of the relation
 pub found_behind : {D : Type 0} (r : Result D NoDocument) (old mid : List WrappedToken) (has : List Span → Bool) {x p q : Erased} {s : Span} {l : Label} {w : List ℕ} → x ≡ node Label.add s p (variant l (leaf w q) none)
-    → has_own (places old) l None (leaf w q) ≡ true → ((ps : List Span) → has_its_tokens ps q ≡ has ps) → has_its_tokens (places old) p ≡ true → map bare mid ≡ map bare old → Finds r (has (places mid)) → Finds r (has_its_tokens (places old) x)
+    → has_own (places old) l None (leaf w q) ≡ true → ((ps : List Span) → has_its_tokens ps q ≡ has ps) → has_its_tokens (places old) p ≡ true → KeepsTokens old mid → Finds r (has (places mid)) → Finds r (has_its_tokens (places old) x)
 found_behind r old mid has {p = p} {q = q} {s = s} {l = l} {w = w} v o e h k f =
     subst (λ z. Finds r z) (sym (ap (has_its_tokens (places old)) v ∙ needs_rest (places old) s l w p q o h ∙ e (places old))) (finds_before has r old mid k f)

@@ -18,7 +18,7 @@ use Rattle.cedar_layout.specs.declared.layout.Document.{Document}
 use Rattle.cedar_layout.proofs.Values.{dot_assoc, dot-nil, docs_of-push}
 use Rattle.cedar_tokens.specs.Listing.{token_value}
 use Rattle.cedar_grammar.specs.Trees.{Label, none}
-use Rattle.cedar_grammar.specs.TypedTrees.{Tree, unary, unsigned, signed, parts, yield}
+use Rattle.cedar_grammar.specs.TypedTrees.{Tree, unary, unsigned, signed, parts, tree_yield}
 use Rattle.cedar_tree.specs.Erased.{Erased, node, variant, times, sign_leaves, signs_or, primary_parts, unary_parts}
 use Rattle.cedar_tree.specs.NodeLists.{access_items, member_parts}
 use Rattle.cedar_tree.specs.NodeTrees.{is_node}
@@ -188,7 +188,7 @@ sign_step sign old new comments i c d l e f h =
 
 -- ---- signs and their member
 
-yield_in : (u : Tree Shown unary) → yield u ≡ signs_in u ++ yield (member_in u)
+yield_in : (u : Tree Shown unary) → tree_yield u ≡ signs_in u ++ tree_yield (member_in u)
 yield_in (unsigned m) = refl
 yield_in (signed s u) = ap (λ z. s ∷ z) (yield_in u)
 
@@ -197,7 +197,7 @@ pub record AreSigns (n : ℕ) (sign : List ℕ) (s : Span) (p : Erased) (u : Tre
   pub texts : AllByRecursion (λ t. sign ≡ token_value (text_of t)) (signs_in u)
   pub count : n ≡ length (signs_in u)
   pub is_node : IsNodeOf p (member_in u)
-  pub is_at : IsAt s (yield (member_in u))
+  pub is_at : IsAt s (tree_yield (member_in u))
 
 opened_signs : (n : ℕ) (sign : List ℕ) (s : Span) (p : Erased) (u : Tree Shown unary) → IsNodeOf (times n sign (node Label.member s p none)) u → AreSigns n sign s p u
 opened_signs zero sign s p (unsigned m) e = let o = opened_tree Label.member s p none m none refl e in record { texts = tt; count = refl; is_node = o.0; is_at = o.1 }
@@ -213,7 +213,7 @@ signs_or_none l s p (unsigned m) n e = let k : l ≡ Label.member = cc in let h 
 signs_or_none l s p (signed x u) n e = absurd cc
 
 -- the signs that an operator stands for
-pub opened_unary : (op : Option NegOp) (s : Span) (p : Erased) (u : Tree Shown unary) → IsNodeOf (sign_leaves op (node Label.member s p none)) u → IsNodeOf p (member_in u) × IsAt s (yield (member_in u))
+pub opened_unary : (op : Option NegOp) (s : Span) (p : Erased) (u : Tree Shown unary) → IsNodeOf (sign_leaves op (node Label.member s p none)) u → IsNodeOf p (member_in u) × IsAt s (tree_yield (member_in u))
 opened_unary None s p u e = let r = opened_signs zero [] s p u e in (r.is_node, r.is_at)
 opened_unary (Some (NegOp.Bang zero)) s p u e = absurd (signs_or_none Label.bang s p u refl e)
 opened_unary (Some (NegOp.Bang (suc n))) s p u e = let r = opened_signs (suc n) (codes "!") s p u e in (r.is_node, r.is_at)
@@ -239,23 +239,23 @@ if_ok (Err e) f h = tt
 if_ok (Ok d) f h = f d h
 
 -- no signs
-pub no_signs : (i : ℤ) (u : Tree Shown unary) (s : Span) (p : Erased) (d : Document) → doc_of d ≡ nil → IsNodeOf (sign_leaves None (node Label.member s p none)) u → (tokens before after : List Shown) → tokens ≡ before ++ (yield u ++ after)
-    → (doc_of d · document i (member_in u) ≡ document i u) × (tokens ≡ (before ++ map emptied (signs_in u)) ++ (yield (member_in u) ++ after))
-no_signs i (unsigned m) s p d n e tokens before after h = (ap (λ z. z · document i m) n, h ∙ ap (λ z. z ++ (yield m ++ after)) (sym (append-nil before)))
+pub no_signs : (i : ℤ) (u : Tree Shown unary) (s : Span) (p : Erased) (d : Document) → doc_of d ≡ nil → IsNodeOf (sign_leaves None (node Label.member s p none)) u → (tokens before after : List Shown) → tokens ≡ before ++ (tree_yield u ++ after)
+    → (doc_of d · document i (member_in u) ≡ document i u) × (tokens ≡ (before ++ map emptied (signs_in u)) ++ (tree_yield (member_in u) ++ after))
+no_signs i (unsigned m) s p d n e tokens before after h = (ap (λ z. z · document i m) n, h ∙ ap (λ z. z ++ (tree_yield m ++ after)) (sym (append-nil before)))
 no_signs i (signed x u) s p d n e tokens before after h = absurd cc
 
 -- signs whose comments are handed out together
 pub some_signs : {E : Type 0} (m : Result Document E) (op : NegOp) (span member : Span) (old new : List Shown)
     → ((s : Shown) (ss : List Shown) (x : Shown) (before after : List Shown) → 0 < sign_count op → s.span.start ≡ span.start → x.span.start ≡ member.start → old ≡ before ++ ((s ∷ ss) ++ (x ∷ after))
     → IfOk m (λ d. (doc_of d ≡ signs_of (sign_text op) (map (λ t. t.comment) (s ∷ ss))) × (new ≡ (before ++ map emptied (s ∷ ss)) ++ (x ∷ after))))
-    → (i : ℤ) (u : Tree Shown unary) (inner : Erased) → IsAt span (yield u) → IsNodeOf (sign_leaves (Some op) (node Label.member member inner none)) u → (before after : List Shown) → old ≡ before ++ (yield u ++ after)
-    → IfOk m (λ d. (doc_of d · document i (member_in u) ≡ document i u) × (new ≡ (before ++ map emptied (signs_in u)) ++ (yield (member_in u) ++ after)))
+    → (i : ℤ) (u : Tree Shown unary) (inner : Erased) → IsAt span (tree_yield u) → IsNodeOf (sign_leaves (Some op) (node Label.member member inner none)) u → (before after : List Shown) → old ≡ before ++ (tree_yield u ++ after)
+    → IfOk m (λ d. (doc_of d · document i (member_in u) ≡ document i u) × (new ≡ (before ++ map emptied (signs_in u)) ++ (tree_yield (member_in u) ++ after)))
 some_signs m op span member old new h i u inner at e before after st =
     let o = opened_operator op member inner u e in
-    go (signs_in u) (yield (member_in u)) refl refl (omega (arith, o.0, o.1.count)) (o.1.is_at) (subst (λ z. IsAt span z) (yield_in u) at) (st ∙ ap (λ z. before ++ (z ++ after)) (yield_in u))
+    go (signs_in u) (tree_yield (member_in u)) refl refl (omega (arith, o.0, o.1.count)) (o.1.is_at) (subst (λ z. IsAt span z) (yield_in u) at) (st ∙ ap (λ z. before ++ (z ++ after)) (yield_in u))
   where
-    go : (ss ms : List Shown) → ss ≡ signs_in u → ms ≡ yield (member_in u) → 0 < length ss → IsAt member ms → IsAt span (ss ++ ms) → old ≡ before ++ ((ss ++ ms) ++ after)
-        → IfOk m (λ d. (doc_of d · document i (member_in u) ≡ document i u) × (new ≡ (before ++ map emptied (signs_in u)) ++ (yield (member_in u) ++ after)))
+    go : (ss ms : List Shown) → ss ≡ signs_in u → ms ≡ tree_yield (member_in u) → 0 < length ss → IsAt member ms → IsAt span (ss ++ ms) → old ≡ before ++ ((ss ++ ms) ++ after)
+        → IfOk m (λ d. (doc_of d · document i (member_in u) ≡ document i u) × (new ≡ (before ++ map emptied (signs_in u)) ++ (tree_yield (member_in u) ++ after)))
     go [] ms se me n am starts st' = absurd (omega (arith, n))
     go (s ∷ ss) [] se me n am starts st' = absurd cc
     go (s ∷ ss) (x ∷ ms) se me n am starts st' =
@@ -281,10 +281,10 @@ unary_needs ps span u =
     ap (λ z. has_own ps Label.unary (Some span) z && has_its_tokens ps z) (view_of_unary u) ∙ ap (λ z. has_own ps Label.unary (Some span) f && z) (member_needs ps v.op v.item.span (member_parts v.item.inner))
 
 -- the document of signs and their member, made one after the other
-pub unary_shown : (i : ℤ) (t : Tree Shown unary) (before after mid new : List Shown) (sd md made : Doc) → sd · document i (member_in t) ≡ document i t → mid ≡ (before ++ map emptied (signs_in t)) ++ (yield (member_in t) ++ after)
-    → ((b a : List Shown) → mid ≡ b ++ (yield (member_in t) ++ a) → (md ≡ document i (member_in t)) × (new ≡ (b ++ map emptied (yield (member_in t))) ++ a)) → made ≡ sd · md
-    → (made ≡ document i t) × (new ≡ (before ++ map emptied (yield t)) ++ after)
+pub unary_shown : (i : ℤ) (t : Tree Shown unary) (before after mid new : List Shown) (sd md made : Doc) → sd · document i (member_in t) ≡ document i t → mid ≡ (before ++ map emptied (signs_in t)) ++ (tree_yield (member_in t) ++ after)
+    → ((b a : List Shown) → mid ≡ b ++ (tree_yield (member_in t) ++ a) → (md ≡ document i (member_in t)) × (new ≡ (b ++ map emptied (tree_yield (member_in t))) ++ a)) → made ≡ sd · md
+    → (made ≡ document i t) × (new ≡ (before ++ map emptied (tree_yield t)) ++ after)
 unary_shown i t before after mid new sd md made s m h e =
     let r = h (before ++ map emptied (signs_in t)) after m in
-    let all : map emptied (signs_in t) ++ map emptied (yield (member_in t)) ≡ map emptied (yield t) = sym (map-append emptied (signs_in t) (yield (member_in t))) ∙ ap (map emptied) (sym (yield_in t)) in
-    (e ∙ ap (λ z. sd · z) r.0 ∙ s, r.1 ∙ ap (λ z. z ++ after) (append_assoc before (map emptied (signs_in t)) (map emptied (yield (member_in t))) ∙ ap (λ z. before ++ z) all))
+    let all : map emptied (signs_in t) ++ map emptied (tree_yield (member_in t)) ≡ map emptied (tree_yield t) = sym (map-append emptied (signs_in t) (tree_yield (member_in t))) ∙ ap (map emptied) (sym (yield_in t)) in
+    (e ∙ ap (λ z. sd · z) r.0 ∙ s, r.1 ∙ ap (λ z. z ++ after) (append_assoc before (map emptied (signs_in t)) (map emptied (tree_yield (member_in t))) ∙ ap (λ z. before ++ z) all))

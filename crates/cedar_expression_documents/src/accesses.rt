@@ -1,9 +1,9 @@
 //! Fields and indices, and where accesses break.
-#![tactic(auto, using(cedar_tokens::proofs::KeptOrder::order_kept))]
+#![tactic(auto, using(cedar_leaf_documents::proofs::Keeping::keeping))]
 
 ghost use Rattle.std.specs.Prelude.{◌≡◌, ℤ, ◌<◌, Some, codes, IfOk};
 ghost use Rattle.cedar_grammar.specs.Trees.{Label, branch, leaf, none};
-ghost use Rattle.cedar_grammar.specs.TypedTrees.{Tree, yield};
+ghost use Rattle.cedar_grammar.specs.TypedTrees.{Tree, tree_yield};
 ghost use Rattle.cedar_grammar.specs.TypedTrees as kind;
 ghost use Rattle.cedar_tree.specs.Erased.{ident_tree, str_tree};
 ghost use Rattle.cedar_layout.specs.Layout.{◌·◌};
@@ -59,7 +59,7 @@ pub(crate) fn field_doc<'src>(
     requires { AreInOrder tokens.old }
     ensures kept { KeepsTokens tokens.old tokens.new }
     ensures found { Finds result (starts field.now.span.start (places tokens.old)) }
-    ensures shows { (i : ℤ) (t : Tree Shown kind.accesses) → IsNodeOf (branch (Label.access, Some span) (leaf (codes ".") (ident_tree field.now none)) none) t → Shows result tokens.old tokens.new (yield t) (document i t) }
+    ensures shows { (i : ℤ) (t : Tree Shown kind.accesses) → IsNodeOf (branch (Label.access, Some span) (leaf (codes ".") (ident_tree field.now none)) none) t → Shows result tokens.old tokens.new (tree_yield t) (document i t) }
 {
     let dot = mark_at_start(alloc, ".", span, Document::Nil, tokens)?;
     let word = leaf_doc(alloc, field.inner.0, field.span, tokens)?;
@@ -77,7 +77,7 @@ pub(crate) fn index_doc<'src>(
     requires { AreInOrder tokens.old }
     ensures kept { KeepsTokens tokens.old tokens.new }
     ensures found { Finds result (starts index.now.span.start (places tokens.old)) }
-    ensures shows { (i : ℤ) (t : Tree Shown kind.accesses) → IsNodeOf (branch (Label.access, Some span) (leaf (codes "[") (str_tree index.now (leaf (codes "]") none))) none) t → Shows result tokens.old tokens.new (yield t) (document i t) }
+    ensures shows { (i : ℤ) (t : Tree Shown kind.accesses) → IsNodeOf (branch (Label.access, Some span) (leaf (codes "[") (str_tree index.now (leaf (codes "]") none))) none) t → Shows result tokens.old tokens.new (tree_yield t) (document i t) }
 {
     let open = mark_at_start(alloc, "[", span, Document::Nil, tokens)?;
     let text = leaf_doc(alloc, index.inner.0, index.span, tokens)?;

@@ -1,11 +1,11 @@
 //! The documents of expressions, in the order of the table. Above each function stands its row: a dot puts documents one
 //! after the other, `i` is the indentation of a level, `C(t)` a token between its comments.
-#![tactic(auto, using(cedar_tokens::proofs::KeptOrder::order_kept))]
+#![tactic(auto, using(cedar_leaf_documents::proofs::Keeping::keeping))]
 
 ghost use Rattle.std.specs.Prelude.{◌≡◌, ◌<◌, ◌∷◌, ◌++◌, ◌&&◌, ◌||◌, [], if◌then◌else◌, Some, codes, IfOk};
 ghost use Rattle.cedar_tokens.specs.Listing.{token_value};
 ghost use Rattle.cedar_grammar.specs.Trees.{Label, branch, join, leaf, none};
-ghost use Rattle.cedar_grammar.specs.TypedTrees.{Tree, parens, yield};
+ghost use Rattle.cedar_grammar.specs.TypedTrees.{Tree, parens, tree_yield};
 ghost use Rattle.cedar_grammar.specs.TypedTrees as kind;
 ghost use Rattle.cedar_tree.specs.Erased.{access_parts, add_parts, expr_parts, mult_parts, or_parts, path_parts, primary_parts, relation_parts, relop_text, sign_leaves, unary_parts, variant};
 ghost use Rattle.cedar_tree.specs.NodeLists.{access_items, and_parts, init_parts, item_trees, member_parts};
@@ -15,7 +15,7 @@ ghost use Rattle.cedar_layout.specs.Lookups.{AreInOrder, Shown};
 ghost use Rattle.cedar_leaf_documents.specs.Found.{Finds, has_its_tokens, has_own, places};
 ghost use Rattle.cedar_leaf_documents.specs.Kept.{KeepsTokens};
 ghost use Rattle.cedar_canonical.specs.Table.{space};
-ghost use Rattle.cedar_canonical.specs.Table.{leaf as leaf_of};
+ghost use Rattle.cedar_canonical.specs.Table.{printed as leaf_of};
 ghost use Rattle.cedar_expression_documents.specs.Inside.Operands.{first_of};
 ghost use Rattle.cedar_leaf_documents.specs.NodeDocuments.{IsAt, IsNodeOf, Shows, ShowsBehind, as_leaf, document, text_of};
 
@@ -54,7 +54,7 @@ pub fn expr_doc<'src>(
     requires { AreInOrder tokens.old }
     ensures kept { KeepsTokens tokens.old tokens.new }
     ensures found { Finds result (has_its_tokens (places tokens.old) (expr_parts expr.now)) }
-    ensures shows { (t : Tree Shown kind.expr) → IsAt span (yield t) → IsNodeOf (expr_parts expr.now) t → Shows result tokens.old tokens.new (yield t) (document indent t) }
+    ensures shows { (t : Tree Shown kind.expr) → IsAt span (tree_yield t) → IsNodeOf (expr_parts expr.now) t → Shows result tokens.old tokens.new (tree_yield t) (document indent t) }
 {
     match expr {
         Expr::If(..) => if_doc(alloc, expr, span, indent, tokens),
@@ -75,7 +75,7 @@ fn if_doc<'src>(
     requires { AreInOrder tokens.old }
     ensures kept { KeepsTokens tokens.old tokens.new }
     ensures found { Finds result (has_its_tokens (places tokens.old) (expr_parts expr.now)) }
-    ensures shows { (t : Tree Shown kind.expr) → IsAt span (yield t) → IsNodeOf (expr_parts expr.now) t → Shows result tokens.old tokens.new (yield t) (document indent t) }
+    ensures shows { (t : Tree Shown kind.expr) → IsAt span (tree_yield t) → IsNodeOf (expr_parts expr.now) t → Shows result tokens.old tokens.new (tree_yield t) (document indent t) }
 {
     match expr {
         // group(C("if") . nest(i, line . c) . line . C("then") . nest(i, line . t) . line . C("else") . nest(i, line . e))
@@ -114,7 +114,7 @@ pub fn or_doc<'src>(
     requires { AreInOrder tokens.old }
     ensures kept { KeepsTokens tokens.old tokens.new }
     ensures found { Finds result (has_its_tokens (places tokens.old) (or_parts or.now)) }
-    ensures shows { (t : Tree Shown kind.ors) → IsNodeOf (or_parts or.now) t → Shows result tokens.old tokens.new (yield t) (document indent t) }
+    ensures shows { (t : Tree Shown kind.ors) → IsNodeOf (or_parts or.now) t → Shows result tokens.old tokens.new (tree_yield t) (document indent t) }
 {
     if or.extended.is_empty() {
         return and_doc(alloc, &or.initial.inner, indent, tokens);
@@ -134,7 +134,7 @@ fn ors_doc<'src>(
     requires { AreInOrder tokens.old }
     ensures kept { KeepsTokens tokens.old tokens.new }
     ensures found { Finds result (has_its_tokens (places tokens.old) (or_parts or.now)) }
-    ensures shows { (t : Tree Shown kind.ors) → IsNodeOf (or_parts or.now) t → Shows result tokens.old tokens.new (yield t) (document indent t) }
+    ensures shows { (t : Tree Shown kind.ors) → IsNodeOf (or_parts or.now) t → Shows result tokens.old tokens.new (tree_yield t) (document indent t) }
 {
     let first = and_doc(alloc, &or.initial.inner, indent, tokens)?;
     let mut docs = vec![in alloc; first]?;
@@ -159,7 +159,7 @@ pub fn and_doc<'src>(
     requires { AreInOrder tokens.old }
     ensures kept { KeepsTokens tokens.old tokens.new }
     ensures found { Finds result (has_its_tokens (places tokens.old) (and_parts and.now)) }
-    ensures shows { (t : Tree Shown kind.ands) → IsNodeOf (and_parts and.now) t → Shows result tokens.old tokens.new (yield t) (document indent t) }
+    ensures shows { (t : Tree Shown kind.ands) → IsNodeOf (and_parts and.now) t → Shows result tokens.old tokens.new (tree_yield t) (document indent t) }
 {
     if and.extended.is_empty() {
         return relation_doc(alloc, &and.initial.inner, indent, tokens);
@@ -179,7 +179,7 @@ fn ands_doc<'src>(
     requires { AreInOrder tokens.old }
     ensures kept { KeepsTokens tokens.old tokens.new }
     ensures found { Finds result (has_its_tokens (places tokens.old) (and_parts and.now)) }
-    ensures shows { (t : Tree Shown kind.ands) → IsNodeOf (and_parts and.now) t → Shows result tokens.old tokens.new (yield t) (document indent t) }
+    ensures shows { (t : Tree Shown kind.ands) → IsNodeOf (and_parts and.now) t → Shows result tokens.old tokens.new (tree_yield t) (document indent t) }
 {
     let first = relation_doc(alloc, &and.initial.inner, indent, tokens)?;
     let mut docs = vec![in alloc; first]?;
@@ -204,7 +204,7 @@ pub fn relation_doc<'src>(
     requires { AreInOrder tokens.old }
     ensures kept { KeepsTokens tokens.old tokens.new }
     ensures found { Finds result (has_its_tokens (places tokens.old) (relation_parts relation.now)) }
-    ensures shows { (t : Tree Shown kind.relation) → IsNodeOf (relation_parts relation.now) t → Shows result tokens.old tokens.new (yield t) (document indent t) }
+    ensures shows { (t : Tree Shown kind.relation) → IsNodeOf (relation_parts relation.now) t → Shows result tokens.old tokens.new (tree_yield t) (document indent t) }
 {
     let first = first_doc(alloc, relation, indent, tokens)?;
     match relation {
@@ -246,7 +246,7 @@ fn first_doc<'src>(
     requires { AreInOrder tokens.old }
     ensures kept { KeepsTokens tokens.old tokens.new }
     ensures found { Finds result (has_its_tokens (places tokens.old) (add_parts (first_of relation.now).inner)) }
-    ensures shows { (t : Tree Shown kind.add) → IsNodeOf (add_parts (first_of relation.now).inner) t → Shows result tokens.old tokens.new (yield t) (document indent t) }
+    ensures shows { (t : Tree Shown kind.add) → IsNodeOf (add_parts (first_of relation.now).inner) t → Shows result tokens.old tokens.new (tree_yield t) (document indent t) }
 {
     match relation {
         Relation::Common { initial, .. } => add_doc(alloc, &initial.inner, indent, tokens),
@@ -272,7 +272,7 @@ fn comparison_doc<'src>(
     ensures kept { KeepsTokens tokens.old tokens.new }
     ensures found { Finds result (has_its_tokens (places tokens.old) (add_parts right.now.inner)) }
     ensures shows { (o : Shown) (b : Tree Shown kind.add) → relop_text op ≡ token_value (text_of o) → IsNodeOf (add_parts right.now.inner) b
-        → ShowsBehind before.end result tokens.old tokens.new (o ∷ yield b) (doc_of left.entry · space · leaf_of (as_leaf o) · space · document indent b) }
+        → ShowsBehind before.end result tokens.old tokens.new (o ∷ tree_yield b) (doc_of left.entry · space · leaf_of (as_leaf o) · space · document indent b) }
 {
     let mut docs = sign_row(alloc, left, rel_op_text(op), before, tokens)?;
     docs.push(add_doc(alloc, &right.inner, indent, tokens)?)?;
@@ -295,7 +295,7 @@ fn keyword_doc<'src>(
     ensures kept { KeepsTokens tokens.old tokens.new }
     ensures found { Finds result (has_its_tokens (places tokens.old) (add_parts right.now.inner)) }
     ensures shows { (o : Shown) (b : Tree Shown kind.add) → keyword.now ≡ token_value (text_of o) → IsNodeOf (add_parts right.now.inner) b
-        → ShowsBehind before.end result tokens.old tokens.new (o ∷ yield b) (group (doc_of left.entry · line · leaf_of (as_leaf o) · line · nest indent (document indent b))) }
+        → ShowsBehind before.end result tokens.old tokens.new (o ∷ tree_yield b) (group (doc_of left.entry · line · leaf_of (as_leaf o) · line · nest indent (document indent b))) }
 {
     let word = mark_after(alloc, keyword, before, Document::Nil, tokens)?;
     let second = add_doc(alloc, &right.inner, indent, tokens)?;
@@ -316,7 +316,7 @@ fn is_doc<'src>(
     ensures kept { KeepsTokens tokens.old tokens.new }
     ensures found { Finds result (has_its_tokens (places tokens.old) (path_parts entity_type.now.inner.path.items entity_type.now.inner.name)) }
     ensures shows { (o : Shown) (n : Tree Shown kind.name) → codes "is" ≡ token_value (text_of o) → IsNodeOf (path_parts entity_type.now.inner.path.items entity_type.now.inner.name) n
-        → ShowsBehind before.end result tokens.old tokens.new (o ∷ yield n) (group (doc_of left.entry · space · leaf_of (as_leaf o) · space · nest indent (document indent n))) }
+        → ShowsBehind before.end result tokens.old tokens.new (o ∷ tree_yield n) (group (doc_of left.entry · space · leaf_of (as_leaf o) · space · nest indent (document indent n))) }
 {
     let is_word = mark_after(alloc, "is", before, Document::Nil, tokens)?;
     let type_name = name_doc(alloc, &entity_type.inner, tokens)?;
@@ -338,9 +338,9 @@ fn is_in_doc<'src>(
     requires { AreInOrder tokens.old }
     ensures kept { KeepsTokens tokens.old tokens.new }
     ensures found { Finds result (has_its_tokens (places tokens.old) (path_parts entity_type.now.inner.path.items entity_type.now.inner.name) && has_its_tokens (places tokens.old) (add_parts entity.now.inner)) }
-    ensures shows { (o : Shown) (n : Tree Shown kind.name) (p : Shown) (b : Tree Shown kind.add) → codes "is" ≡ token_value (text_of o) → IsAt entity_type.now.span (yield n)
+    ensures shows { (o : Shown) (n : Tree Shown kind.name) (p : Shown) (b : Tree Shown kind.add) → codes "is" ≡ token_value (text_of o) → IsAt entity_type.now.span (tree_yield n)
         → IsNodeOf (path_parts entity_type.now.inner.path.items entity_type.now.inner.name) n → codes "in" ≡ token_value (text_of p) → IsNodeOf (add_parts entity.now.inner) b
-        → ShowsBehind before.end result tokens.old tokens.new (o ∷ yield n ++ p ∷ yield b)
+        → ShowsBehind before.end result tokens.old tokens.new (o ∷ tree_yield n ++ p ∷ tree_yield b)
         (group (doc_of left.entry · space · leaf_of (as_leaf o) · space · nest indent (document indent n) · line · leaf_of (as_leaf p) · space · nest indent (document indent b))) }
 {
     let start = type_and_in_doc(alloc, entity_type, before, left, indent, tokens)?;
@@ -361,9 +361,9 @@ fn type_and_in_doc<'src>(
     requires { AreInOrder tokens.old }
     ensures kept { KeepsTokens tokens.old tokens.new }
     ensures found { Finds result (has_its_tokens (places tokens.old) (path_parts entity_type.now.inner.path.items entity_type.now.inner.name)) }
-    ensures shows { (o : Shown) (n : Tree Shown kind.name) (p : Shown) → codes "is" ≡ token_value (text_of o) → IsAt entity_type.now.span (yield n)
+    ensures shows { (o : Shown) (n : Tree Shown kind.name) (p : Shown) → codes "is" ≡ token_value (text_of o) → IsAt entity_type.now.span (tree_yield n)
         → IsNodeOf (path_parts entity_type.now.inner.path.items entity_type.now.inner.name) n → codes "in" ≡ token_value (text_of p)
-        → ShowsBehind before.end result tokens.old tokens.new (o ∷ yield n ++ p ∷ [])
+        → ShowsBehind before.end result tokens.old tokens.new (o ∷ tree_yield n ++ p ∷ [])
         (doc_of left.entry · space · leaf_of (as_leaf o) · space · nest indent (document indent n) · line · leaf_of (as_leaf p) · space) }
 {
     let is_word = mark_after(alloc, "is", before, Document::Nil, tokens)?;
@@ -384,7 +384,7 @@ pub fn add_doc<'src>(
     requires { AreInOrder tokens.old }
     ensures kept { KeepsTokens tokens.old tokens.new }
     ensures found { Finds result (has_its_tokens (places tokens.old) (add_parts add.now)) }
-    ensures shows { (t : Tree Shown kind.add) → IsNodeOf (add_parts add.now) t → Shows result tokens.old tokens.new (yield t) (document indent t) }
+    ensures shows { (t : Tree Shown kind.add) → IsNodeOf (add_parts add.now) t → Shows result tokens.old tokens.new (tree_yield t) (document indent t) }
 {
     if add.extended.is_empty() {
         return lone_mult_doc(alloc, &add.initial.inner, indent, tokens);
@@ -404,7 +404,7 @@ fn lone_mult_doc<'src>(
     requires { AreInOrder tokens.old }
     ensures kept { KeepsTokens tokens.old tokens.new }
     ensures found { Finds result (has_its_tokens (places tokens.old) (mult_parts mult.now)) }
-    ensures shows { (t : Tree Shown kind.mult) → IsNodeOf (mult_parts mult.now) t → Shows result tokens.old tokens.new (yield t) (group (document indent t)) }
+    ensures shows { (t : Tree Shown kind.mult) → IsNodeOf (mult_parts mult.now) t → Shows result tokens.old tokens.new (tree_yield t) (group (document indent t)) }
 {
     let only = mult_doc(alloc, mult, indent, tokens)?;
     Ok(only.group(alloc)?)
@@ -422,7 +422,7 @@ fn sum_doc<'src>(
     requires { AreInOrder tokens.old }
     ensures kept { KeepsTokens tokens.old tokens.new }
     ensures found { Finds result (has_its_tokens (places tokens.old) (add_parts add.now)) }
-    ensures shows { (t : Tree Shown kind.add) → IsNodeOf (add_parts add.now) t → Shows result tokens.old tokens.new (yield t) (document indent t) }
+    ensures shows { (t : Tree Shown kind.add) → IsNodeOf (add_parts add.now) t → Shows result tokens.old tokens.new (tree_yield t) (document indent t) }
 {
     let first = mult_doc(alloc, &add.initial.inner, indent, tokens)?;
     let mut docs = vec![in alloc; first]?;
@@ -447,7 +447,7 @@ pub fn mult_doc<'src>(
     requires { AreInOrder tokens.old }
     ensures kept { KeepsTokens tokens.old tokens.new }
     ensures found { Finds result (has_its_tokens (places tokens.old) (mult_parts mult.now)) }
-    ensures shows { (t : Tree Shown kind.mult) → IsNodeOf (mult_parts mult.now) t → Shows result tokens.old tokens.new (yield t) (document indent t) }
+    ensures shows { (t : Tree Shown kind.mult) → IsNodeOf (mult_parts mult.now) t → Shows result tokens.old tokens.new (tree_yield t) (document indent t) }
 {
     if mult.extended.is_empty() {
         let only = &mult.initial;
@@ -469,7 +469,7 @@ fn lone_unary_doc<'src>(
     requires { AreInOrder tokens.old }
     ensures kept { KeepsTokens tokens.old tokens.new }
     ensures found { Finds result (has_own (places tokens.old) Label.unary (Some span) (unary_parts unary.now) && has_its_tokens (places tokens.old) (unary_parts unary.now)) }
-    ensures shows { (t : Tree Shown kind.unary) → IsAt span (yield t) → IsNodeOf (unary_parts unary.now) t → Shows result tokens.old tokens.new (yield t) (group (document indent t)) }
+    ensures shows { (t : Tree Shown kind.unary) → IsAt span (tree_yield t) → IsNodeOf (unary_parts unary.now) t → Shows result tokens.old tokens.new (tree_yield t) (group (document indent t)) }
 {
     let only = unary_doc(alloc, unary, span, indent, tokens)?;
     Ok(only.group(alloc)?)
@@ -487,7 +487,7 @@ fn product_doc<'src>(
     requires { AreInOrder tokens.old }
     ensures kept { KeepsTokens tokens.old tokens.new }
     ensures found { Finds result (has_its_tokens (places tokens.old) (mult_parts mult.now)) }
-    ensures shows { (t : Tree Shown kind.mult) → IsNodeOf (mult_parts mult.now) t → Shows result tokens.old tokens.new (yield t) (document indent t) }
+    ensures shows { (t : Tree Shown kind.mult) → IsNodeOf (mult_parts mult.now) t → Shows result tokens.old tokens.new (tree_yield t) (document indent t) }
 {
     let first = unary_doc(
         alloc,
@@ -519,7 +519,7 @@ pub fn unary_doc<'src>(
     requires { AreInOrder tokens.old }
     ensures kept { KeepsTokens tokens.old tokens.new }
     ensures found { Finds result (has_own (places tokens.old) Label.unary (Some span) (unary_parts unary.now) && has_its_tokens (places tokens.old) (unary_parts unary.now)) }
-    ensures shows { (t : Tree Shown kind.unary) → IsAt span (yield t) → IsNodeOf (unary_parts unary.now) t → Shows result tokens.old tokens.new (yield t) (document indent t) }
+    ensures shows { (t : Tree Shown kind.unary) → IsAt span (tree_yield t) → IsNodeOf (unary_parts unary.now) t → Shows result tokens.old tokens.new (tree_yield t) (document indent t) }
 {
     let signs = signs_doc(alloc, unary.op, span, unary.item.span, tokens)?;
     let member = member_doc(alloc, &unary.item.inner, indent, tokens)?;
@@ -538,7 +538,7 @@ pub fn member_doc<'src>(
     requires { AreInOrder tokens.old }
     ensures kept { KeepsTokens tokens.old tokens.new }
     ensures found { Finds result (has_its_tokens (places tokens.old) (member_parts member.now)) }
-    ensures shows { (t : Tree Shown kind.member) → IsNodeOf (member_parts member.now) t → Shows result tokens.old tokens.new (yield t) (document indent t) }
+    ensures shows { (t : Tree Shown kind.member) → IsNodeOf (member_parts member.now) t → Shows result tokens.old tokens.new (tree_yield t) (document indent t) }
 {
     let item = primary_doc(alloc, &member.item.inner, member.item.span, indent, tokens)?;
     let accesses = accesses_doc(alloc, &member.access, indent, tokens)?;
@@ -557,7 +557,7 @@ fn accesses_doc<'src>(
     requires { AreInOrder tokens.old }
     ensures kept { KeepsTokens tokens.old tokens.new }
     ensures found { Finds result (has_its_tokens (places tokens.old) (access_items accesses.now)) }
-    ensures shows { (t : Tree Shown kind.accesses) → IsNodeOf (access_items accesses.now) t → Shows result tokens.old tokens.new (yield t) (document indent t) }
+    ensures shows { (t : Tree Shown kind.accesses) → IsNodeOf (access_items accesses.now) t → Shows result tokens.old tokens.new (tree_yield t) (document indent t) }
 {
     let mut docs = Vec::new(alloc);
     let mut before: Option<&MemAccess<'src>> = None;
@@ -582,7 +582,7 @@ pub fn access_doc<'src>(
     requires { AreInOrder tokens.old }
     ensures kept { KeepsTokens tokens.old tokens.new }
     ensures found { Finds result (has_its_tokens (places tokens.old) (access_parts access.now)) }
-    ensures shows { (t : Tree Shown kind.accesses) → IsNodeOf (branch (Label.access, Some span) (access_parts access.now) none) t → Shows result tokens.old tokens.new (yield t) (document indent t) }
+    ensures shows { (t : Tree Shown kind.accesses) → IsNodeOf (branch (Label.access, Some span) (access_parts access.now) none) t → Shows result tokens.old tokens.new (tree_yield t) (document indent t) }
 {
     match access {
         MemAccess::Field(field) => field_doc(alloc, field, span, tokens),
@@ -604,7 +604,7 @@ fn call_doc<'src>(
     requires { AreInOrder tokens.old }
     ensures kept { KeepsTokens tokens.old tokens.new }
     ensures found { Finds result (has_its_tokens (places tokens.old) (item_trees Label.expr expr_parts arguments.now)) }
-    ensures shows { (t : Tree Shown kind.accesses) → IsNodeOf (branch (Label.access, Some span) (leaf (codes "(") (join (item_trees Label.expr expr_parts arguments.now) (leaf (codes ")") none))) none) t → Shows result tokens.old tokens.new (yield t) (document indent t) }
+    ensures shows { (t : Tree Shown kind.accesses) → IsNodeOf (branch (Label.access, Some span) (leaf (codes "(") (join (item_trees Label.expr expr_parts arguments.now) (leaf (codes ")") none))) none) t → Shows result tokens.old tokens.new (tree_yield t) (document indent t) }
 {
     let open = mark_at_start(alloc, "(", span, Document::Nil, tokens)?;
     let items = items_doc(alloc, arguments, indent, tokens)?;
@@ -645,7 +645,7 @@ pub fn primary_doc<'src>(
     requires { AreInOrder tokens.old }
     ensures kept { KeepsTokens tokens.old tokens.new }
     ensures found { Finds result (has_its_tokens (places tokens.old) (primary_parts primary.now)) }
-    ensures shows { (t : Tree Shown kind.primary) → IsAt span (yield t) → IsNodeOf (primary_parts primary.now) t → Shows result tokens.old tokens.new (yield t) (document indent t) }
+    ensures shows { (t : Tree Shown kind.primary) → IsAt span (tree_yield t) → IsNodeOf (primary_parts primary.now) t → Shows result tokens.old tokens.new (tree_yield t) (document indent t) }
 {
     match primary {
         Primary::Literal(literal) => {
@@ -673,8 +673,8 @@ fn parens_doc<'src>(
     requires { AreInOrder tokens.old }
     ensures kept { KeepsTokens tokens.old tokens.new }
     ensures found { Finds result (has_its_tokens (places tokens.old) (expr_parts inside.now.inner)) }
-    ensures shows { (l : Shown) (t : Tree Shown kind.expr) (r : Shown) → IsAt span (yield (parens l t r)) → codes "(" ≡ token_value (text_of l) → IsAt inside.now.span (yield t) → IsNodeOf (expr_parts inside.now.inner) t → codes ")" ≡ token_value (text_of r)
-        → Shows result tokens.old tokens.new (yield (parens l t r)) (document indent (parens l t r)) }
+    ensures shows { (l : Shown) (t : Tree Shown kind.expr) (r : Shown) → IsAt span (tree_yield (parens l t r)) → codes "(" ≡ token_value (text_of l) → IsAt inside.now.span (tree_yield t) → IsNodeOf (expr_parts inside.now.inner) t → codes ")" ≡ token_value (text_of r)
+        → Shows result tokens.old tokens.new (tree_yield (parens l t r)) (document indent (parens l t r)) }
 {
     let open = mark_at_start(alloc, "(", span, Document::Nil, tokens)?;
     let doc = expr_doc(alloc, &inside.inner, inside.span, indent, tokens)?;
@@ -695,7 +695,7 @@ fn list_doc<'src>(
     requires { AreInOrder tokens.old }
     ensures kept { KeepsTokens tokens.old tokens.new }
     ensures found { Finds result (has_its_tokens (places tokens.old) (item_trees Label.expr expr_parts items.now)) }
-    ensures shows { (t : Tree Shown kind.primary) → IsAt span (yield t) → IsNodeOf (variant Label.list (leaf (codes "[") (join (item_trees Label.expr expr_parts items.now) (leaf (codes "]") none))) none) t → Shows result tokens.old tokens.new (yield t) (document indent t) }
+    ensures shows { (t : Tree Shown kind.primary) → IsAt span (tree_yield t) → IsNodeOf (variant Label.list (leaf (codes "[") (join (item_trees Label.expr expr_parts items.now) (leaf (codes "]") none))) none) t → Shows result tokens.old tokens.new (tree_yield t) (document indent t) }
 {
     let open = mark_at_start(alloc, "[", span, Document::Nil, tokens)?;
     let doc = items_doc(alloc, items, indent, tokens)?;
@@ -716,7 +716,7 @@ fn record_doc<'src>(
     requires { AreInOrder tokens.old }
     ensures kept { KeepsTokens tokens.old tokens.new }
     ensures found { Finds result (has_its_tokens (places tokens.old) (item_trees Label.rec_init init_parts inits.now)) }
-    ensures shows { (t : Tree Shown kind.primary) → IsAt span (yield t) → IsNodeOf (variant Label.fields (leaf (codes "{") (join (item_trees Label.rec_init init_parts inits.now) (leaf (codes "}") none))) none) t → Shows result tokens.old tokens.new (yield t) (document indent t) }
+    ensures shows { (t : Tree Shown kind.primary) → IsAt span (tree_yield t) → IsNodeOf (variant Label.fields (leaf (codes "{") (join (item_trees Label.rec_init init_parts inits.now) (leaf (codes "}") none))) none) t → Shows result tokens.old tokens.new (tree_yield t) (document indent t) }
 {
     let open = mark_at_start(alloc, "{", span, Document::Nil, tokens)?;
     let items = inits_doc(alloc, inits, indent, tokens)?;
@@ -757,7 +757,7 @@ fn items_doc<'src>(
     ensures kept { KeepsTokens tokens.old tokens.new }
     ensures found { Finds result (has_its_tokens (places tokens.old) (item_trees Label.expr expr_parts items.now)) }
     ensures none { items.now ≡ [] → Shows result tokens.old tokens.new [] nil }
-    ensures shows { (t : Tree Shown kind.args) → IsNodeOf (item_trees Label.expr expr_parts items.now) t → Shows result tokens.old tokens.new (yield t) (document indent t) }
+    ensures shows { (t : Tree Shown kind.args) → IsNodeOf (item_trees Label.expr expr_parts items.now) t → Shows result tokens.old tokens.new (tree_yield t) (document indent t) }
 {
     let mut docs = Vec::new(alloc);
     let mut before: Option<Span> = None;
@@ -782,7 +782,7 @@ fn inits_doc<'src>(
     ensures kept { KeepsTokens tokens.old tokens.new }
     ensures found { Finds result (has_its_tokens (places tokens.old) (item_trees Label.rec_init init_parts inits.now)) }
     ensures none { inits.now ≡ [] → Shows result tokens.old tokens.new [] nil }
-    ensures shows { (t : Tree Shown kind.inits) → IsNodeOf (item_trees Label.rec_init init_parts inits.now) t → Shows result tokens.old tokens.new (yield t) (document indent t) }
+    ensures shows { (t : Tree Shown kind.inits) → IsNodeOf (item_trees Label.rec_init init_parts inits.now) t → Shows result tokens.old tokens.new (tree_yield t) (document indent t) }
 {
     let mut docs = Vec::new(alloc);
     let mut before: Option<Span> = None;
@@ -806,7 +806,7 @@ pub fn init_doc<'src>(
     requires { AreInOrder tokens.old }
     ensures kept { KeepsTokens tokens.old tokens.new }
     ensures found { Finds result (has_its_tokens (places tokens.old) (init_parts init.now)) }
-    ensures shows { (t : Tree Shown kind.init) → IsNodeOf (init_parts init.now) t → Shows result tokens.old tokens.new (yield t) (document indent t) }
+    ensures shows { (t : Tree Shown kind.init) → IsNodeOf (init_parts init.now) t → Shows result tokens.old tokens.new (tree_yield t) (document indent t) }
 {
     let key = primary_doc(alloc, &init.key.inner, init.key.span, indent, tokens)?;
     let mut docs = colon_row(alloc, key, init.key.span, tokens)?;

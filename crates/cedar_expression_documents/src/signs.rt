@@ -1,9 +1,9 @@
 //! The signs before a member: `C(sign)` for each, as many as stand between the start of the signs and that of the member.
-#![tactic(auto, using(cedar_tokens::proofs::KeptOrder::order_kept))]
+#![tactic(auto, using(cedar_leaf_documents::proofs::Keeping::keeping))]
 
 ghost use Rattle.std.specs.Prelude.{◌≡◌, ◌==◌, ℤ, ◌<◌, ◌∷◌, ◌++◌, ◌||◌, List, map, Some, IfOk};
 ghost use Rattle.cedar_grammar.specs.Trees.{Label, none};
-ghost use Rattle.cedar_grammar.specs.TypedTrees.{Tree, yield};
+ghost use Rattle.cedar_grammar.specs.TypedTrees.{Tree, tree_yield};
 ghost use Rattle.cedar_grammar.specs.TypedTrees as kind;
 ghost use Rattle.cedar_tree.specs.Erased.{Erased, node, sign_leaves};
 ghost use Rattle.cedar_layout.specs.Layout.{◌·◌};
@@ -33,9 +33,9 @@ pub(crate) fn signs_doc<'src>(
     requires { AreInOrder tokens.old }
     ensures kept { KeepsTokens tokens.old tokens.new }
     ensures found { (inner : Erased) → Finds result (has_own (places tokens.old) Label.unary (Some span) (sign_leaves op (node Label.member member inner none))) }
-    ensures shows { (i : ℤ) (u : Tree Shown kind.unary) (inner : Erased) → IsAt span (yield u) → IsNodeOf (sign_leaves op (node Label.member member inner none)) u
-        → (before after : List Shown) → map shown tokens.old ≡ before ++ (yield u ++ after)
-        → IfOk result (λ d. (doc_of d · document i (member_in u) ≡ document i u) × (map shown tokens.new ≡ (before ++ map emptied (signs_in u)) ++ (yield (member_in u) ++ after))) }
+    ensures shows { (i : ℤ) (u : Tree Shown kind.unary) (inner : Erased) → IsAt span (tree_yield u) → IsNodeOf (sign_leaves op (node Label.member member inner none)) u
+        → (before after : List Shown) → map shown tokens.old ≡ before ++ (tree_yield u ++ after)
+        → IfOk result (λ d. (doc_of d · document i (member_in u) ≡ document i u) × (map shown tokens.new ≡ (before ++ map emptied (signs_in u)) ++ (tree_yield (member_in u) ++ after))) }
 {
     match op {
         Some(op) => counted_signs_doc(alloc, op, span, member, tokens),

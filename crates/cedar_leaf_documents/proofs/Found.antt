@@ -9,8 +9,10 @@ use Rattle.cedar_layout.specs.Lookups.{Shown, Parts, shown, HandedOut, Unmatched
 use Rattle.cedar_grammar.specs.Trees.{none, leaf, branch, join}
 use Rattle.cedar_tree.specs.Erased.{Erased}
 use Rattle.cedar_leaf_documents.specs.Found.{Finds, Misses, has_its_tokens, has_own, places, starts}
+use Rattle.cedar_leaf_documents.specs.Kept.{KeepsTokens}
 use Rattle.cedar_leaf_documents.specs.declared.made.NoDocument.{NoDocument}
 use Rattle.cedar_leaf_documents.specs.declared.made.NoDocument.TheVariants.{NoToken, OutOfMemory}
+use Rattle.cedar_leaf_documents.proofs.Keeping.{kept_bare}
 
 -- ---- the token that starts at a place
 
@@ -38,8 +40,8 @@ found_at_start p old new answer (Some c) h = sym (starts_shown p old) ∙ ap (li
 
 -- ---- places stay
 
-pub places_kept : (old new : List WrappedToken) → map bare new ≡ map bare old → places new ≡ places old
-places_kept old new e = sym (bared new) ∙ (ap (map (λ b. b.1)) e ∙ bared old)
+pub places_kept : (old new : List WrappedToken) → KeepsTokens old new → places new ≡ places old
+places_kept old new k = sym (bared new) ∙ (ap (map (λ b. b.1)) (kept_bare old new k) ∙ bared old)
   where
     bared : (ts : List WrappedToken) → map (λ b. b.1) (map bare ts) ≡ places ts
     bared [] = refl
@@ -48,11 +50,11 @@ places_kept old new e = sym (bared new) ∙ (ap (map (λ b. b.1)) e ∙ bared ol
 -- ---- answers
 
 -- what is found of tokens, some of whose comments were taken, is found of them all
-pub as_before : (has : List Span → Bool) (b : Bool) (old mid : List WrappedToken) → map bare mid ≡ map bare old → has (places mid) ≡ b → has (places old) ≡ b
+pub as_before : (has : List Span → Bool) (b : Bool) (old mid : List WrappedToken) → KeepsTokens old mid → has (places mid) ≡ b → has (places old) ≡ b
 as_before has b old mid e h = ap has (sym (places_kept old mid e)) ∙ h
 
 -- the same of an answer
-pub finds_before : {D : Type 0} (has : List Span → Bool) (r : Result D NoDocument) (old mid : List WrappedToken) → map bare mid ≡ map bare old → Finds r (has (places mid)) → Finds r (has (places old))
+pub finds_before : {D : Type 0} (has : List Span → Bool) (r : Result D NoDocument) (old mid : List WrappedToken) → KeepsTokens old mid → Finds r (has (places mid)) → Finds r (has (places old))
 finds_before has r old mid e h = subst (λ z. Finds r (has z)) (places_kept old mid e) h
 
 -- a token that a part inside misses is missed by the whole

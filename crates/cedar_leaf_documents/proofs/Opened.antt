@@ -6,7 +6,7 @@ use Rattle.cedar_tokens.specs.Listing.{token_value}
 use Rattle.cedar_tokens.specs.declared.token.Span.{Span}
 use Rattle.cedar_grammar.specs.Trees.{Label, Forest, leaf, branch}
 use Rattle.cedar_grammar.specs.Trees as forest
-use Rattle.cedar_grammar.specs.TypedTrees.{NodeKind, Tree, parts, yield, PartKind, Clause, part_parts, part_yield}
+use Rattle.cedar_grammar.specs.TypedTrees.{NodeKind, Tree, parts, tree_yield, PartKind, Clause, part_parts, part_yield}
 use Rattle.cedar_grammar.proofs.TreeLaws.{typed_leaves, part_leaves}
 use Rattle.cedar_layout.specs.Lookups.{Shown, emptied}
 use Rattle.cedar_tree.specs.Erased.{Erased}
@@ -34,7 +34,7 @@ pub opened_token : (s : List ℕ) (r : Erased) (x : Shown) (g : Forest Label Sho
 opened_token s r x g e = (cc, cc)
 
 -- the span of a tree's tokens
-pub span_at : {k : NodeKind} {s : Span} (t : Tree Shown k) → IsAt s (forest.yield (parts kind_of_shown t)) → IsAt s (yield t)
+pub span_at : {k : NodeKind} {s : Span} (t : Tree Shown k) → IsAt s (forest.yield (parts kind_of_shown t)) → IsAt s (tree_yield t)
 span_at {s = s} t h = subst (λ ts. IsAt s ts) (typed_leaves kind_of_shown t) h
 
 pub part_at : {k : PartKind} {s : Span} (t : Clause Shown k) → IsAt s (forest.yield (part_parts kind_of_shown t)) → IsAt s (part_yield t)
@@ -46,7 +46,7 @@ starts_here s t ts e = cc
 
 -- a node that is a typed tree, and the trees behind it
 pub opened_tree : {k : NodeKind} (l : Label) (s : Span) (p r : Erased) (t : Tree Shown k) (g : Forest Label Shown) → is_node l ≡ true → branch (l, Some s) p r ≡ nodes_of (branch l (parts kind_of_shown t) g)
-    → (p ≡ nodes_of (parts kind_of_shown t)) × IsAt s (yield t) × (r ≡ nodes_of g)
+    → (p ≡ nodes_of (parts kind_of_shown t)) × IsAt s (tree_yield t) × (r ≡ nodes_of g)
 opened_tree l s p r t g n e = let o = opened l s p r (parts kind_of_shown t) g n e in (o.0, span_at t o.1, o.2)
 
 -- a node of one token, and the trees behind it
@@ -105,5 +105,5 @@ pub rewritten : {V : Type 0} {P : List Shown → Type 0} {v d e : V} {old new : 
 rewritten ts q h before after p s = let r = h before after p s in (r.0 ∙ q, r.1)
 
 -- where a token has no trailing text, nothing stands behind it
-pub nothing_behind : (x : Shown) → C (as_leaf x) (doc_of Nil') ≡ table.leaf (as_leaf x)
+pub nothing_behind : (x : Shown) → C (as_leaf x) (doc_of Nil') ≡ table.printed (as_leaf x)
 nothing_behind x = ap (C (as_leaf x)) doc_of_nil

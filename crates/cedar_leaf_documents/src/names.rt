@@ -1,10 +1,10 @@
 //! The documents of words, strings, literals, slots, paths and entities.
-#![tactic(auto, using(cedar_tokens::proofs::KeptOrder::order_kept))]
+#![tactic(auto, using(crate::proofs::Keeping::keeping))]
 
 ghost use Rattle.std.specs.Prelude.{◌≡◌, ◌∷◌, [], ℤ, codes};
 ghost use Rattle.cedar_tokens.specs.Listing.{token_value};
 ghost use Rattle.cedar_grammar.specs.Trees.{leaf, none};
-ghost use Rattle.cedar_grammar.specs.TypedTrees.{Tree, yield};
+ghost use Rattle.cedar_grammar.specs.TypedTrees.{Tree, tree_yield};
 ghost use Rattle.cedar_grammar.specs.TypedTrees as kind;
 ghost use Rattle.cedar_tree.specs.Erased.{addop_text, literal_text, name_tree, path_parts, relop_text, slot_text, str_tree};
 ghost use Rattle.cedar_layout.specs.Lookups.{AreInOrder, Shown};
@@ -32,7 +32,7 @@ pub fn leaf_doc<'src>(
     requires { AreInOrder tokens.old }
     ensures kept { KeepsTokens tokens.old tokens.new }
     ensures found { Finds result (starts span.start (places tokens.old)) }
-    ensures shows { (t : Shown) → t.span.start ≡ span.start → text.now ≡ token_value (text_of t) → Shows result tokens.old tokens.new (t ∷ []) (table.leaf (as_leaf t)) }
+    ensures shows { (t : Shown) → t.span.start ≡ span.start → text.now ≡ token_value (text_of t) → Shows result tokens.old tokens.new (t ∷ []) (table.printed (as_leaf t)) }
 {
     let comment = comment_at_start(span, tokens)?;
     Ok(add_comment(alloc, Document::Text(text), &comment, Document::Nil)?)
@@ -48,7 +48,7 @@ pub fn name_doc<'src>(
     requires { AreInOrder tokens.old }
     ensures kept { KeepsTokens tokens.old tokens.new }
     ensures found { Finds result (has_its_tokens (places tokens.old) (path_parts name.now.path.items name.now.name)) }
-    ensures shows { (i : ℤ) (t : Tree Shown kind.name) → IsNodeOf (path_parts name.now.path.items name.now.name) t → Shows result tokens.old tokens.new (yield t) (document i t) }
+    ensures shows { (i : ℤ) (t : Tree Shown kind.name) → IsNodeOf (path_parts name.now.path.items name.now.name) t → Shows result tokens.old tokens.new (tree_yield t) (document i t) }
 {
     let mut docs = Vec::new(alloc);
     for word in &name.path {
@@ -69,7 +69,7 @@ pub fn ref_doc<'src>(
     requires { AreInOrder tokens.old }
     ensures kept { KeepsTokens tokens.old tokens.new }
     ensures found { Finds result (has_its_tokens (places tokens.old) (name_tree entity.now.path (leaf (codes "::") (str_tree entity.now.eid none)))) }
-    ensures shows { (i : ℤ) (t : Tree Shown kind.ref) → IsNodeOf (name_tree entity.now.path (leaf (codes "::") (str_tree entity.now.eid none))) t → Shows result tokens.old tokens.new (yield t) (document i t) }
+    ensures shows { (i : ℤ) (t : Tree Shown kind.ref) → IsNodeOf (name_tree entity.now.path (leaf (codes "::") (str_tree entity.now.eid none))) t → Shows result tokens.old tokens.new (tree_yield t) (document i t) }
 {
     let path = name_doc(alloc, &entity.path.inner, tokens)?;
     let colons = mark_after(alloc, "::", entity.path.span, Document::Nil, tokens)?;

@@ -1,4 +1,6 @@
 //! The documents of single tokens: the leading lines, the token, and its trailing text or what stands in its place.
+#![tactic(auto, using(crate::proofs::Keeping::keeping))]
+
 ghost use Rattle.std.specs.Prelude.{◌≡◌, ◌∷◌, ◌++◌, [], List, map, Some, None, codes, IfOk, IsSomeAnd};
 ghost use Rattle.cedar_tokens.specs.Listing.{token_value};
 ghost use Rattle.cedar_tokens.specs.declared.token.Span.{Span};
@@ -10,7 +12,7 @@ ghost use Rattle.cedar_layout.specs.Lookups.{AreInOrder, Parts, Shown, comment_p
 ghost use Rattle.cedar_leaf_documents.specs.Found.{Finds, places, starts};
 ghost use Rattle.cedar_leaf_documents.specs.Kept.{KeepsTokens};
 ghost use Rattle.cedar_leaf_documents.specs.NodeDocuments.{IsPutBehind, PutsBehind, Shows, ShowsBehind, as_leaf, text_of};
-ghost use Rattle.cedar_canonical.specs.Table.{C, leaf, space};
+ghost use Rattle.cedar_canonical.specs.Table.{C, printed, space};
 
 use crate::made::NoDocument;
 use cedar_layout::layout::Document;
@@ -130,7 +132,7 @@ pub fn push_sign_and_line<'src>(
 ) -> Result<(), AllocError>
     requires { AreInOrder tokens.old }
     ensures kept { KeepsTokens tokens.old tokens.new }
-    ensures puts { PutsBehind span.end result tokens.old tokens.new docs.old.items docs.new.items text.now (λ t. space · leaf (as_leaf t) · line) }
+    ensures puts { PutsBehind span.end result tokens.old tokens.new docs.old.items docs.new.items text.now (λ t. space · printed (as_leaf t) · line) }
 {
     let sign = mark_after(alloc, text, span, Document::Nil, tokens)?;
     // (one document, since laying out holds what is left of a sequence, one by one)
@@ -150,7 +152,7 @@ pub fn sign_row<'src>(
 ) -> Result<Vec<Document<'src>>, AllocError>
     requires { AreInOrder tokens.old }
     ensures kept { KeepsTokens tokens.old tokens.new }
-    ensures puts { IfOk result (λ v. IsPutBehind span.end tokens.old tokens.new (left.entry ∷ []) v.items text.now (λ t. space · leaf (as_leaf t) · space)) }
+    ensures puts { IfOk result (λ v. IsPutBehind span.end tokens.old tokens.new (left.entry ∷ []) v.items text.now (λ t. space · printed (as_leaf t) · space)) }
 {
     let mut docs = Vec::with_capacity(alloc, 5)?;
     docs.push(left)?;
@@ -169,7 +171,7 @@ pub fn colon_row<'src>(
 ) -> Result<Vec<Document<'src>>, AllocError>
     requires { AreInOrder tokens.old }
     ensures kept { KeepsTokens tokens.old tokens.new }
-    ensures puts { IfOk result (λ v. IsPutBehind span.end tokens.old tokens.new (key.entry ∷ []) v.items (codes ":") (λ t. leaf (as_leaf t) · space)) }
+    ensures puts { IfOk result (λ v. IsPutBehind span.end tokens.old tokens.new (key.entry ∷ []) v.items (codes ":") (λ t. printed (as_leaf t) · space)) }
 {
     let mut docs = Vec::with_capacity(alloc, 4)?;
     docs.push(key)?;
@@ -188,7 +190,7 @@ pub fn push_comma<'src>(
     requires { AreInOrder tokens.old }
     ensures kept { KeepsTokens tokens.old tokens.new }
     ensures none { before ≡ None → (docs.new.items ≡ docs.old.items) × (tokens.new ≡ tokens.old) }
-    ensures puts { (span : Span) → before ≡ Some span → PutsBehind span.end result tokens.old tokens.new docs.old.items docs.new.items (codes ",") (λ t. leaf (as_leaf t) · line) }
+    ensures puts { (span : Span) → before ≡ Some span → PutsBehind span.end result tokens.old tokens.new docs.old.items docs.new.items (codes ",") (λ t. printed (as_leaf t) · line) }
 {
     match before {
         Some(span) => push_mark(alloc, ",", span, Document::Line, tokens, docs),
@@ -207,7 +209,7 @@ fn push_mark<'src>(
 ) -> Result<(), AllocError>
     requires { AreInOrder tokens.old }
     ensures kept { KeepsTokens tokens.old tokens.new }
-    ensures puts { PutsBehind span.end result tokens.old tokens.new docs.old.items docs.new.items text.now (λ t. leaf (as_leaf t) · doc_of next.entry) }
+    ensures puts { PutsBehind span.end result tokens.old tokens.new docs.old.items docs.new.items text.now (λ t. printed (as_leaf t) · doc_of next.entry) }
 {
     let mark = mark_after(alloc, text, span, Document::Nil, tokens)?;
     docs.push(mark)?;

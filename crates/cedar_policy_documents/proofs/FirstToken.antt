@@ -6,7 +6,7 @@ use Rattle.cedar_tokens.specs.Listing.{token_value}
 use Rattle.cedar_tokens.specs.declared.token.Span.{Span}
 use Rattle.cedar_grammar.specs.Trees.{Label, Forest, leaf, branch, none}
 use Rattle.cedar_grammar.specs.Trees as forest
-use Rattle.cedar_grammar.specs.TypedTrees.{Tree, NodeKind, parts, tree_map, map_first, yield}
+use Rattle.cedar_grammar.specs.TypedTrees.{Tree, NodeKind, parts, tree_map, map_first, tree_yield}
 use Rattle.cedar_grammar.proofs.FirstLeaf.{change_first, map_first_map, map_first_unseen, map_first_yield}
 use Rattle.cedar_grammar.proofs.RuleMaps.{relabel}
 use Rattle.cedar_layout.specs.Lookups.{Shown, emptied, unled}
@@ -21,7 +21,7 @@ pub unled_leaves : {k : NodeKind} (t : Tree Shown k) → map_first bare_token (t
 unled_leaves t = map_first_map unled bare_token as_leaf (λ a. refl) t
 
 -- the first of its tokens has no leading lines, and the others are as before
-pub unled_tokens : {k : NodeKind} (t : Tree Shown k) (x : Shown) (xs : List Shown) → yield t ≡ x ∷ xs → yield (map_first unled t) ≡ unled x ∷ xs
+pub unled_tokens : {k : NodeKind} (t : Tree Shown k) (x : Shown) (xs : List Shown) → tree_yield t ≡ x ∷ xs → tree_yield (map_first unled t) ≡ unled x ∷ xs
 unled_tokens t x xs e = map_first_yield unled t ∙ ap (change_first unled) e
 
 -- ---- its nodes

@@ -5,7 +5,7 @@ use Rattle.std.specs.Prelude.{codes, not, is_some, ◌||◌, ◌&&◌, if◌then
 use Rattle.cedar_tokens.specs.Listing.{Decorated, token_value}
 use Rattle.cedar_tokens.specs.declared.token.Span.{Span}
 use Rattle.cedar_grammar.specs.Trees.{Label, Forest, leaf, branch, none}
-use Rattle.cedar_grammar.specs.TypedTrees.{Tree, Clause, parts, part_yield, yield, variable_bare, variable_is, variable_op, variable_is_op, no_cond, conds_more}
+use Rattle.cedar_grammar.specs.TypedTrees.{Tree, Clause, parts, part_yield, tree_yield, variable_bare, variable_is, variable_op, variable_is_op, no_cond, conds_more}
 use Rattle.cedar_grammar.specs.TypedTrees as kind
 use Rattle.cedar_layout.specs.Comments.{lead_of, trail_of}
 use Rattle.cedar_layout.specs.Layout.{Doc, ◌·◌, hard, nil, text}
@@ -23,7 +23,7 @@ use Rattle.cedar_canonical.specs.Leaves.{part_map}
 use Rattle.cedar_leaf_documents.specs.NodeDocuments.{IsAt, IsNodeOf, as_leaf, end_of_tokens, kind_of_shown, nodes_of, text_of}
 use Rattle.cedar_policy_documents.specs.PartDocuments.{IsPartOf, compared_document, part_document, variables_document}
 use Rattle.cedar_canonical.specs.Table.{C, between_conds, is_bare, lead, tok, trail}
-use Rattle.cedar_canonical.specs.Table.{leaf as leaf_document}
+use Rattle.cedar_canonical.specs.Table.{printed as leaf_document}
 use Rattle.cedar_leaf_documents.proofs.Opened.{Always, Behind, GivesIf, ends_here, in_turn, opened_leaf, opened_token, opened_tree}
 
 abbrev Operator : Type 0
@@ -54,7 +54,7 @@ pub record IsTyped (n : Option (Node Name)) (q : Option Operator) (w : Shown) (t
   pub is : n ≡ Some name
   pub word : codes "is" ≡ token_value (text_of w)
   pub path : IsNodeOf (path_parts name.inner.path.items name.inner.name) t
-  pub place : IsAt name.span (yield t)
+  pub place : IsAt name.span (tree_yield t)
   pub behind : operator_parts q ≡ nodes_of g
 
 pub typed : (n : Option (Node Name)) (q : Option Operator) (w : Shown) (t : Tree Shown kind.name) (g : Forest Label Shown) → type_parts n (operator_parts q) ≡ nodes_of (leaf w (branch Label.name (parts kind_of_shown t) g)) → IsTyped n q w t g

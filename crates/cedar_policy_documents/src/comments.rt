@@ -1,5 +1,5 @@
 //! The documents of a comment: of its leading lines, and of its trailing text.
-#![tactic(auto, using(cedar_tokens::proofs::KeptOrder::order_kept))]
+#![tactic(auto, using(cedar_leaf_documents::proofs::Keeping::keeping))]
 
 ghost use Rattle.std.specs.Prelude.{◌≡◌, IfOk};
 ghost use Rattle.cedar_tokens.specs.Tokens.{leading_lines, trailing_text};

@@ -1,11 +1,11 @@
 //! The documents of conditions: the word, and an expression between braces. Above each function stands its row, in the
 //! words of `policies`.
-#![tactic(auto, using(cedar_tokens::proofs::KeptOrder::order_kept))]
+#![tactic(auto, using(cedar_leaf_documents::proofs::Keeping::keeping))]
 
 ghost use Rattle.std.specs.Prelude.{◌≡◌, ◌++◌, ◌∷◌, [], List, map, None, Some, codes, IfOk, ℕ, IsSomeAnd};
 ghost use Rattle.cedar_tokens.specs.Listing.{token_value};
 ghost use Rattle.cedar_grammar.specs.Trees.{none};
-ghost use Rattle.cedar_grammar.specs.TypedTrees.{Clause, Tree, part_yield, yield};
+ghost use Rattle.cedar_grammar.specs.TypedTrees.{Clause, Tree, part_yield, tree_yield};
 ghost use Rattle.cedar_grammar.specs.TypedTrees as kind;
 ghost use Rattle.cedar_tree.specs.Erased.{cond_trees, expr_parts, cond_parts};
 ghost use Rattle.cedar_layout.specs.Comments.{lead_of, trail_of};
@@ -16,7 +16,7 @@ ghost use Rattle.cedar_leaf_documents.specs.Found.{Finds, has_its_tokens, places
 ghost use Rattle.cedar_leaf_documents.specs.Kept.{KeepsTokens};
 ghost use Rattle.cedar_canonical.specs.Leaves.{part_map};
 ghost use Rattle.cedar_leaf_documents.specs.NodeDocuments.{IsAt, IsNodeOf, Shows, ShowsBehind, as_leaf, text_of};
-ghost use Rattle.cedar_policy_documents.specs.PartDocuments.{IsPartOf, body_document, part_document};
+ghost use Rattle.cedar_policy_documents.specs.PartDocuments.{IsPartOf, body_document, braced_document, part_document};
 ghost use Rattle.cedar_canonical.specs.Table as table;
 
 use crate::comments::{lead, trail};
@@ -97,8 +97,8 @@ fn block_doc<'src>(
     requires { AreInOrder tokens.old }
     ensures kept { KeepsTokens tokens.old tokens.new }
     ensures found { Finds result (has_its_tokens (places tokens.old) (expr_parts expr.now.inner)) }
-    ensures shows { (l : Shown) (t : Tree Shown kind.expr) (r : Shown) → codes "{" ≡ token_value (text_of l) → IsAt expr.now.span (yield t) → IsNodeOf (expr_parts expr.now.inner) t → r.span.end ≡ span.end → codes "}" ≡ token_value (text_of r)
-        → ShowsBehind before.end result tokens.old tokens.new (l ∷ yield t ++ r ∷ []) (table.braced indent (as_leaf l) (body_document indent t) (as_leaf r)) }
+    ensures shows { (l : Shown) (t : Tree Shown kind.expr) (r : Shown) → codes "{" ≡ token_value (text_of l) → IsAt expr.now.span (tree_yield t) → IsNodeOf (expr_parts expr.now.inner) t → r.span.end ≡ span.end → codes "}" ≡ token_value (text_of r)
+        → ShowsBehind before.end result tokens.old tokens.new (l ∷ tree_yield t ++ r ∷ []) (braced_document indent l t r) }
 {
     let brace = get_comment_after_end(before, tokens);
     let (lines, behind) = brace_comment(alloc, brace)?;
@@ -134,7 +134,7 @@ fn body_doc<'src>(
     requires { AreInOrder tokens.old }
     ensures kept { KeepsTokens tokens.old tokens.new }
     ensures found { Finds result (has_its_tokens (places tokens.old) (expr_parts expr.now.inner)) }
-    ensures shows { (t : Tree Shown kind.expr) → IsAt expr.now.span (yield t) → IsNodeOf (expr_parts expr.now.inner) t → Shows result tokens.old tokens.new (yield t) (body_document indent t) }
+    ensures shows { (t : Tree Shown kind.expr) → IsAt expr.now.span (tree_yield t) → IsNodeOf (expr_parts expr.now.inner) t → Shows result tokens.old tokens.new (tree_yield t) (body_document indent t) }
 {
     let taken = get_leading_comment_at_start(expr.span, tokens);
     let lines = lines_doc(alloc, taken)?;

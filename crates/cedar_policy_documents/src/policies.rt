@@ -1,7 +1,7 @@
 //! The documents of policies and annotations, in the order of the table. Above each function stands its row: a dot puts
 //! documents one after the other, `i` is the indentation of a level. Of a token `t` `lead(t)` is its leading lines, `trail(t, n)`
 //! its trailing text, or `n` where it has none, and `C(t, n) = lead(t) . t . trail(t, n)`.
-#![tactic(auto, using(cedar_tokens::proofs::KeptOrder::order_kept))]
+#![tactic(auto, using(cedar_leaf_documents::proofs::Keeping::keeping))]
 
 ghost use Rattle.std.specs.Prelude.{◌≡◌, ◌∷◌, [], Some, codes, ℤ};
 ghost use Rattle.cedar_tokens.specs.Listing.{token_value};
@@ -103,7 +103,7 @@ fn head_doc<'src>(
     ensures kept { KeepsTokens tokens.old tokens.new }
     ensures found { Finds result (starts effect.now.span.start (places tokens.old)) }
     ensures shows { (e l : Shown) → e.span.start ≡ effect.now.span.start → e.span.end ≡ effect.now.span.end → effect.now.inner.0.now ≡ token_value (text_of e) → codes "(" ≡ token_value (text_of l)
-        → Shows result tokens.old tokens.new (e ∷ l ∷ []) (table.lead (as_leaf e) · group (table.tok (as_leaf e) · table.trail (as_leaf e) nil · line · table.leaf (as_leaf l))) }
+        → Shows result tokens.old tokens.new (e ∷ l ∷ []) (table.lead (as_leaf e) · group (table.tok (as_leaf e) · table.trail (as_leaf e) nil · line · table.printed (as_leaf l))) }
 {
     let comment = comment_at_start(effect.span, tokens)?;
     let open = mark_after(alloc, "(", effect.span, Document::Nil, tokens)?;

@@ -1,11 +1,11 @@
 //! The documents of a scope: its variables, their types, and what they are compared with. Above each function stands its
 //! row, in the words of `policies`.
-#![tactic(auto, using(cedar_tokens::proofs::KeptOrder::order_kept))]
+#![tactic(auto, using(cedar_leaf_documents::proofs::Keeping::keeping))]
 
 ghost use Rattle.std.specs.Prelude.{◌≡◌, ◌∷◌, [], None, Some, codes, not};
 ghost use Rattle.cedar_tokens.specs.Listing.{token_value};
 ghost use Rattle.cedar_grammar.specs.Trees.{none};
-ghost use Rattle.cedar_grammar.specs.TypedTrees.{Clause, Tree, part_yield, yield};
+ghost use Rattle.cedar_grammar.specs.TypedTrees.{Clause, Tree, part_yield, tree_yield};
 ghost use Rattle.cedar_grammar.specs.TypedTrees as kind;
 ghost use Rattle.cedar_tree.specs.Erased.{add_parts, operator_parts, path_parts, relop_text, scope_variables, type_parts, variable_items, variable_parts};
 ghost use Rattle.cedar_layout.specs.Comments.{space};
@@ -139,7 +139,7 @@ fn bound_doc<'src>(
     ensures found { Finds result (has_its_tokens (places tokens.old) (operator_parts variable.now.ineq)) }
     ensures bare { variable.now.ineq ≡ None → Shows result tokens.old tokens.new [] (doc_of left.entry) }
     ensures shows { (q : RelOp × Node Add) → variable.now.ineq ≡ Some q → (o : Shown) (t : Tree Shown kind.add) → relop_text q.0 ≡ token_value (text_of o) → IsNodeOf (add_parts q.1.inner) t
-        → ShowsBehind (span_before variable.now).end result tokens.old tokens.new (o ∷ yield t) (compared_document indent (doc_of left.entry) o t) }
+        → ShowsBehind (span_before variable.now).end result tokens.old tokens.new (o ∷ tree_yield t) (compared_document indent (doc_of left.entry) o t) }
 {
     let Some((op, right)) = &variable.ineq else {
         return Ok(left);
@@ -179,7 +179,7 @@ fn type_part_doc<'src>(
     ensures found { Finds result (has_its_tokens (places tokens.old) (type_parts variable.now.entity_type none)) }
     ensures bare { variable.now.entity_type ≡ None → Shows result tokens.old tokens.new [] nil }
     ensures shows { (name : Node Name) → variable.now.entity_type ≡ Some name → (w : Shown) (t : Tree Shown kind.name) → codes "is" ≡ token_value (text_of w) → IsNodeOf (path_parts name.inner.path.items name.inner.name) t
-        → ShowsBehind variable.now.variable.span.end result tokens.old tokens.new (w ∷ yield t) (table.type_part indent (as_leaf w) (document indent t)) }
+        → ShowsBehind variable.now.variable.span.end result tokens.old tokens.new (w ∷ tree_yield t) (table.type_part indent (as_leaf w) (document indent t)) }
 {
     let Some(name) = &variable.entity_type else {
         return Ok(Document::Nil);

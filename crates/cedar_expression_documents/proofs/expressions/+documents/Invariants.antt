@@ -9,7 +9,7 @@ use Rattle.cedar_leaf_documents.specs.Kept.{KeepsTokens}
 use Rattle.cedar_leaf_documents.specs.NodeDocuments.{document, IsNodeOf}
 use Rattle.cedar_expression_documents.proofs.Chains.{MadeSoFar, breaking_sign, sign_and_line, inside_add, inside_mult}
 use Rattle.cedar_tree.specs.NodeLists.{and_parts, access_items, item_trees, init_parts}
-use Rattle.cedar_grammar.specs.TypedTrees.{Tree, accesses, yield}
+use Rattle.cedar_grammar.specs.TypedTrees.{Tree, accesses, tree_yield}
 use Rattle.cedar_layout.specs.Value.{docs_of}
 use Rattle.cedar_expression_documents.specs.Inside.Breaks.{form_before}
 use Rattle.cedar_expression_documents.proofs.AccessTrees.{Walked}
@@ -55,7 +55,7 @@ abbrev pub invariant-accesses_doc-loop-access : goal.invariant-accesses_doc-loop
 invariant-accesses_doc-loop-access l = record {
   kept : KeepsTokens l.fn.tokens l.tokens;
   found : has_its_tokens (places l.fn.tokens) (access_items l.accesses) ≡ has_its_tokens (places l.fn.tokens) (access_items (drop l.access-index l.accesses));
-  walked : (whole : Tree Shown accesses) → IsNodeOf (access_items l.accesses) whole → (before after : List Shown) → map shown l.fn.tokens ≡ before ++ (yield whole ++ after)
+  walked : (whole : Tree Shown accesses) → IsNodeOf (access_items l.accesses) whole → (before after : List Shown) → map shown l.fn.tokens ≡ before ++ (tree_yield whole ++ after)
       → Walked l.indent whole (docs_of l.docs.items) (form_before l.before) (drop l.access-index l.accesses) (map shown l.tokens) before after;
 }
 

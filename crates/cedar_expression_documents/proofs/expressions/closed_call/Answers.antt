@@ -17,6 +17,6 @@ returns-clause-shows c r at e before after st =
     let q = c.in_ok-close.ensures.shows r at e before after st in (
       c.in_ok-arguments_row.ensures
           ∙ ap (λ z. if c.args.none then open' · z else open' · nest w items · line_or_nil · z) (q.0 ∙ nothing_behind r)
-          ∙ ap (λ j. if c.args.none then open' · table.leaf (as_leaf r) else open' · nest j items · line_or_nil · table.leaf (as_leaf r)) fits,
+          ∙ ap (λ j. if c.args.none then open' · table.printed (as_leaf r) else open' · nest j items · line_or_nil · table.printed (as_leaf r)) fits,
       q.1,
     )

@@ -17,6 +17,6 @@ returns-clause-shows c r at e before after st =
     let q = c.in_ok-close.ensures.shows r at e before after st in (
       c.in_ok-entries_row.ensures
           ∙ ap (λ z. if c.args.none then open' · z else open' · nest w (group inits) · z) (q.0 ∙ nothing_behind r)
-          ∙ ap (λ j. if c.args.none then open' · table.leaf (as_leaf r) else open' · nest j (group inits) · table.leaf (as_leaf r)) fits,
+          ∙ ap (λ j. if c.args.none then open' · table.printed (as_leaf r) else open' · nest j (group inits) · table.printed (as_leaf r)) fits,
       q.1,
     )

@@ -1,7 +1,7 @@
 use Rattle.std.proofs.Common.{◌≡◌, ◌∷◌, [], to_z, of_z, w64, arith, ap, ◌∙◌, true, false}
 use Rattle.std.proofs.lemmas.Int.{ints}
-use Rattle.cedar_grammar.specs.TypedTrees.{yield}
-use Rattle.cedar_canonical.specs.Table.{leaf, space}
+use Rattle.cedar_grammar.specs.TypedTrees.{tree_yield}
+use Rattle.cedar_canonical.specs.Table.{printed, space}
 use Rattle.cedar_layout.specs.Layout.{◌·◌, nest, group}
 use Rattle.cedar_layout.specs.Value.{doc_of}
 use Rattle.cedar_tree.specs.Erased.{path_parts}
@@ -25,7 +25,7 @@ returns-clause-shows c o n f g =
     let w : i ≡ c.args.indent = omega (arith, ints) in
     let left = doc_of c.args.left in
     let word = rewritten (o ∷ []) (nothing_behind o) (c.in_ok-is_word.ensures.shows o f) in
-    let second = freely (yield n) (c.in_ok-type_name.ensures.shows c.args.indent n g) in
-    let all = in_turn (λ x y. group (left · space · x · space · nest i y)) (Behind c.args.before) Always (o ∷ []) (yield n) word (λ b h. tt) second in
+    let second = freely (tree_yield n) (c.in_ok-type_name.ensures.shows c.args.indent n g) in
+    let all = in_turn (λ x y. group (left · space · x · space · nest i y)) (Behind c.args.before) Always (o ∷ []) (tree_yield n) word (λ b h. tt) second in
     λ before after at st. let r = all before after at st in
-    (c.in_ok-is_row.ensures ∙ r.0 ∙ ap (λ z. group (left · space · leaf (as_leaf o) · space · nest z (document c.args.indent n))) w, r.1)
+    (c.in_ok-is_row.ensures ∙ r.0 ∙ ap (λ z. group (left · space · printed (as_leaf o) · space · nest z (document c.args.indent n))) w, r.1)

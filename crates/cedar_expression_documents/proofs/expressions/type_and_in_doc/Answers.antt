@@ -1,7 +1,7 @@
 use Rattle.std.proofs.Common.{◌≡◌, ◌∷◌, ◌++◌, [], to_z, of_z, w64, arith, ap, ◌∙◌, true, false}
 use Rattle.std.proofs.lemmas.Int.{ints}
-use Rattle.cedar_grammar.specs.TypedTrees.{yield}
-use Rattle.cedar_canonical.specs.Table.{leaf, space}
+use Rattle.cedar_grammar.specs.TypedTrees.{tree_yield}
+use Rattle.cedar_canonical.specs.Table.{printed, space}
 use Rattle.cedar_layout.specs.Layout.{◌·◌, nest, line}
 use Rattle.cedar_layout.specs.Value.{doc_of}
 use Rattle.cedar_tree.specs.Erased.{path_parts}
@@ -27,7 +27,7 @@ returns-clause-shows c o n p f at g h =
     let type = c.args.entity_type.now.span in
     let is_word = rewritten (o ∷ []) (nothing_behind o) (c.in_ok-is_word.ensures.shows o f) in
     let in_word = rewritten (p ∷ []) (nothing_behind p) (c.in_ok-in_word.ensures.shows p h) in
-    let more = in_turn (λ x y. nest i x · line · y · space) Always (Behind type) (yield n) (p ∷ []) (freely (yield n) (c.in_ok-type_name.ensures.shows i n g)) (λ b h. ends_here type (yield n) at b) in_word in
-    let all = in_turn (λ x y. left · space · x · space · y) (Behind c.args.before) Always (o ∷ []) (yield n ++ (p ∷ [])) is_word (λ b h. tt) more in
+    let more = in_turn (λ x y. nest i x · line · y · space) Always (Behind type) (tree_yield n) (p ∷ []) (freely (tree_yield n) (c.in_ok-type_name.ensures.shows i n g)) (λ b h. ends_here type (tree_yield n) at b) in_word in
+    let all = in_turn (λ x y. left · space · x · space · y) (Behind c.args.before) Always (o ∷ []) (tree_yield n ++ (p ∷ [])) is_word (λ b h. tt) more in
     λ before after q st. let r = all before after q st in
-    (c.in_ok-type_and_in_row.ensures ∙ r.0 ∙ ap (λ z. left · space · leaf (as_leaf o) · space · nest z (document z n) · line · leaf (as_leaf p) · space) w, r.1)
+    (c.in_ok-type_and_in_row.ensures ∙ r.0 ∙ ap (λ z. left · space · printed (as_leaf o) · space · nest z (document z n) · line · printed (as_leaf p) · space) w, r.1)

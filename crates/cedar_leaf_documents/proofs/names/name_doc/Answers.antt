@@ -1,4 +1,4 @@
-use Rattle.std.proofs.Common.{◌≡◌, ◌<◌, ℕ, List, length, true, false, rules, ◌+◌, ap, sym, subst, ◌∙◌, ◌∷◌, [], drop, get_or, drop-cons, add-one, map}
+use Rattle.std.proofs.Common.{◌≡◌, ◌<◌, ℕ, List, length, true, false, rules, ◌+◌, refl, ap, sym, subst, ◌∙◌, ◌∷◌, [], drop, get_or, drop-cons, add-one, map}
 use Rattle.std.proofs.lemmas.List.{drop_all}
 use Rattle.cedar_layout.proofs.Values.{docs_of-push, doc_of_seq}
 use Rattle.cedar_layout.specs.Layout.{◌·◌}
@@ -6,11 +6,12 @@ use Rattle.cedar_layout.specs.Lookups.{shown}
 use Rattle.cedar_layout.specs.Value.{doc_of, docs_of}
 use Rattle.cedar_tree.specs.declared.tree.Ident.{Ident}
 use Rattle.cedar_tree.specs.declared.tree.Node.{Node}
-use Rattle.cedar_leaf_documents.proofs.PathWords.{NameSoFar, name_goes_on, name_ends}
+use Rattle.cedar_leaf_documents.proofs.PathWords.{NameSoFar, name_begun, name_goes_on, name_ends}
 use Rattle.cedar_tree.specs.Erased.{path_parts}
 use Rattle.cedar_leaf_documents.specs.Found.{has_its_tokens, places, starts}
 use Rattle.cedar_leaf_documents.proofs.Found.{and_false, and_true, as_before, missed}
 use Rattle.cedar_leaf_documents.proofs.Opened.{freely, rewritten, nothing_behind}
+use Rattle.cedar_leaf_documents.proofs.Keeping.{◌∘◌, all_kept}
 use Rattle.cedar_leaf_documents.proofs.names.name_doc.Goals as goal
 
 -- what a lookup past the end would give
@@ -21,9 +22,16 @@ no_word = record { inner = record { 0 = record { ref_ptr = (0, 0); now = [] } };
 word_at : (path items : List (Node Ident)) (j : ℕ) → items ≡ path → j < length items → drop j path ≡ get_or items j no_word ∷ drop (j + 1) path
 word_at path items j e h = ap (drop j) (sym e) ∙ drop-cons items j no_word h ∙ ap (λ k. get_or items j no_word ∷ drop k items) (sym (add-one j)) ∙ ap (λ z. get_or items j no_word ∷ drop (j + 1) z) e
 
+pub loop-word-init : goal.loop-word-init
+loop-word-init c = record {
+  kept = all_kept _;
+  found = refl;
+  so_far = λ i t n before after s. name_begun i t before after _ _ _ _ (ap docs_of c.new-docs.ensures.items) n s;
+}
+
 pub loop-word-preserved : goal.loop-word-preserved
 loop-word-preserved c = record {
-  kept = search rules;
+  kept = c.in_ok-mark_after.ensures.kept ∘ c.in_ok-leaf_doc.ensures.kept ∘ c.loop-word.invariant.kept;
   found = c.loop-word.invariant.found
       ∙ ap (λ z. has_its_tokens (places c.args.tokens.now) (path_parts z c.args.name.now.name)) (word_at _ _ c.loop-word.word-index c.deref-word-items.ensures.value (search rules))
       ∙ and_true (starts _ (places c.args.tokens.now)) _ (as_before (starts _) true c.args.tokens.now c.loop-word.tokens c.loop-word.invariant.kept c.in_ok-leaf_doc.ensures.found);

@@ -1,6 +1,6 @@
 use Rattle.std.proofs.Common.{refl, true, false, ◌∙◌, ◌∷◌, []}
 use Rattle.cedar_grammar.specs.Trees.{Label, leaf, branch, none}
-use Rattle.cedar_grammar.specs.TypedTrees.{ref_of, yield}
+use Rattle.cedar_grammar.specs.TypedTrees.{ref_of, tree_yield}
 use Rattle.cedar_layout.specs.Layout.{◌·◌}
 use Rattle.cedar_tree.specs.Erased.{path_parts}
 use Rattle.cedar_leaf_documents.specs.Found.{has_its_tokens, places, starts}
@@ -18,7 +18,7 @@ returns-clause-shows c i (ref_of n x s) e =
     let colons = rewritten (x ∷ []) (nothing_behind x) (c.in_ok-colons.ensures.shows x p.0) in
     let eid = freely (s ∷ []) (c.in_ok-eid.ensures.shows s q.0 q.1) in
     let behind = in_turn (λ a b. a · b) (Behind path) Always (x ∷ []) (s ∷ []) colons (λ b h. tt) eid in
-    let all = in_turn (λ a b. a · b) Always (Behind path) (yield n) (x ∷ s ∷ []) (freely (yield n) (c.in_ok-path.ensures.shows i n o.0)) (λ b h. ends_here path (yield n) o.1 b) behind in
+    let all = in_turn (λ a b. a · b) Always (Behind path) (tree_yield n) (x ∷ s ∷ []) (freely (tree_yield n) (c.in_ok-path.ensures.shows i n o.0)) (λ b h. ends_here path (tree_yield n) o.1 b) behind in
     λ before after st. let r = all before after tt st in (flat _ _ c.in_ok-vec.ensures.items ∙ r.0, r.1)
 
 pub returns-in_err-path-clause-found : goal.returns-in_err-path-clause-found

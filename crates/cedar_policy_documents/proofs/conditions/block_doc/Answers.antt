@@ -1,6 +1,6 @@
 use Rattle.std.proofs.Common.{◌≡◌, true, false, w64, [], ◌∷◌, ◌++◌, map, ap, ◌∙◌}
 use Rattle.std.proofs.lemmas.Int.{to_z-of_z}
-use Rattle.cedar_grammar.specs.TypedTrees.{yield}
+use Rattle.cedar_grammar.specs.TypedTrees.{tree_yield}
 use Rattle.cedar_tokens.specs.Listing.{token_value}
 use Rattle.cedar_tree.specs.Erased.{expr_parts}
 use Rattle.cedar_layout.specs.Comments.{lead_of, trail_of}
@@ -15,7 +15,7 @@ use Rattle.cedar_leaf_documents.specs.NodeDocuments.{text_of}
 use Rattle.cedar_leaf_documents.proofs.Flat.{flat}
 use Rattle.cedar_leaf_documents.proofs.LookedUp.{first_behind, taken}
 use Rattle.cedar_leaf_documents.proofs.Found.{as_before, missed}
-use Rattle.cedar_leaf_documents.proofs.Keeping.{kept_if_taken}
+use Rattle.cedar_leaf_documents.proofs.Keeping.{kept_if_taken, ◌∘◌}
 use Rattle.cedar_leaf_documents.proofs.Opened.{GivesIf, in_turn, freely, rewritten, nothing_behind, Always, Behind}
 use Rattle.cedar_policy_documents.proofs.PolicyParts.{apart}
 use Rattle.cedar_policy_documents.proofs.conditions.block_doc.Goals as goal
@@ -32,10 +32,10 @@ returns-clause-shows c l t r is_left at e ends is_right =
     (taken (starts_from c.args.before.end) before l after f.0 f.1 (map shown c.args.tokens.now) (map shown new) c.get_comment_after_end-brace.result s c.get_comment_after_end-brace.ensures.answer) in
     let d = c.in_ok-lines.ensures l.comment h.0 in
     (pair d.0 d.1, h.1) in
-    let body = rewritten (yield t) (ap (λ z. body_document z t) same) (freely (yield t) (c.in_ok-body.ensures.shows t at e)) in
+    let body = rewritten (tree_yield t) (ap (λ z. body_document z t) same) (freely (tree_yield t) (c.in_ok-body.ensures.shows t at e)) in
     let close = rewritten (r ∷ []) (nothing_behind r) (freely (r ∷ []) (c.in_ok-close.ensures.shows r ends is_right)) in
-    let rest = in_turn (λ (a b : Doc). (a, b)) Always Always (yield t) (r ∷ []) body (λ b h. tt) close in
-    let all = in_turn (λ (p q : Doc × Doc). p.0 · text (token_value (text_of l)) · group (nest c.args.indent (p.1 · q.0) · line · q.1)) (Behind c.args.before) Always (l ∷ []) (yield t ++ r ∷ []) brace (λ b h. tt) rest in
+    let rest = in_turn (λ (a b : Doc). (a, b)) Always Always (tree_yield t) (r ∷ []) body (λ b h. tt) close in
+    let all = in_turn (λ (p q : Doc × Doc). p.0 · text (token_value (text_of l)) · group (nest c.args.indent (p.1 · q.0) · line · q.1)) (Behind c.args.before) Always (l ∷ []) (tree_yield t ++ r ∷ []) brace (λ b h. tt) rest in
     λ before after p st. let q = all before after p st in
     (rw (flat c.in_ok-vec-3.field-0 _ c.in_ok-vec-3.ensures.items, doc_of_text, is_left, c.in_ok-inside-2.ensures, flat c.in_ok-vec-2.field-0 _ c.in_ok-vec-2.ensures.items, nested, flat c.in_ok-vec.field-0 _ c.in_ok-vec.ensures.items, doc_of_line) q.0, q.1)
   where
@@ -46,28 +46,28 @@ pub returns-in_err-lines-clause-kept : goal.returns-in_err-lines-clause-kept
 returns-in_err-lines-clause-kept c = kept_if_taken _ _ _ _ c.get_comment_after_end-brace.ensures.answer
 
 pub returns-in_err-body-clause-kept : goal.returns-in_err-body-clause-kept
-returns-in_err-body-clause-kept c = c.body_doc.ensures.kept ∙ kept_if_taken _ _ _ _ c.get_comment_after_end-brace.ensures.answer
+returns-in_err-body-clause-kept c = c.body_doc.ensures.kept ∘ kept_if_taken _ _ _ _ c.get_comment_after_end-brace.ensures.answer
 
 pub returns-in_err-close-clause-kept : goal.returns-in_err-close-clause-kept
-returns-in_err-close-clause-kept c = c.mark_at_end.ensures.kept ∙ c.body_doc.ensures.kept ∙ kept_if_taken _ _ _ _ c.get_comment_after_end-brace.ensures.answer
+returns-in_err-close-clause-kept c = c.mark_at_end.ensures.kept ∘ c.body_doc.ensures.kept ∘ kept_if_taken _ _ _ _ c.get_comment_after_end-brace.ensures.answer
 
 pub returns-in_err-vec-clause-kept : goal.returns-in_err-vec-clause-kept
-returns-in_err-vec-clause-kept c = c.mark_at_end.ensures.kept ∙ c.body_doc.ensures.kept ∙ kept_if_taken _ _ _ _ c.get_comment_after_end-brace.ensures.answer
+returns-in_err-vec-clause-kept c = c.mark_at_end.ensures.kept ∘ c.body_doc.ensures.kept ∘ kept_if_taken _ _ _ _ c.get_comment_after_end-brace.ensures.answer
 
 pub returns-in_err-inside-clause-kept : goal.returns-in_err-inside-clause-kept
-returns-in_err-inside-clause-kept c = c.mark_at_end.ensures.kept ∙ c.body_doc.ensures.kept ∙ kept_if_taken _ _ _ _ c.get_comment_after_end-brace.ensures.answer
+returns-in_err-inside-clause-kept c = c.mark_at_end.ensures.kept ∘ c.body_doc.ensures.kept ∘ kept_if_taken _ _ _ _ c.get_comment_after_end-brace.ensures.answer
 
 pub returns-in_err-vec-2-clause-kept : goal.returns-in_err-vec-2-clause-kept
-returns-in_err-vec-2-clause-kept c = c.mark_at_end.ensures.kept ∙ c.body_doc.ensures.kept ∙ kept_if_taken _ _ _ _ c.get_comment_after_end-brace.ensures.answer
+returns-in_err-vec-2-clause-kept c = c.mark_at_end.ensures.kept ∘ c.body_doc.ensures.kept ∘ kept_if_taken _ _ _ _ c.get_comment_after_end-brace.ensures.answer
 
 pub returns-in_err-inside-2-clause-kept : goal.returns-in_err-inside-2-clause-kept
-returns-in_err-inside-2-clause-kept c = c.mark_at_end.ensures.kept ∙ c.body_doc.ensures.kept ∙ kept_if_taken _ _ _ _ c.get_comment_after_end-brace.ensures.answer
+returns-in_err-inside-2-clause-kept c = c.mark_at_end.ensures.kept ∘ c.body_doc.ensures.kept ∘ kept_if_taken _ _ _ _ c.get_comment_after_end-brace.ensures.answer
 
 pub returns-in_err-vec-3-clause-kept : goal.returns-in_err-vec-3-clause-kept
-returns-in_err-vec-3-clause-kept c = c.mark_at_end.ensures.kept ∙ c.body_doc.ensures.kept ∙ kept_if_taken _ _ _ _ c.get_comment_after_end-brace.ensures.answer
+returns-in_err-vec-3-clause-kept c = c.mark_at_end.ensures.kept ∘ c.body_doc.ensures.kept ∘ kept_if_taken _ _ _ _ c.get_comment_after_end-brace.ensures.answer
 
 pub returns-clause-kept : goal.returns-clause-kept
-returns-clause-kept c = c.mark_at_end.ensures.kept ∙ c.body_doc.ensures.kept ∙ kept_if_taken _ _ _ _ c.get_comment_after_end-brace.ensures.answer
+returns-clause-kept c = c.mark_at_end.ensures.kept ∘ c.body_doc.ensures.kept ∘ kept_if_taken _ _ _ _ c.get_comment_after_end-brace.ensures.answer
 
 pub returns-in_err-body-clause-found : goal.returns-in_err-body-clause-found
 returns-in_err-body-clause-found c =

@@ -2,7 +2,7 @@ use Rattle.std.proofs.Common.{[], ◌∷◌, ◌++◌, refl, ap, w64, true, fals
 use Rattle.std.proofs.lemmas.Int.{to_z-of_z}
 use Rattle.cedar_tokens.specs.Listing.{token_value}
 use Rattle.cedar_grammar.specs.Trees.{Label, branch, leaf, none}
-use Rattle.cedar_grammar.specs.TypedTrees.{cond_of, parts, yield}
+use Rattle.cedar_grammar.specs.TypedTrees.{cond_of, parts, tree_yield}
 use Rattle.cedar_tree.specs.Erased.{expr_parts}
 use Rattle.cedar_layout.specs.Comments.{lead_of, trail_of}
 use Rattle.cedar_layout.specs.Layout.{◌·◌, group, line, nest, text}
@@ -26,10 +26,10 @@ returns-clause-shows c (cond_of k l e r) at s =
     let q = opened_tree Label.expr c.args.cond.now.expr.span _ _ e (leaf r none) refl p.1 in
     let u = opened_token _ _ r none q.2 in
     let word = freely (k ∷ []) (λ b a h. c.in_ok-comment.ensures.taken b k a o.0 h) in
-    let block = rewritten (l ∷ yield e ++ r ∷ [])
-    (ap (λ z. table.lead (as_leaf l) · table.tok (as_leaf l) · group (nest z (table.trail (as_leaf l) line · body_document z e) · line · table.leaf (as_leaf r))) (to_z-of_z w64 c.args.indent c.ranges.indent))
-    (c.in_ok-block.ensures.shows l e r p.0 q.1 q.0 (ends_with c.args.span k (l ∷ yield e) r at) u.0) in
-    let all = in_turn (λ (x : Parts) d. lead_of x.leading · group (text (token_value (text_of k)) · trail_of x.trailing line · d)) Always (Behind span) (k ∷ []) (l ∷ yield e ++ r ∷ []) word (λ b h. ends_here span (k ∷ []) o.2 b) block in
+    let block = rewritten (l ∷ tree_yield e ++ r ∷ [])
+    (ap (λ z. table.lead (as_leaf l) · table.tok (as_leaf l) · group (nest z (table.trail (as_leaf l) line · body_document z e) · line · table.printed (as_leaf r))) (to_z-of_z w64 c.args.indent c.ranges.indent))
+    (c.in_ok-block.ensures.shows l e r p.0 q.1 q.0 (ends_with c.args.span k (l ∷ tree_yield e) r at) u.0) in
+    let all = in_turn (λ (x : Parts) d. lead_of x.leading · group (text (token_value (text_of k)) · trail_of x.trailing line · d)) Always (Behind span) (k ∷ []) (l ∷ tree_yield e ++ r ∷ []) word (λ b h. ends_here span (k ∷ []) o.2 b) block in
     λ before after st. let w = all before after tt st in
     let is_word = o.1 in
     (rw (flat c.in_ok-vec.field-0 _ c.in_ok-vec.ensures.items, c.in_ok-lead.ensures, c.in_ok-whole-2.ensures, flat c.in_ok-whole.whole _ c.in_ok-whole.ensures.items, doc_of_text, is_word, c.in_ok-behind.ensures, doc_of_line) w.0, w.1)

@@ -13,11 +13,12 @@ use Rattle.cedar_policy_documents.specs.PartDocuments.{part_document}
 use Rattle.cedar_leaf_documents.proofs.Found.{and_false, and_true, as_before, missed}
 use Rattle.cedar_policy_documents.proofs.PolicyRows.{Conditioned, Pushed, first, further, none_conditioned, one_conditioned, all_conditioned}
 use Rattle.cedar_policy_documents.proofs.conditions.conds_doc.Goals.{then-not-is_empty+in_ok-push, else-not-is_empty}
+use Rattle.cedar_leaf_documents.proofs.Keeping.{◌∘◌, all_kept}
 use Rattle.cedar_policy_documents.proofs.conditions.conds_doc.Goals as goal
 
 pub loop-cond-init : goal.loop-cond-init
 loop-cond-init c = record {
-  kept = refl;
+  kept = all_kept _;
   found = refl;
   shows = λ t before after e s. rw (c.new-docs.ensures.items) (none_conditioned c.args.conds.now _ t before after _ e s);
 }
@@ -34,7 +35,7 @@ loop-cond-preserved c =
       | else-not-is_empty w ↦ first (is_nil c.loop-cond.docs.items _ c.is_empty.result len c.is_empty.ensures w.if-not-is_empty.false) (c.in_ok-push-2.ensures.items ∙ ap (λ z. z.items ++ (c.in_ok-cond_doc.field-0 ∷ [])) w.docs-is)
     ] in
     record {
-      kept = c.in_ok-cond_doc.ensures.kept ∙ c.loop-cond.invariant.kept;
+      kept = c.in_ok-cond_doc.ensures.kept ∘ c.loop-cond.invariant.kept;
       found = c.loop-cond.invariant.found ∙ ap (λ z. has_its_tokens (places c.args.tokens.now) (cond_trees z none)) more
           ∙ and_true (has_its_tokens (places c.args.tokens.now) (cond_parts c.cond-item.result.inner)) _ (as_before (λ p. has_its_tokens p (cond_parts c.cond-item.result.inner)) true c.args.tokens.now c.loop-cond.tokens c.loop-cond.invariant.kept c.in_ok-cond_doc.ensures.found);
       shows = λ t before after e s.

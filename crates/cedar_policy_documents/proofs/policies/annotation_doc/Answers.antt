@@ -14,6 +14,7 @@ use Rattle.cedar_leaf_documents.proofs.Found.{and_false, and_true, as_before, mi
 use Rattle.cedar_leaf_documents.proofs.Opened.{opened_token, opened_leaf, starts_here, ends_here, in_turn, freely, rewritten, nothing_behind, Always, Behind}
 use Rattle.cedar_expression_documents.proofs.LastTokens.{ends_with}
 use Rattle.cedar_policy_documents.proofs.PolicyParts.{no_part, no_token}
+use Rattle.cedar_leaf_documents.proofs.Keeping.{◌∘◌}
 use Rattle.cedar_policy_documents.proofs.policies.annotation_doc.Goals as goal
 
 pub returns-in_err-key-clause-found : goal.returns-in_err-key-clause-found
@@ -51,7 +52,7 @@ returns-in_err-text-clause-found c =
     ap (λ z. starts start (places old) && has_its_tokens (places old) (value_parts z)) c.in-Some.is
     ∙ and_true (starts start (places old)) _ (as_before (starts start) true old c.mark_at_start.new.tokens c.in_ok-at.ensures.kept c.in_ok-key.ensures.found)
     ∙ and_false (starts c.in-Some.value.span.start (places old)) _
-    (as_before (starts c.in-Some.value.span.start) false old c.mark_after.new.tokens (c.in_ok-open.ensures.kept ∙ c.in_ok-key.ensures.kept ∙ c.in_ok-at.ensures.kept) h))
+    (as_before (starts c.in-Some.value.span.start) false old c.mark_after.new.tokens (c.in_ok-open.ensures.kept ∘ c.in_ok-key.ensures.kept ∘ c.in_ok-at.ensures.kept) h))
 
 pub returns-clause-found : goal.returns-clause-found
 returns-clause-found c =
@@ -60,7 +61,7 @@ returns-clause-found c =
     ap (λ z. starts start (places old) && has_its_tokens (places old) (value_parts z)) c.in-Some.is
     ∙ and_true (starts start (places old)) _ (as_before (starts start) true old c.mark_at_start.new.tokens c.in_ok-at.ensures.kept c.in_ok-key.ensures.found)
     ∙ and_true (starts c.in-Some.value.span.start (places old)) _
-    (as_before (starts c.in-Some.value.span.start) true old c.mark_after.new.tokens (c.in_ok-open.ensures.kept ∙ c.in_ok-key.ensures.kept ∙ c.in_ok-at.ensures.kept) c.in_ok-text.ensures.found)
+    (as_before (starts c.in-Some.value.span.start) true old c.mark_after.new.tokens (c.in_ok-open.ensures.kept ∘ c.in_ok-key.ensures.kept ∘ c.in_ok-at.ensures.kept) c.in_ok-text.ensures.found)
 
 pub returns-clause-shows : goal.returns-clause-shows
 returns-clause-shows c i (annotation_bare a k) at e =

@@ -9,6 +9,7 @@ use Rattle.cedar_layout.specs.Lookups.{shown}
 use Rattle.cedar_leaf_documents.specs.Found.{has_its_tokens, places}
 use Rattle.cedar_leaf_documents.proofs.Found.{and_false, and_true, as_before, missed}
 use Rattle.cedar_policy_documents.proofs.PolicyRows.{Annotated, none_annotated, one_annotated, all_annotated}
+use Rattle.cedar_leaf_documents.proofs.Keeping.{◌∘◌, all_kept}
 use Rattle.cedar_policy_documents.proofs.policies.annotations_doc.Goals as goal
 
 -- what a lookup past the end would give
@@ -17,7 +18,7 @@ nothing = record { inner = record { key = record { inner = record { 0 = record {
 
 pub loop-annotation-init : goal.loop-annotation-init
 loop-annotation-init c = record {
-  kept = refl;
+  kept = all_kept _;
   found = refl;
   shows = λ i t before after e s. rw (c.new-docs.ensures.items) (none_annotated c.args.annotations.now i t before after _ e s);
 }
@@ -26,7 +27,7 @@ pub loop-annotation-preserved : goal.loop-annotation-preserved
 loop-annotation-preserved c =
     let more = drop_more c.args.annotations.now c.loop-annotation.annotation-index nothing c.loop-annotation-test.true in
     record {
-      kept = c.in_ok-annotation_doc.ensures.kept ∙ c.loop-annotation.invariant.kept;
+      kept = c.in_ok-annotation_doc.ensures.kept ∘ c.loop-annotation.invariant.kept;
       found = c.loop-annotation.invariant.found ∙ ap (λ z. has_its_tokens (places c.args.tokens.now) (annotation_trees z none)) more
           ∙ and_true (has_its_tokens (places c.args.tokens.now) (annotation_parts (get_or c.args.annotations.now c.loop-annotation.annotation-index nothing).inner)) _ (as_before (λ p. has_its_tokens p (annotation_parts (get_or c.args.annotations.now c.loop-annotation.annotation-index nothing).inner)) true c.args.tokens.now c.loop-annotation.tokens c.loop-annotation.invariant.kept c.in_ok-annotation_doc.ensures.found);
       shows = λ i t before after e s.

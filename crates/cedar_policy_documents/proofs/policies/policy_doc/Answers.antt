@@ -12,6 +12,7 @@ use Rattle.cedar_leaf_documents.proofs.Flat.{flat}
 use Rattle.cedar_leaf_documents.proofs.Found.{and_false, and_true, as_before, missed}
 use Rattle.cedar_leaf_documents.proofs.Opened.{opened, opened_leaf, opened_token, part_at, ends_here, in_turn, freely, rewritten, nothing_behind, Always, Behind}
 use Rattle.cedar_policy_documents.proofs.WholePolicies.{annotations_apart, conds_apart, one_end, policy_ends, policy_tokens, retold, scope_ends, scope_tokens}
+use Rattle.cedar_leaf_documents.proofs.Keeping.{◌∘◌}
 use Rattle.cedar_policy_documents.proofs.policies.policy_doc.Goals as goal
 
 pub returns-clause-shows : goal.returns-clause-shows
@@ -80,7 +81,7 @@ returns-in_err-scope-clause-found c =
     let old = c.args.tokens.now in
     let annotations = ap (λ z. has_its_tokens (places old) (annotation_trees z none)) (sym c.deref.ensures.value) ∙ c.in_ok-annotations.ensures.found in
     let effect = as_before (starts c.args.policy.now.effect.span.start) true old c.annotations_doc.new.tokens c.in_ok-annotations.ensures.kept c.in_ok-head.ensures.found in
-    let scope = as_before (λ p. has_its_tokens p (variable_items (scope_variables c.args.policy.now))) false old c.head_doc.new.tokens (c.in_ok-head.ensures.kept ∙ c.in_ok-annotations.ensures.kept) h in
+    let scope = as_before (λ p. has_its_tokens p (variable_items (scope_variables c.args.policy.now))) false old c.head_doc.new.tokens (c.in_ok-head.ensures.kept ∘ c.in_ok-annotations.ensures.kept) h in
     policy_tokens (places old) c.args.policy.now ∙ and_true _ _ annotations ∙ and_true _ _ effect ∙ and_false _ _ scope)
 
 pub returns-in_err-conds-clause-found : goal.returns-in_err-conds-clause-found
@@ -90,9 +91,9 @@ returns-in_err-conds-clause-found c =
     let old = c.args.tokens.now in
     let annotations = ap (λ z. has_its_tokens (places old) (annotation_trees z none)) (sym c.deref.ensures.value) ∙ c.in_ok-annotations.ensures.found in
     let effect = as_before (starts c.args.policy.now.effect.span.start) true old c.annotations_doc.new.tokens c.in_ok-annotations.ensures.kept c.in_ok-head.ensures.found in
-    let scope = as_before (λ p. has_its_tokens p (variable_items (scope_variables c.args.policy.now))) true old c.head_doc.new.tokens (c.in_ok-head.ensures.kept ∙ c.in_ok-annotations.ensures.kept) c.in_ok-scope.ensures.found in
+    let scope = as_before (λ p. has_its_tokens p (variable_items (scope_variables c.args.policy.now))) true old c.head_doc.new.tokens (c.in_ok-head.ensures.kept ∘ c.in_ok-annotations.ensures.kept) c.in_ok-scope.ensures.found in
     let conds = ap (λ z. has_its_tokens (places old) (cond_trees z none)) (sym c.deref-3.ensures.value)
-    ∙ as_before (λ p. has_its_tokens p (cond_trees c.deref-3.result.now none)) false old c.mark_after.new.tokens (c.in_ok-close.ensures.kept ∙ c.in_ok-scope.ensures.kept ∙ c.in_ok-head.ensures.kept ∙ c.in_ok-annotations.ensures.kept) h in
+    ∙ as_before (λ p. has_its_tokens p (cond_trees c.deref-3.result.now none)) false old c.mark_after.new.tokens (c.in_ok-close.ensures.kept ∘ c.in_ok-scope.ensures.kept ∘ c.in_ok-head.ensures.kept ∘ c.in_ok-annotations.ensures.kept) h in
     policy_tokens (places old) c.args.policy.now ∙ and_true _ _ annotations ∙ and_true _ _ effect ∙ and_true _ _ scope ∙ conds)
 
 pub returns-clause-found : goal.returns-clause-found
@@ -100,7 +101,15 @@ returns-clause-found c =
     let old = c.args.tokens.now in
     let annotations = ap (λ z. has_its_tokens (places old) (annotation_trees z none)) (sym c.deref.ensures.value) ∙ c.in_ok-annotations.ensures.found in
     let effect = as_before (starts c.args.policy.now.effect.span.start) true old c.annotations_doc.new.tokens c.in_ok-annotations.ensures.kept c.in_ok-head.ensures.found in
-    let scope = as_before (λ p. has_its_tokens p (variable_items (scope_variables c.args.policy.now))) true old c.head_doc.new.tokens (c.in_ok-head.ensures.kept ∙ c.in_ok-annotations.ensures.kept) c.in_ok-scope.ensures.found in
+    let scope = as_before (λ p. has_its_tokens p (variable_items (scope_variables c.args.policy.now))) true old c.head_doc.new.tokens (c.in_ok-head.ensures.kept ∘ c.in_ok-annotations.ensures.kept) c.in_ok-scope.ensures.found in
     let conds = ap (λ z. has_its_tokens (places old) (cond_trees z none)) (sym c.deref-3.ensures.value)
-    ∙ as_before (λ p. has_its_tokens p (cond_trees c.deref-3.result.now none)) true old c.mark_after.new.tokens (c.in_ok-close.ensures.kept ∙ c.in_ok-scope.ensures.kept ∙ c.in_ok-head.ensures.kept ∙ c.in_ok-annotations.ensures.kept) c.in_ok-conds.ensures.found in
+    ∙ as_before (λ p. has_its_tokens p (cond_trees c.deref-3.result.now none)) true old c.mark_after.new.tokens (c.in_ok-close.ensures.kept ∘ c.in_ok-scope.ensures.kept ∘ c.in_ok-head.ensures.kept ∘ c.in_ok-annotations.ensures.kept) c.in_ok-conds.ensures.found in
     policy_tokens (places old) c.args.policy.now ∙ and_true _ _ annotations ∙ and_true _ _ effect ∙ and_true _ _ scope ∙ conds
+
+pub returns-in_err-end-clause-kept : goal.returns-in_err-end-clause-kept
+returns-in_err-end-clause-kept c =
+    c.in_err-end.ensures.kept ∘ c.in_ok-conds.ensures.kept ∘ c.in_ok-close.ensures.kept ∘ c.in_ok-scope.ensures.kept ∘ c.in_ok-head.ensures.kept ∘ c.in_ok-annotations.ensures.kept
+
+pub returns-clause-kept : goal.returns-clause-kept
+returns-clause-kept c =
+    c.in_ok-end.ensures.kept ∘ c.in_ok-conds.ensures.kept ∘ c.in_ok-close.ensures.kept ∘ c.in_ok-scope.ensures.kept ∘ c.in_ok-head.ensures.kept ∘ c.in_ok-annotations.ensures.kept

@@ -12,6 +12,7 @@ use Rattle.cedar_leaf_documents.proofs.Flat.{flat}
 use Rattle.cedar_leaf_documents.proofs.Found.{as_before, missed}
 use Rattle.cedar_leaf_documents.proofs.Opened.{freely, rewritten}
 use Rattle.cedar_policy_documents.proofs.ScopeTrees.{scope_in_turn}
+use Rattle.cedar_leaf_documents.proofs.Keeping.{◌∘◌}
 use Rattle.cedar_policy_documents.proofs.scopes.bare_scope_doc.Goals as goal
 use Rattle.cedar_tree.specs.Erased.{variable_parts}
 
@@ -35,22 +36,22 @@ pub returns-in_err-second-clause-found : goal.returns-in_err-second-clause-found
 returns-in_err-second-clause-found c =
     let v = c.args.policy.now.variables in
     missed c.from_residual-in_err-second.result _ _ _ c.from_residual-in_err-second.ensures.1 c.in_err-second.ensures.found
-    (λ h. let e = as_before (λ p. has_its_tokens p (variable_parts v.1.inner)) false c.args.tokens.now c.mark_after.new.tokens (c.in_ok-comma.ensures.kept ∙ c.in_ok-first.ensures.kept) h in
+    (λ h. let e = as_before (λ p. has_its_tokens p (variable_parts v.1.inner)) false c.args.tokens.now c.mark_after.new.tokens (c.in_ok-comma.ensures.kept ∘ c.in_ok-first.ensures.kept) h in
     rw (c.in_ok-first.ensures.found, e) refl)
 
 pub returns-in_err-third-clause-found : goal.returns-in_err-third-clause-found
 returns-in_err-third-clause-found c =
     let v = c.args.policy.now.variables in
-    let kept = c.in_ok-comma.ensures.kept ∙ c.in_ok-first.ensures.kept in
+    let kept = c.in_ok-comma.ensures.kept ∘ c.in_ok-first.ensures.kept in
     missed c.from_residual-in_err-third.result _ _ _ c.from_residual-in_err-third.ensures.1 c.in_err-third.ensures.found
     (λ h. let e = as_before (λ p. has_its_tokens p (variable_parts v.1.inner)) true c.args.tokens.now c.mark_after.new.tokens kept c.in_ok-second.ensures.found in
-    let f = as_before (λ p. has_its_tokens p (variable_parts v.2.inner)) false c.args.tokens.now c.mark_after-2.new.tokens (c.in_ok-other.ensures.kept ∙ (c.in_ok-second.ensures.kept ∙ kept)) h in
+    let f = as_before (λ p. has_its_tokens p (variable_parts v.2.inner)) false c.args.tokens.now c.mark_after-2.new.tokens (c.in_ok-other.ensures.kept ∘ (c.in_ok-second.ensures.kept ∘ kept)) h in
     rw (c.in_ok-first.ensures.found, e, f) refl)
 
 pub returns-clause-found : goal.returns-clause-found
 returns-clause-found c =
     let v = c.args.policy.now.variables in
-    let kept = c.in_ok-comma.ensures.kept ∙ c.in_ok-first.ensures.kept in
+    let kept = c.in_ok-comma.ensures.kept ∘ c.in_ok-first.ensures.kept in
     let e = as_before (λ p. has_its_tokens p (variable_parts v.1.inner)) true c.args.tokens.now c.mark_after.new.tokens kept c.in_ok-second.ensures.found in
-    let f = as_before (λ p. has_its_tokens p (variable_parts v.2.inner)) true c.args.tokens.now c.mark_after-2.new.tokens (c.in_ok-other.ensures.kept ∙ (c.in_ok-second.ensures.kept ∙ kept)) c.in_ok-third.ensures.found in
+    let f = as_before (λ p. has_its_tokens p (variable_parts v.2.inner)) true c.args.tokens.now c.mark_after-2.new.tokens (c.in_ok-other.ensures.kept ∘ (c.in_ok-second.ensures.kept ∘ kept)) c.in_ok-third.ensures.found in
     rw (c.in_ok-first.ensures.found, e, f) refl

@@ -1,7 +1,7 @@
 use Rattle.std.proofs.Common.{◌≡◌, ◌∷◌, [], true, false, refl, sym, ap, ◌∙◌, subst}
 use Rattle.std.proofs.lemmas.Int.{to_z-of_z}
 use mir.Syntax.{w64}
-use Rattle.cedar_grammar.specs.TypedTrees.{yield}
+use Rattle.cedar_grammar.specs.TypedTrees.{tree_yield}
 use Rattle.cedar_layout.specs.Layout.{◌·◌, group, line, nest}
 use Rattle.cedar_layout.specs.Value.{doc_of}
 use Rattle.cedar_layout.proofs.Values.{doc_of_line}
@@ -23,8 +23,8 @@ returns-clause-shows c q is o t h k before after place st =
     let word = c.rel_op_text.ensures ∙ (ap (λ (z : RelOp × Node Add). relop_text z.0) (sym same) ∙ h) in
     let sign = rewritten (o ∷ []) (nothing_behind o) (c.in_ok-sign.ensures.shows o word) in
     let width = to_z-of_z w64 c.args.indent c.ranges.indent in
-    let rhs = rewritten (yield t) (ap (λ k. document k t) width) (freely (yield t) (c.in_ok-rhs.ensures.shows t node)) in
-    let all = in_turn (λ a b. group (group (doc_of c.args.left · line · a) · nest c.args.indent (line · b))) (Behind c.left_span.result) Always (o ∷ []) (yield t) sign (λ b p. tt) rhs in
+    let rhs = rewritten (tree_yield t) (ap (λ k. document k t) width) (freely (tree_yield t) (c.in_ok-rhs.ensures.shows t node)) in
+    let all = in_turn (λ a b. group (group (doc_of c.args.left · line · a) · nest c.args.indent (line · b))) (Behind c.left_span.result) Always (o ∷ []) (tree_yield t) sign (λ b p. tt) rhs in
     let r = all before after (place ∙ sym (ap (λ s. s.end) c.left_span.ensures)) st in
     let left = c.in_ok-left.ensures ∙ ap group (flat _ _ c.in_ok-vec.ensures.items) in
     let right = c.in_ok-rhs-2.ensures ∙ ap (nest _) (flat _ _ c.in_ok-vec-2.ensures.items) in

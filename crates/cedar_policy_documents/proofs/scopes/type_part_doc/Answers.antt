@@ -1,7 +1,7 @@
 use Rattle.std.proofs.Common.{◌≡◌, ◌∷◌, [], true, false, refl, ap, ◌∙◌, subst}
 use Rattle.std.proofs.lemmas.Int.{to_z-of_z}
 use mir.Syntax.{w64}
-use Rattle.cedar_grammar.specs.TypedTrees.{yield}
+use Rattle.cedar_grammar.specs.TypedTrees.{tree_yield}
 use Rattle.cedar_layout.specs.Layout.{◌·◌, group, line, nest}
 use Rattle.cedar_layout.proofs.Values.{doc_of_line}
 use Rattle.cedar_tree.specs.Erased.{path_parts}
@@ -19,7 +19,7 @@ returns-clause-shows c name is w t h k before after place st =
     let same : name ≡ c.in-Some.name = cc (c.in-Some.is, is) in
     let path = subst (λ (m : Node Name). IsNodeOf (path_parts m.inner.path.items m.inner.name) t) same k in
     let word = rewritten (w ∷ []) (nothing_behind w) (c.in_ok-is_word.ensures.shows w h) in
-    let all = in_turn (λ a b. group (nest c.args.indent (group (line · a) · (line · b)))) (Behind c.args.variable.now.variable.span) Always (w ∷ []) (yield t) word (λ b p. tt) (freely (yield t) (c.in_ok-type_name.ensures.shows c.args.indent t path)) in
+    let all = in_turn (λ a b. group (nest c.args.indent (group (line · a) · (line · b)))) (Behind c.args.variable.now.variable.span) Always (w ∷ []) (tree_yield t) word (λ b p. tt) (freely (tree_yield t) (c.in_ok-type_name.ensures.shows c.args.indent t path)) in
     let r = all before after place st in
     let first = c.in_ok-is_word-2.ensures ∙ ap group (flat _ _ c.in_ok-vec.ensures.items) in
     let row = c.in_ok-group.ensures ∙ ap group (c.in_ok-nest.ensures ∙ ap (nest _) (flat _ _ c.in_ok-row.ensures.items)) in

@@ -3,7 +3,7 @@ use Rattle.std.proofs.lemmas.Int.{to_z-of_z}
 use mir.Syntax.{w64}
 use Rattle.cedar_tokens.specs.Listing.{token_value}
 use Rattle.cedar_grammar.specs.Trees.{Label, leaf, branch, none}
-use Rattle.cedar_grammar.specs.TypedTrees.{parts, yield, variable_bare, variable_is, variable_op, variable_is_op}
+use Rattle.cedar_grammar.specs.TypedTrees.{parts, tree_yield, variable_bare, variable_is, variable_op, variable_is_op}
 use Rattle.cedar_layout.specs.Comments.{trail_of}
 use Rattle.cedar_layout.specs.Layout.{Doc, ◌·◌, nil, text}
 use Rattle.cedar_layout.specs.Lookups.{Shown, comment_parts}
@@ -19,6 +19,7 @@ use Rattle.cedar_leaf_documents.proofs.Flat.{flat}
 use Rattle.cedar_leaf_documents.proofs.Found.{as_before, missed}
 use Rattle.cedar_policy_documents.proofs.ScopeTrees.{unbound, typed, typed_found, compared, untyped, no_operator, nothing_more, ends_later, pair, assembled, document_bare, document_is, document_compared}
 use Rattle.cedar_leaf_documents.proofs.Opened.{opened_leaf, ends_here, in_turn, freely, rewritten, Always, Behind}
+use Rattle.cedar_leaf_documents.proofs.Keeping.{◌∘◌}
 use Rattle.cedar_policy_documents.proofs.scopes.variable_doc.Goals as goal
 
 -- the parts of the document together
@@ -50,10 +51,10 @@ returns-clause-shows c (variable_is x w n) e before after st =
     let q = typed v.entity_type v.ineq w n none o.3 in
     let word = freely (x ∷ []) (λ b a s. c.in_ok-comment.ensures.taken b x a o.0 s) in
     let width = to_z-of_z w64 c.args.indent c.ranges.indent in
-    let is = rewritten (w ∷ yield n) (ap (λ k. type_part k (as_leaf w) (document k n)) width) (c.in_ok-type_part.ensures.shows q.name q.is w n q.word q.path) in
-    let rest = in_turn pair (Behind v.variable.span) Always (w ∷ yield n) [] is (λ b h. tt) (freely [] (c.in_ok-whole.ensures.bare (no_operator v.ineq q.behind))) in
-    let all = in_turn pair Always (Behind v.variable.span) (x ∷ []) ((w ∷ yield n) ++ []) word (λ b h. ends_here v.variable.span (x ∷ []) o.2 b) rest in
-    let r = nothing_more Always (x ∷ (w ∷ yield n)) all before after tt st in
+    let is = rewritten (w ∷ tree_yield n) (ap (λ k. type_part k (as_leaf w) (document k n)) width) (c.in_ok-type_part.ensures.shows q.name q.is w n q.word q.path) in
+    let rest = in_turn pair (Behind v.variable.span) Always (w ∷ tree_yield n) [] is (λ b h. tt) (freely [] (c.in_ok-whole.ensures.bare (no_operator v.ineq q.behind))) in
+    let all = in_turn pair Always (Behind v.variable.span) (x ∷ []) ((w ∷ tree_yield n) ++ []) word (λ b h. ends_here v.variable.span (x ∷ []) o.2 b) rest in
+    let r = nothing_more Always (x ∷ (w ∷ tree_yield n)) all before after tt st in
     (made c (λ z. z) x type o.1 r.0 ∙ document_is (as_leaf x) type, r.1)
 returns-clause-shows c (variable_op x p a) e before after st =
     let v = c.args.variable.now in
@@ -63,9 +64,9 @@ returns-clause-shows c (variable_op x p a) e before after st =
     let q = u.1 in
     let word = freely (x ∷ []) (λ b s t. c.in_ok-comment.ensures.taken b x s o.0 t) in
     let width = to_z-of_z w64 i c.ranges.indent in
-    let bound = rewritten (p ∷ yield a) (ap (λ k. compared_document k (doc_of (Seq c.in_ok-left.left)) p a) width) (c.in_ok-whole.ensures.shows q.operator q.is p a q.word q.right) in
-    let rest = in_turn pair (Behind (span_before v)) (Behind (span_before v)) [] (p ∷ yield a) (λ b s h t. c.in_ok-type_part.ensures.bare u.0 b s t) (λ b h. rw (append-nil b) h) bound in
-    let all = in_turn pair Always (Behind (span_before v)) (x ∷ []) (p ∷ yield a) word (λ b h. rw (u.0) (ends_here v.variable.span (x ∷ []) o.2 b)) rest in
+    let bound = rewritten (p ∷ tree_yield a) (ap (λ k. compared_document k (doc_of (Seq c.in_ok-left.left)) p a) width) (c.in_ok-whole.ensures.shows q.operator q.is p a q.word q.right) in
+    let rest = in_turn pair (Behind (span_before v)) (Behind (span_before v)) [] (p ∷ tree_yield a) (λ b s h t. c.in_ok-type_part.ensures.bare u.0 b s t) (λ b h. rw (append-nil b) h) bound in
+    let all = in_turn pair Always (Behind (span_before v)) (x ∷ []) (p ∷ tree_yield a) word (λ b h. rw (u.0) (ends_here v.variable.span (x ∷ []) o.2 b)) rest in
     let r = all before after tt st in
     (made c (λ z. compared_document i z p a) x nil o.1 r.0 ∙ document_compared i (as_leaf x) p a, r.1)
 returns-clause-shows c (variable_is_op x w n p a) e before after st =
@@ -78,10 +79,10 @@ returns-clause-shows c (variable_is_op x w n p a) e before after st =
     let q = compared v.ineq p a y.behind in
     let word = freely (x ∷ []) (λ b s t. c.in_ok-comment.ensures.taken b x s o.0 t) in
     let width = to_z-of_z w64 i c.ranges.indent in
-    let is = rewritten (w ∷ yield n) (ap (λ k. type_part k (as_leaf w) (document k n)) width) (c.in_ok-type_part.ensures.shows y.name y.is w n y.word y.path) in
-    let bound = rewritten (p ∷ yield a) (ap (λ k. compared_document k (doc_of (Seq c.in_ok-left.left)) p a) width) (c.in_ok-whole.ensures.shows q.operator q.is p a q.word q.right) in
-    let rest = in_turn pair (Behind v.variable.span) (Behind (span_before v)) (w ∷ yield n) (p ∷ yield a) is (λ b h. rw (y.is) (ends_later y.name.span w (yield n) y.place b)) bound in
-    let all = in_turn pair Always (Behind v.variable.span) (x ∷ []) ((w ∷ yield n) ++ (p ∷ yield a)) word (λ b h. ends_here v.variable.span (x ∷ []) o.2 b) rest in
+    let is = rewritten (w ∷ tree_yield n) (ap (λ k. type_part k (as_leaf w) (document k n)) width) (c.in_ok-type_part.ensures.shows y.name y.is w n y.word y.path) in
+    let bound = rewritten (p ∷ tree_yield a) (ap (λ k. compared_document k (doc_of (Seq c.in_ok-left.left)) p a) width) (c.in_ok-whole.ensures.shows q.operator q.is p a q.word q.right) in
+    let rest = in_turn pair (Behind v.variable.span) (Behind (span_before v)) (w ∷ tree_yield n) (p ∷ tree_yield a) is (λ b h. rw (y.is) (ends_later y.name.span w (tree_yield n) y.place b)) bound in
+    let all = in_turn pair Always (Behind v.variable.span) (x ∷ []) ((w ∷ tree_yield n) ++ (p ∷ tree_yield a)) word (λ b h. ends_here v.variable.span (x ∷ []) o.2 b) rest in
     let r = all before after tt st in
     (made c (λ z. compared_document i z p a) x type o.1 r.0, r.1)
 
@@ -100,12 +101,12 @@ returns-in_err-whole-clause-found c =
     let v = c.args.variable.now in
     missed c.from_residual-in_err-whole.result _ _ _ c.from_residual-in_err-whole.ensures.1 c.in_err-whole.ensures.found
     (λ h. let e = as_before (λ p. has_its_tokens p (type_parts v.entity_type none)) true c.args.tokens.now c.comment_at_start.new.tokens c.in_ok-comment.ensures.kept c.in_ok-type_part.ensures.found in
-    let f = as_before (λ p. has_its_tokens p (operator_parts v.ineq)) false c.args.tokens.now c.type_part_doc.new.tokens (c.in_ok-type_part.ensures.kept ∙ c.in_ok-comment.ensures.kept) h in
+    let f = as_before (λ p. has_its_tokens p (operator_parts v.ineq)) false c.args.tokens.now c.type_part_doc.new.tokens (c.in_ok-type_part.ensures.kept ∘ c.in_ok-comment.ensures.kept) h in
     rw (c.in_ok-comment.ensures.found, typed_found (places c.args.tokens.now) v.entity_type (operator_parts v.ineq), e, f) refl)
 
 pub returns-clause-found : goal.returns-clause-found
 returns-clause-found c =
     let v = c.args.variable.now in
     let e = as_before (λ p. has_its_tokens p (type_parts v.entity_type none)) true c.args.tokens.now c.comment_at_start.new.tokens c.in_ok-comment.ensures.kept c.in_ok-type_part.ensures.found in
-    let f = as_before (λ p. has_its_tokens p (operator_parts v.ineq)) true c.args.tokens.now c.type_part_doc.new.tokens (c.in_ok-type_part.ensures.kept ∙ c.in_ok-comment.ensures.kept) c.in_ok-whole.ensures.found in
+    let f = as_before (λ p. has_its_tokens p (operator_parts v.ineq)) true c.args.tokens.now c.type_part_doc.new.tokens (c.in_ok-type_part.ensures.kept ∘ c.in_ok-comment.ensures.kept) c.in_ok-whole.ensures.found in
     rw (c.in_ok-comment.ensures.found, typed_found (places c.args.tokens.now) v.entity_type (operator_parts v.ineq), e, f) refl
