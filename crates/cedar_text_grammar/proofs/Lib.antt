@@ -1,0 +1,5 @@
+pub mod TextTests
+pub mod SameLanguages
+pub mod SameGrammars
+pub mod TextBeginnings
+pub mod WholeTexts

@@ -1,0 +1,3 @@
+pub mod TextGrammar
+pub mod AcceptedTexts
+pub mod Laws
