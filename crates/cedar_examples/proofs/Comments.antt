@@ -6,11 +6,10 @@ use Rattle.std.specs.Str.{IsUtf8}
 use Rattle.std.proofs.lemmas.List.{map-append, take_all, take_more}
 use Rattle.std.proofs.lemmas.List.Folds.{flat_map-map}
 use Rattle.std.proofs.lemmas.Grind.{flat_map-append}
-use Rattle.cedar_tokens.specs.Listing.{Decorated, IsListing, Listing, ListingIsUnique, by_value, comment_of_line, comments, lines, listing}
-use Rattle.cedar_tokens.specs.PlainList.{is_empty, is_trailing_comma, plain_from, plain_list, touches, with_lines_of, with_trailing_of}
+use Rattle.cedar_tokens.specs.Listing.{Decorated, IsListing, Listing, ListingIsUnique, by_value, comment_of_line, comments, is_empty, lines, listing}
+use Rattle.cedar_tokens.specs.PlainList.{is_trailing_comma, plain_from, plain_list, touches, with_lines_of, with_trailing_of}
 use Rattle.cedar_tokens.specs.Tokens.{decorated, leading_lines, trailing_text}
 use Rattle.cedar_tokens.specs.declared.token.WrappedToken.{WrappedToken}
-use Rattle.cedar_grammar.specs.Texts.{Accepted}
 use Rattle.cedar_canonical.specs.Canonical.{IsOutputOf, OutputHasTheList, OutputIsAccepted, plain_listing}
 use Rattle.cedar_examples.specs.Comments.{AreCommentsOf, HaveEqualComments, comments_in}
 use Rattle.cedar_examples.specs.Keys.{IsKeyOf}
@@ -86,9 +85,9 @@ output_keeps_comments has w i x y m u o h =
     sym (values_keep m) ∙ ap comments_in (has w i x y m u o h).0 ∙ values_keep (plain_listing o.list) ∙ ap (λ z. z ++ o.list.closing) (plain_list_keeps o.list.tokens)
 
 -- where a text has the comments of another, so does its key
-pub printed_keeps : OutputHasTheList → OutputIsAccepted → ListingIsUnique → (before after out : List ℕ) → IsUtf8 after → Accepted after → IsKeyOf after out → HaveEqualComments before after → HaveEqualComments before out
-printed_keeps has accepted unique before after out u a o (l, m, f, g, e) =
-    let t = accepted 80 (pos 2) after out u a o in
+pub printed_keeps : OutputHasTheList → OutputIsAccepted → ListingIsUnique → (before after out : List ℕ) → IsUtf8 after → IsKeyOf after out → HaveEqualComments before after → HaveEqualComments before out
+printed_keeps has accepted unique before after out u o (l, m, f, g, e) =
+    let t = accepted 80 (pos 2) after out u o in
     let h : IsListing out (listing t.1.units) = record { units = t.1.units; split = t.1.split; value = refl } in
     (l, listing t.1.units, f, h, e ∙ ap comments_in (unique after m o.list g o.is_list) ∙ sym (output_keeps_comments has 80 (pos 2) after out (listing t.1.units) u o h))
 

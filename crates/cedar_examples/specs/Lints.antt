@@ -1,6 +1,6 @@
 -- Why a linter prints nothing.
 use Rattle.std.specs.Prelude.{ℕ, List}
-use Rattle.cedar_tree.specs.Refusals.{Refuses}
+use Rattle.cedar_tree.specs.Refusals.{OutOfMemoryOr, Refuses}
 use Rattle.cedar_examples.specs.Comments.{HaveEqualComments}
 use Rattle.cedar_examples.specs.declared.linter.LintError.{LintError}
 use Rattle.cedar_examples.specs.declared.linter.LintError.TheVariants.{OtherComments, Format}
@@ -8,4 +8,4 @@ use Rattle.cedar_examples.specs.declared.linter.LintError.TheVariants.{OtherComm
 -- the rewritten text's comments are others, or it is refused
 abbrev pub FailsLint : List ℕ → List ℕ → LintError → Type 0
 FailsLint before after OtherComments = ¬ (HaveEqualComments before after)
-FailsLint before after (Format e) = Refuses after e
+FailsLint before after (Format e) = OutOfMemoryOr (Refuses after) e

@@ -1,7 +1,7 @@
 //! Formatting on save.
 ghost use Rattle.std.specs.Prelude.{◌≡◌, IfErr, OnErr, OnOk, string_bytes};
 ghost use Rattle.cedar_grammar.specs.Texts.{Accepted};
-ghost use Rattle.cedar_tree.specs.Refusals.{Refuses};
+ghost use Rattle.cedar_tree.specs.Refusals.{OutOfMemoryOr, Refuses};
 ghost use Rattle.cedar_canonical.specs.Canonical.{IsOutputOf};
 
 use cedar_policy_formatter::{Config, FormatError, policies_str_to_pretty};
@@ -11,7 +11,7 @@ use std::alloc::Global;
 pub fn save(alloc: Global, buffer: &mut String, config: &Config) -> Result<(), FormatError>
     ensures accepted { OnOk result (Accepted (string_bytes buffer.old)) }
     ensures output { OnOk result (IsOutputOf config.now.line_width config.now.indent_width (string_bytes buffer.old) (string_bytes buffer.new)) }
-    ensures refused { IfErr result (Refuses (string_bytes buffer.old)) }
+    ensures refused { IfErr result (OutOfMemoryOr (Refuses (string_bytes buffer.old))) }
     ensures kept { OnErr result (string_bytes buffer.new ≡ string_bytes buffer.old) }
 {
     *buffer = policies_str_to_pretty(alloc, buffer.as_str(), config)?;

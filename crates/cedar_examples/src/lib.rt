@@ -1,14 +1,16 @@
-//! What a user of the formatter writes: four small callers, proved from its public contracts alone.
+//! What a user of the formatter writes: five small callers, proved from its public contracts alone.
 //!
-//! A store that keys policies by their canonical text, a linter that can't lose a comment, a fingerprint for reviews, and
-//! formatting on save.
+//! A store that keys policies by their canonical text, a linter that can't lose a comment, a fingerprint for reviews,
+//! formatting on save, and the document of a policy.
 #![tactic(auto)]
 
+mod documents;
 mod format_on_save;
 mod linter;
 mod policy_store;
 mod review;
 
+pub use documents::first_document;
 pub use format_on_save::save;
 pub use linter::{LintError, comments_of, print_rewritten};
 pub use policy_store::{Store, key, keys_tell_lists};

@@ -1,7 +1,7 @@
 //! A store that keys policies by their canonical text.
 ghost use Rattle.std.specs.Prelude.{◌≡◌, ◌↔◌, IfOk, IsTrue, MatchResult, OnErr, OnOk, [], string_bytes};
 ghost use Rattle.cedar_grammar.specs.Texts.{Accepted};
-ghost use Rattle.cedar_tree.specs.Refusals.{Refuses};
+ghost use Rattle.cedar_tree.specs.Refusals.{OutOfMemoryOr, Refuses};
 ghost use Rattle.cedar_examples.specs.Keys.{Gains, HasKeyOf, IsKeyOf, KeysTellLists};
 
 use cedar_policy_formatter::fmt::outputs_are_canonical;
@@ -13,7 +13,7 @@ use std::marker::Model;
 
 /// The key of a policy text: its layout at 80 columns a line and 2 a level.
 pub fn key(alloc: Global, text: &str) -> Result<String, FormatError>
-    ensures answer { MatchResult result (λ _. Accepted text.now) (Refuses text.now) }
+    ensures answer { MatchResult result (λ _. Accepted text.now) (OutOfMemoryOr (Refuses text.now)) }
     ensures key { IfOk result (λ k. IsKeyOf text.now (string_bytes k)) }
 {
     policies_str_to_pretty(alloc, text, &Config::default())
@@ -54,7 +54,7 @@ impl Store {
 
     /// Whether a text with the same key is in the store.
     pub fn contains(&self, alloc: Global, text: &str) -> Result<bool, FormatError>
-        ensures answer { MatchResult result (λ _. Accepted text.now) (Refuses text.now) }
+        ensures answer { MatchResult result (λ _. Accepted text.now) (OutOfMemoryOr (Refuses text.now)) }
         ensures held { IfOk result (λ r. IsTrue r ↔ HasKeyOf self.now text.now) }
     {
         keys_tell_lists();
@@ -64,7 +64,7 @@ impl Store {
 
     /// Adds a text. A text that is refused leaves the store as it was.
     pub fn insert(&mut self, alloc: Global, text: &str) -> Result<(), FormatError>
-        ensures answer { MatchResult result (λ _. Accepted text.now) (Refuses text.now) }
+        ensures answer { MatchResult result (λ _. Accepted text.now) (OutOfMemoryOr (Refuses text.now)) }
         ensures gains { OnOk result (Gains self.old self.new text.now) }
         ensures kept { OnErr result (self.new ≡ self.old) }
     {

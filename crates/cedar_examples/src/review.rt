@@ -1,7 +1,7 @@
 //! A fingerprint of policies, for reviews.
 ghost use Rattle.std.specs.Prelude.{IfOk, MatchResult};
 ghost use Rattle.cedar_grammar.specs.Texts.{Accepted};
-ghost use Rattle.cedar_tree.specs.Refusals.{Refuses};
+ghost use Rattle.cedar_tree.specs.Refusals.{OutOfMemoryOr, Refuses};
 ghost use Rattle.cedar_examples.specs.Fingerprints.{FingerprintsGoByLists, IsFingerprintOf};
 
 use crate::policy_store::{key, keys_tell_lists};
@@ -11,7 +11,7 @@ use std::alloc::Global;
 
 /// The SHA-256 digest of a policy text's key, so that a review that names it covers every text of the same layout.
 pub fn fingerprint(alloc: Global, text: &str) -> Result<[u8; 32], FormatError>
-    ensures answer { MatchResult result (λ _. Accepted text.now) (Refuses text.now) }
+    ensures answer { MatchResult result (λ _. Accepted text.now) (OutOfMemoryOr (Refuses text.now)) }
     ensures digest { IfOk result (IsFingerprintOf text.now) }
 {
     let key = key(alloc, text)?;
