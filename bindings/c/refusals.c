@@ -1,7 +1,8 @@
 /*
- * Formats the policies of standard input with the first block of memory refused, then the second, and so on, until none is:
- * for tests/bindings, which links it so that malloc and realloc go through the functions below. Writes how many blocks were
- * refused and the kind of the last answer; the status is 1 where an answer in between is another one than want of memory,
+ * Makes each call that takes memory with the first block of memory refused, then the second, and so on, until none is: for
+ * tests/bindings, which links it so that malloc and realloc go through the functions below. The text is standard input; where it
+ * is accepted, its layout is the second text. Writes a line for each call, its name, how many blocks were refused, and the last
+ * answer's kind and number, and then the layout. The status is 1 where an answer in between is another than out of memory,
  * or comes with a changed room.
  */
 #include "cedar_formatter.h"
@@ -20,6 +21,10 @@ void *__wrap_realloc(void *block, size_t size);
 /* How many blocks are given before one is refused; below 0, none is. */
 static long left = -1;
 
+static char text[ROOM], layout[ROOM], out[ROOM], before[ROOM];
+static size_t len, layout_len;
+static struct cedar_answer answer;
+
 void *__wrap_malloc(size_t size) {
     return left-- == 0 ? NULL : __real_malloc(size);
 }
@@ -28,27 +33,53 @@ void *__wrap_realloc(void *block, size_t size) {
     return left-- == 0 ? NULL : __real_realloc(block, size);
 }
 
-int main(void) {
-    static char text[ROOM], out[ROOM], before[ROOM];
-    size_t len = fread(text, 1, ROOM, stdin);
-    struct cedar_answer answer;
+static void format(void) {
+    cedar_format(text, len, 80, 2, out, ROOM, &answer);
+}
+
+static void is_formatted(void) {
+    cedar_is_formatted(text, len, 80, 2, &answer);
+}
+
+static void same_layout(void) {
+    cedar_same_layout(text, len, layout, layout_len, 80, 2, &answer);
+}
+
+/* Makes a call with each block refused in turn; whether all goes well. */
+static int in_turn(const char *name, void (*call)(void)) {
     long refused = 0;
-    memset(before, '#', ROOM);
     for (;;) {
         memset(out, '#', ROOM);
         left = refused;
-        cedar_format(text, len, 80, 2, out, ROOM, &answer);
+        call();
         if (left >= 0) {
             break;
         }
         left = -1;
         if (answer.kind != CEDAR_OUT_OF_MEMORY || answer.number != 0 || memcmp(out, before, ROOM)) {
-            printf("block %ld: kind %u\n", refused, (unsigned)answer.kind);
-            return 1;
+            printf("%s, block %ld: kind %u\n", name, refused, (unsigned)answer.kind);
+            return 0;
         }
         refused++;
     }
     left = -1;
-    printf("%ld %u\n", refused, (unsigned)answer.kind);
+    printf("%s %ld %u %zu\n", name, refused, (unsigned)answer.kind, answer.number);
+    return 1;
+}
+
+int main(void) {
+    len = fread(text, 1, ROOM, stdin);
+    memset(before, '#', ROOM);
+    if (!in_turn("format", format)) {
+        return 1;
+    }
+    if (answer.kind == CEDAR_RESULT) {
+        layout_len = answer.number;
+        memcpy(layout, out, layout_len);
+    }
+    if (!in_turn("is_formatted", is_formatted) || !in_turn("same_layout", same_layout)) {
+        return 1;
+    }
+    fwrite(layout, 1, layout_len, stdout);
     return 0;
 }

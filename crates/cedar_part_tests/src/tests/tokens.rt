@@ -295,17 +295,36 @@ static TOKENS: [&str; 48] = [
 #[test]
 fn printed_tokens(rt: HostRuntime) {
     for text in &TOKENS {
-        expect_printed(&rt, rt.alloc(), text, text, " ");
+        expect_printed(&rt, rt.alloc(), text, 0, text, " ");
     }
-    expect_printed(&rt, rt.alloc(), "// a\n(// d", "// a\n( // d", "");
+    let text = "// a\npermit // b\n// c\n(// d";
+    expect_printed(&rt, rt.alloc(), text, 1, "// c\n( // d", "");
 }
 
-// The text is one token, which prints `want` and `behind`.
-fn expect_printed(rt: &impl Abort, alloc: Global, text: &str, want: &str, behind: &str) {
+// The text's last token, which so many stand before.
+fn last_token<'a>(
+    rt: &impl Abort,
+    alloc: Global,
+    text: &'a str,
+    before: usize,
+) -> WrappedToken<'a> {
     let stream = get_token_stream(alloc, text).expect(rt, text);
-    let (tokens, _) = stream.expect(rt, text);
-    assert_eq!(rt; tokens.len(), 1, "{text}");
-    let token = tokens.first().expect(rt, text);
+    let (mut tokens, _) = stream.expect(rt, text);
+    let token = tokens.pop().expect(rt, text);
+    assert_eq!(rt; tokens.len(), before, "{text}");
+    token
+}
+
+// The text's last token, which so many stand before, prints `want` and `behind`.
+fn expect_printed(
+    rt: &impl Abort,
+    alloc: Global,
+    text: &str,
+    before: usize,
+    want: &str,
+    behind: &str,
+) {
+    let token = last_token(rt, alloc, text, before);
     let printed = format!(in alloc; "{token}").expect(rt, text);
     let want = format!(in alloc; "{want}{behind}").expect(rt, text);
     expect_text(rt, printed.as_str(), want.as_str(), text);
@@ -339,6 +358,54 @@ fn comments_moved_out(rt: HostRuntime) {
     assert!(rt; taken == copy.comment);
     let empty = WrappedToken::new(Token::Comma, span, Comment::empty(alloc));
     expect_equal(&rt, &token, &empty, true);
+}
+
+// Two texts of one token, and whether the tokens without their comments are equal, the comments, and all with the places.
+static EQUALS: [(&str, &str, (bool, bool, bool)); 11] = [
+    ("// a\n, // t", "// a\n, // t", (true, true, true)),
+    ("// a\n, // t", "// a\n, // u", (true, false, false)),
+    ("// a\n, // t", "// a\n,", (true, false, false)),
+    ("// a\n, // t", "// b\n, // t", (true, false, false)),
+    ("// a\n, // t", "    \n, // t", (true, false, false)),
+    ("// a\n, // t", "// a\n , // t", (true, true, false)),
+    ("// a\n, // t", "// a\n; // t", (false, true, false)),
+    ("a", "b", (false, true, false)),
+    ("1", "2", (false, true, false)),
+    ("\"a\"", "\"b\"", (false, true, false)),
+    ("a", "1", (false, true, false)),
+];
+
+fn expect_equality(
+    rt: &impl Abort,
+    a: &WrappedToken<'_>,
+    b: &WrappedToken<'_>,
+    want: (bool, bool, bool),
+) {
+    let got = (a.token == b.token, a.comment == b.comment, a == b);
+    assert_eq!(rt; got, want, "{a} {b}");
+}
+
+fn expect_equals(rt: &impl Abort, alloc: Global, a: &str, b: &str, want: (bool, bool, bool)) {
+    let first = last_token(rt, alloc, a, 0);
+    let second = last_token(rt, alloc, b, 0);
+    expect_equality(rt, &first, &second, want);
+    expect_equality(rt, &second, &first, want);
+    let copy = first.clone().expect(rt, a);
+    expect_equality(rt, &first, &copy, (true, true, true));
+    let span = Span {
+        start: first.span.start,
+        end: 99,
+    };
+    let longer = WrappedToken::new(copy.token, span, copy.comment);
+    expect_equality(rt, &first, &longer, (true, true, false));
+}
+
+// Each token is equal to its clone, and not to one that ends at another place.
+#[test]
+fn equal_tokens(rt: HostRuntime) {
+    for (a, b, want) in &EQUALS {
+        expect_equals(&rt, rt.alloc(), a, b, *want);
+    }
 }
 
 #[test]

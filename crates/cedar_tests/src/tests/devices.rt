@@ -1,8 +1,10 @@
 //! Readers and writers that fail at a chosen call.
 use super::*;
 use cedar_policy_formatter::{RunFault, Watched, check_stream, format_stream};
+use cedar_run::run_words;
 use std::io;
 use std::io::{ErrorKind, Read, Write};
+use std::rt::Files;
 
 // A reader over memory that gives `most` bytes a call and fails at the call `fails_at`, counted from 1.
 #[derive(Drop)]
@@ -77,6 +79,37 @@ impl Write for Sink<'_> {
     }
 
     fn flush(&mut self) -> io::Result<()> {
+        Ok(())
+    }
+}
+
+// A writer over memory that fails at these calls of `write` and of `flush`, each counted from 1. What is flushed is what it
+// had taken by then.
+#[derive(Drop)]
+struct Buffer<'a> {
+    taken: &'a mut Vec<u8>,
+    flushed: &'a mut Vec<u8>,
+    calls: (usize, usize),
+    fails_at: (usize, usize),
+}
+
+impl Write for Buffer<'_> {
+    fn write(&mut self, buf: &[u8]) -> io::Result<usize> {
+        self.calls.0 = self.calls.0.saturating_add(1);
+        if self.calls.0 == self.fails_at.0 {
+            return Err(io::Error::from(ErrorKind::Other));
+        }
+        self.taken.extend_from_slice(buf)?;
+        Ok(buf.len())
+    }
+
+    fn flush(&mut self) -> io::Result<()> {
+        self.calls.1 = self.calls.1.saturating_add(1);
+        if self.calls.1 == self.fails_at.1 {
+            return Err(io::Error::from(ErrorKind::Other));
+        }
+        self.flushed.clear();
+        self.flushed.extend_from_slice(self.taken.as_slice())?;
         Ok(())
     }
 }
@@ -318,4 +351,141 @@ fn large_runs(rt: HostRuntime) {
         };
         expect_run(&rt, rt.alloc(), &run);
     }
+}
+
+// What a run of the program wrote to the output, how much of that is flushed, what it told, and its status.
+#[derive(Drop)]
+struct Written {
+    output: Vec<u8>,
+    flushed: Vec<u8>,
+    errors: Vec<u8>,
+    status: u8,
+}
+
+// A run on these words, with the calls at which writing and flushing fail.
+fn written_by<R: Files + AllocGlobal + Abort>(
+    rt: &R,
+    words: &[&str],
+    text: &str,
+    fails_at: (usize, usize),
+) -> Written {
+    let alloc = rt.alloc();
+    let mut given = Vec::new(alloc);
+    for word in words {
+        let word = String::from_str(alloc, word).expect(rt, "memory");
+        given.push(word).expect(rt, "memory");
+    }
+    let mut output = Vec::new(alloc);
+    let mut flushed = Vec::new(alloc);
+    let mut errors = Vec::new(alloc);
+    let mut writer = Watched::new(Buffer {
+        taken: &mut output,
+        flushed: &mut flushed,
+        calls: (0, 0),
+        fails_at,
+    });
+    let mut teller = Sink::new(&mut errors, 7, 0, ErrorKind::Other);
+    let reader = Source::new(text.as_bytes(), usize::MAX, 0);
+    let status = run_words(rt, given.as_slice(), reader, &mut writer, &mut teller);
+    Written {
+        output,
+        flushed,
+        errors,
+        status,
+    }
+}
+
+// A run of the program: its words, its text, the calls at which writing and flushing fail, what it writes to the output,
+// what of that is flushed, what it tells, and its status.
+#[derive(Drop)]
+struct Flush<'a> {
+    name: &'static str,
+    words: &'a [&'static str],
+    text: &'a str,
+    fails_at: (usize, usize),
+    output: &'a str,
+    flushed: &'a str,
+    errors: &'a str,
+    status: u8,
+}
+
+static FLUSHES: [Flush<'static>; 5] = [
+    Flush {
+        name: "all is flushed",
+        words: &["cedar", "format"],
+        text: "permit(principal,action,resource);",
+        fails_at: (0, 0),
+        output: "permit (principal, action, resource);\n",
+        flushed: "permit (principal, action, resource);\n",
+        errors: "",
+        status: 0,
+    },
+    Flush {
+        name: "no flush",
+        words: &["cedar", "format"],
+        text: "permit(principal,action,resource);",
+        fails_at: (0, 1),
+        output: "permit (principal, action, resource);\n",
+        flushed: "",
+        errors: "cedar: cannot write the output\n",
+        status: 1,
+    },
+    Flush {
+        name: "nothing to flush",
+        words: &["cedar", "format", "--check"],
+        text: "permit (principal, action, resource);\n",
+        fails_at: (1, 1),
+        output: "",
+        flushed: "",
+        errors: "",
+        status: 0,
+    },
+    Flush {
+        name: "a refused text and no write",
+        words: &["cedar", "format"],
+        text: "permit(principal,action,resource)",
+        fails_at: (1, 0),
+        output: "",
+        flushed: "",
+        errors: "cedar: not in the grammar at byte 33\n",
+        status: 1,
+    },
+    Flush {
+        name: "a refused text, no write and no flush",
+        words: &["cedar", "format"],
+        text: "permit(principal,action,resource)",
+        fails_at: (1, 1),
+        output: "",
+        flushed: "",
+        errors: "cedar: not in the grammar at byte 33\n",
+        status: 1,
+    },
+];
+
+fn expect_written(rt: &impl Abort, got: &[u8], want: &str, row: &str) {
+    assert!(rt; got == want.as_bytes(), "{row}");
+}
+
+#[test]
+fn flushes(rt: HostRuntime) {
+    for row in &FLUSHES {
+        let got = written_by(&rt, row.words, row.text, row.fails_at);
+        assert_eq!(rt; got.status, row.status, "{}", row.name);
+        expect_written(&rt, got.output.as_slice(), row.output, row.name);
+        expect_written(&rt, got.flushed.as_slice(), row.flushed, row.name);
+        expect_written(&rt, got.errors.as_slice(), row.errors, row.name);
+    }
+}
+
+#[test]
+fn flushes_help(rt: HostRuntime) {
+    let words = ["cedar", "--help"].as_slice();
+    let whole = written_by(&rt, words, "", (0, 0));
+    assert_eq!(rt; whole.status, 0);
+    assert!(rt; !whole.output.is_empty() && whole.flushed == whole.output);
+    let unflushed = written_by(&rt, words, "", (0, 1));
+    assert_eq!(rt; unflushed.status, 1);
+    assert!(rt; unflushed.output == whole.output && unflushed.flushed.is_empty());
+    let told = "cedar: cannot write the output\n";
+    expect_written(&rt, unflushed.errors.as_slice(), told, "help");
 }

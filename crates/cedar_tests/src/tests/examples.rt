@@ -1,6 +1,10 @@
 //! The examples of `docs/CALLING.md`, each called once.
 use super::*;
-use cedar_examples::{LintError, Store, comments_of, fingerprint, print_rewritten, save};
+use cedar_examples::{
+    LintError, Store, comments_of, fingerprint, first_document, print_rewritten, save,
+};
+use cedar_policy_formatter::layout::{Document, render};
+use std::alloc::AllocError;
 
 const TEXT: &str = "permit(principal,action,resource,);// who";
 
@@ -65,4 +69,26 @@ fn buffers_are_saved(rt: HostRuntime) {
     let got = save(alloc, &mut refused, &Config::default()).err();
     expect_refusal(&rt, got, Some(FormatError::Grammar { at: 6 }), "permit");
     expect_text(&rt, refused.as_str(), "permit", "permit");
+}
+
+// The text of a document at width 80; of none, the empty text.
+fn shown(alloc: Global, document: &Option<Document<'_>>) -> Result<String, AllocError> {
+    let mut out = String::new(alloc);
+    if let Some(document) = document {
+        render(alloc, document, 80, &mut out)?;
+    }
+    Ok(out)
+}
+
+#[test]
+fn first_policies_have_documents(rt: HostRuntime) {
+    let alloc = rt.alloc();
+    let config = Config::default();
+    for (text, want) in &[(TEXT, LAID_OUT), ("// none", "")] {
+        let made = first_document(alloc, text, &config).expect(&rt, text);
+        let out = shown(alloc, &made).expect(&rt, text);
+        expect_text(&rt, out.as_str(), want, text);
+    }
+    let refused = first_document(alloc, "permit", &config).err();
+    assert_eq!(rt; refused, Some(FormatError::Grammar { at: 6 }), "permit");
 }

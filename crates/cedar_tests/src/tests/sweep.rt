@@ -116,7 +116,7 @@ fn deepest_texts(rt: HostRuntime) {
     }
 }
 
-// Each beginning of these is refused, or its layout is laid out as it is.
+// Each beginning of these is refused as it is by the parser, or its layout is laid out as it is.
 static BEGUN: [&str; 6] = [
     "@id(\"x\")§;",
     "§when{\"a\"\n// c\n== \"b\"};",
@@ -126,13 +126,20 @@ static BEGUN: [&str; 6] = [
     "permit(principal,action,resource // a\n// b\n, // c\n// d\n);",
 ];
 
-fn expect_beginnings(rt: &impl Abort, alloc: Global, text: &str) {
+fn expect_beginning(rt: &impl Abort, alloc: Global, begun: &str) {
     let config = Config::default();
-    for (end, _) in text.char_indices() {
-        let begun = &text[..end];
-        if parse_policies(alloc, begun).is_ok() {
-            expect_stable(rt, alloc, begun, &config);
+    match parse_policies(alloc, begun).err() {
+        None => expect_stable(rt, alloc, begun, &config),
+        refusal => {
+            let got = policies_str_to_pretty(alloc, begun, &config).err();
+            expect_refusal(rt, got, refusal, begun);
         }
+    }
+}
+
+fn expect_beginnings(rt: &impl Abort, alloc: Global, text: &str) {
+    for (end, _) in text.char_indices() {
+        expect_beginning(rt, alloc, &text[..end]);
     }
 }
 
