@@ -2,7 +2,7 @@
 use Rattle.std.specs.Prelude.{◌≡◌, ◌<◌, ◌≤◌, ◌⊎◌, ◌++◌, ℕ, ℤ, List, length, drop, Result, Ok, Err}
 use Rattle.std.specs.Str.{IsUtf8}
 use Rattle.cedar_grammar.specs.Texts.{Accepted}
-use Rattle.cedar_tree.specs.Refusals.{Refuses}
+use Rattle.cedar_tree.specs.Refusals.{OutOfMemoryOr, Refuses}
 use Rattle.cedar_tree.specs.declared.error.FormatError.{FormatError}
 use Rattle.cedar_tree.specs.declared.error.FormatError.TheVariants.{UnknownCharacter, UnfinishedString, NumberTooLarge, Grammar, TooDeep, NoDocument, Unsound, OutOfMemory}
 use Rattle.cedar_canonical.specs.Canonical.{IsOutputOf}
@@ -53,23 +53,19 @@ TellsPut y old new (Err e) = ⊥
 -- why the bytes are no accepted text: they are not UTF-8; or the text is refused
 abbrev pub FailsOn : List ℕ → CallFault → Type 0
 FailsOn text NotUtf8 = ¬ (IsUtf8 text)
-FailsOn text (Format e) = IsUtf8 text × Refuses text e
+FailsOn text (Format e) = IsUtf8 text × OutOfMemoryOr (Refuses text) e
 FailsOn text (NoRoom n) = ⊥
 
 -- of two, one is no text; or both are, and one is refused
 abbrev pub FailsOnOne : List ℕ → List ℕ → CallFault → Type 0
 FailsOnOne a b NotUtf8 = ¬ (IsUtf8 a) ⊎ ¬ (IsUtf8 b)
-FailsOnOne a b (Format e) = IsUtf8 a × IsUtf8 b × RefusesOne a b e
+FailsOnOne a b (Format e) = IsUtf8 a × IsUtf8 b × OutOfMemoryOr (RefusesOne a b) e
 FailsOnOne a b (NoRoom n) = ⊥
-
--- y is the output of the accepted text
-abbrev pub HasOutput : ℕ → ℤ → List ℕ → List ℕ → Type 0
-HasOutput w i text y = IsUtf8 text × Accepted text × IsOutputOf w i text y
 
 -- the text's output was put into the room, or has none there; or there is no output, and the room is unchanged
 abbrev pub TellsFormat : ℕ → ℤ → List ℕ → List ℕ → List ℕ → Result ℕ CallFault → Type 0
-TellsFormat w i text old new (Ok n) = (y : List ℕ) × HasOutput w i text y × TellsPut y old new (Ok n)
-TellsFormat w i text old new (Err (NoRoom n)) = (y : List ℕ) × HasOutput w i text y × TellsPut y old new (Err (NoRoom n))
+TellsFormat w i text old new (Ok n) = (y : List ℕ) × IsUtf8 text × IsOutputOf w i text y × TellsPut y old new (Ok n)
+TellsFormat w i text old new (Err (NoRoom n)) = (y : List ℕ) × IsUtf8 text × IsOutputOf w i text y × TellsPut y old new (Err (NoRoom n))
 TellsFormat w i text old new (Err e) = FailsOn text e × (new ≡ old)
 
 -- whether the accepted text is its own output

@@ -1,10 +1,11 @@
--- Outputs are accepted texts.
+-- Outputs are accepted texts, and their own outputs.
 use Rattle.std.proofs.Common.{◌≡◌, ℕ, Bool, true, false, cond, not, ◌&&◌, ◌||◌, ◌==◌, List, [], ◌∷◌, length, map, refl, ap, sym, ◌∙◌, subst}
 use Rattle.std.specs.List.{list_any}
 use Rattle.std.specs.Str.Parse.{digits_value}
 use Rattle.std.proofs.lemmas.Bool.Decides.{Decides-eqb}
 use Rattle.cedar_tokens.specs.Units.{is_token, is_number}
 use Rattle.cedar_tokens.specs.Listing.{Decorated, Listing, token_value, without_zeros}
+use Rattle.cedar_tokens.specs.PlainList.{plain_list}
 use Rattle.cedar_tokens.proofs.Prefixes.{and_parts}
 use Rattle.cedar_tokens.proofs.Scanning.{split_unique}
 use Rattle.cedar_tokens.proofs.Longest.{is_token-number}
@@ -14,7 +15,7 @@ use Rattle.cedar_grammar.specs.TokenKinds.{kind_of}
 use Rattle.cedar_grammar.specs.Grammar.{G}
 use Rattle.cedar_grammar.specs.Laws.{kind_of_decorated}
 use Rattle.cedar_grammar.specs.Numbers.{is_too_large}
-use Rattle.cedar_grammar.specs.Texts.{greatest_depth, tokens}
+use Rattle.cedar_grammar.specs.Texts.{greatest_depth, only_tokens}
 use Rattle.cedar_grammar.specs.TrailingCommas.{drop_if, plain}
 use Rattle.cedar_grammar.specs.TypedTrees.{set_tree}
 use Rattle.cedar_grammar.proofs.RuleMaps.{each, relabel}
@@ -23,11 +24,11 @@ use Rattle.cedar_grammar.proofs.Relabelling.{relabelled, each_map}
 use Rattle.cedar_grammar.proofs.ListingTexts.{listing_texts}
 use Rattle.cedar_canonical.specs.Leaves.{part_map}
 use Rattle.cedar_canonical.specs.Output.{with_value, tokens_of}
-use Rattle.cedar_canonical.specs.Canonical.{OutputIsAccepted}
+use Rattle.cedar_canonical.specs.Canonical.{OutputIsAccepted, OutputIsItsOwn}
 use Rattle.cedar_text_laws.proofs.Listed.{number_value}
 use Rattle.cedar_canonical.proofs.ByValue.{tokens_map}
-use Rattle.cedar_canonical.proofs.Grammatical.{value_tree}
-use Rattle.cedar_canonical.proofs.CanonicalForm.{own_list}
+use Rattle.cedar_canonical.proofs.Grammatical.{value_tree, trees_of, leaves_of, grammar_of}
+use Rattle.cedar_canonical.proofs.CanonicalForm.{own_list, output_list, value_texts}
 
 -- ---- numbers
 
@@ -58,11 +59,11 @@ other_small u h = go (is_number u) refl
     go true e = absurd (let k = is_token-number u e in cc)
     go false e = rw e refl
 
-large_tokens : (us : List (List ℕ)) → list_any is_too_large us ≡ list_any is_too_large (tokens us)
+large_tokens : (us : List (List ℕ)) → list_any is_too_large us ≡ list_any is_too_large (only_tokens us)
 large_tokens [] = refl
 large_tokens (u ∷ us) = go (is_token u) refl (large_tokens us)
   where
-    go : (t : Bool) → is_token u ≡ t → list_any is_too_large us ≡ list_any is_too_large (tokens us) → (is_too_large u || list_any is_too_large us) ≡ list_any is_too_large (cond t (u ∷ tokens us) (tokens us))
+    go : (t : Bool) → is_token u ≡ t → list_any is_too_large us ≡ list_any is_too_large (only_tokens us) → (is_too_large u || list_any is_too_large us) ≡ list_any is_too_large (cond t (u ∷ only_tokens us) (only_tokens us))
     go true e ih = ap (λ z. is_too_large u || z) ih
     go false e ih = rw (other_small u e) ih
 
@@ -85,19 +86,33 @@ small_plain (u ∷ us) h = let p = parts (is_too_large u) h in go (is K.Comma (k
 -- ---- outputs
 
 pub output_accepted : OutputIsAccepted
-output_accepted w i x y u a o =
+output_accepted w i x y u o =
+    let a = o.accepted in
     let own = own_list w i x y u o in
     let ts = tokens_of o.policies in
-    let texts : tokens own.units ≡ map (λ (t : Decorated). t.text) (map with_value ts) = sym (listing_texts own.units) ∙ ap (λ (l : Listing). map (λ (t : Decorated). t.text) l.tokens) (sym own.value) in
+    let texts : only_tokens own.units ≡ map (λ (t : Decorated). t.text) (map with_value ts) = sym (listing_texts own.units) ∙ ap (λ (l : Listing). map (λ (t : Decorated). t.text) l.tokens) (sym own.value) in
     let units : a.1.units ≡ o.is_list.units = split_unique x a.1.units o.is_list.units a.1.split o.is_list.split in
-    let before : map (λ (t : Decorated). t.text) o.list.tokens ≡ tokens a.1.units = ap (λ (l : Listing). map (λ (t : Decorated). t.text) l.tokens) o.is_list.value ∙ (listing_texts o.is_list.units ∙ ap tokens (sym units)) in
+    let before : map (λ (t : Decorated). t.text) o.list.tokens ≡ only_tokens a.1.units = ap (λ (l : Listing). map (λ (t : Decorated). t.text) l.tokens) o.is_list.value ∙ (listing_texts o.is_list.units ∙ ap only_tokens (sym units)) in
     let small : list_any is_too_large (map (λ (t : Decorated). t.text) o.list.tokens) ≡ false = ap (list_any is_too_large) before ∙ (sym (large_tokens a.1.units) ∙ a.1.fitting) in
     let fitting : list_any is_too_large own.units ≡ false =
-    large_tokens own.units ∙ (ap (list_any is_too_large) texts ∙ (large_values ts ∙ (ap (λ z. list_any is_too_large (map (λ (t : Decorated). t.text) z)) o.leaves
+    large_tokens own.units ∙ (ap (list_any is_too_large) texts ∙ (large_values ts ∙ (ap (λ z. list_any is_too_large (map (λ (t : Decorated). t.text) z)) (leaves_of o)
     ∙ (ap (list_any is_too_large) (plain_texts_agree o.list.tokens) ∙ small_plain (map (λ (t : Decorated). t.text) o.list.tokens) small)))) in
-    let tree = value_tree o.policies o.trees in
+    let tree = value_tree o.policies (trees_of o) in
     let ps = map (part_map with_value) o.policies in
     let f = relabel (λ (t : Decorated). t.text) (set_tree kind_of_decorated ps) in
     let g : G kind_of greatest_depth f (each (λ (t : Decorated). t.text) (tokens_of ps)) = relabelled (λ (t : Decorated). t.text) kind_of_decorated kind_of (λ t. refl) greatest_depth (set_tree kind_of_decorated ps) (tokens_of ps) tree.grammar in
-    let leaves : each (λ (t : Decorated). t.text) (tokens_of ps) ≡ tokens own.units = each_map (λ (t : Decorated). t.text) (tokens_of ps) ∙ (ap (map (λ (t : Decorated). t.text)) (tokens_map o.policies) ∙ sym texts) in
+    let leaves : each (λ (t : Decorated). t.text) (tokens_of ps) ≡ only_tokens own.units = each_map (λ (t : Decorated). t.text) (tokens_of ps) ∙ (ap (map (λ (t : Decorated). t.text)) (tokens_map o.policies) ∙ sym texts) in
     (f, record { units = own.units; split = own.split; fitting = fitting; grammar = subst (λ z. G kind_of greatest_depth f z) leaves g })
+
+pub output_again : OutputIsItsOwn
+output_again w i x y u o =
+    let l = own_list w i x y u o in
+    let h = output_list w i x y (record { tokens = map with_value (tokens_of o.policies); closing = o.list.closing }) u o l in
+    record {
+      accepted = output_accepted w i x y u o;
+      list = record { tokens = map with_value (tokens_of o.policies); closing = o.list.closing };
+      is_list = l;
+      policies = map (part_map with_value) o.policies;
+      grammar = grammar_of (map (part_map with_value) o.policies) (plain_list (map with_value (tokens_of o.policies))) (value_tree o.policies (trees_of o)) (tokens_map o.policies ∙ sym (ap (λ (l : Listing). l.tokens) h.1));
+      output = record { texts = o.output.texts; cleaned = value_texts w i o.policies o.output.texts o.output.cleaned; written = o.output.written };
+    }

@@ -13,7 +13,7 @@ use Rattle.cedar_canonical.specs.Fit.{PartFit}
 use Rattle.cedar_canonical.specs.Gaps.{Spelled}
 use Rattle.cedar_text_laws.specs.Good.{IsGood, IsLine}
 use Rattle.cedar_layout.specs.Cleaning.{IsCleaned}
-use Rattle.cedar_canonical.specs.Output.{join, closing_text, PolicyTexts, IsSomeLayout, with_value, tokens_of, EveryLayoutReadsBack}
+use Rattle.cedar_canonical.specs.Output.{paragraphs, closing_text, PolicyTexts, IsSomeLayout, with_value, tokens_of, EveryLayoutReadsBack}
 use Rattle.cedar_text_laws.proofs.Units.{comment_first}
 use Rattle.cedar_text_laws.proofs.Scanned.{scans_unit}
 use Rattle.cedar_text_laws.proofs.Joined.{joined}
@@ -59,7 +59,7 @@ policy_reads i p t f g w =
 joined_reads : (t x : List ℕ) (ts us : List Decorated) (cs : List (List ℕ)) → IsListing t (of_tokens ts) → IsListing x (record { tokens = map with_value us; closing = cs }) → IsListing (t ++ (10 ∷ x)) (record { tokens = map with_value (ts ++ us); closing = cs })
 joined_reads t x ts us cs a b = subst (λ z. IsListing (t ++ (10 ∷ x)) z) (follow_plain (map with_value ts) (map with_value us) cs ∙ ap (λ z. record { tokens = z; closing = cs }) (sym (map-append with_value ts us))) (joined t x (of_tokens ts) (record { tokens = map with_value us; closing = cs }) a b)
 
-policies_read : (i : ℤ) (ps : List (Clause Decorated policy)) (texts cs : List (List ℕ)) → AllByRecursion PartFit ps → AllByRecursion IsGood (tokens_of ps) → AllByRecursion IsLine cs → PolicyTexts IsSomeLayout i ps texts → IsListing (join texts ++ (10 ∷ closing_text cs)) (record { tokens = map with_value (tokens_of ps); closing = cs })
+policies_read : (i : ℤ) (ps : List (Clause Decorated policy)) (texts cs : List (List ℕ)) → AllByRecursion PartFit ps → AllByRecursion IsGood (tokens_of ps) → AllByRecursion IsLine cs → PolicyTexts IsSomeLayout i ps texts → IsListing (paragraphs texts ++ (10 ∷ closing_text cs)) (record { tokens = map with_value (tokens_of ps); closing = cs })
 policies_read i [] [] cs f g c w = joined_reads [] (closing_text cs) [] [] cs nothing_reads (closing_reads cs c)
 policies_read i [] (t ∷ ts) cs f g c w = absurd w
 policies_read i (p ∷ ps) [] cs f g c w = absurd w
@@ -70,9 +70,9 @@ policies_read i (p ∷ (q ∷ ps)) (t ∷ []) cs f g c w = absurd w.1
 policies_read i (p ∷ (q ∷ ps)) (t ∷ (u ∷ ts)) cs f g c w =
     let a = all_split (part_yield p) (tokens_of (q ∷ ps)) g in
     let rest = policies_read i (q ∷ ps) (u ∷ ts) cs f.1 a.1 c w.1 in
-    let gap = joined_reads [] (join (u ∷ ts) ++ (10 ∷ closing_text cs)) [] (tokens_of (q ∷ ps)) cs nothing_reads rest in
-    subst (λ z. IsListing z (record { tokens = map with_value (tokens_of (p ∷ (q ∷ ps))); closing = cs })) (sym (append_assoc t (10 ∷ (10 ∷ join (u ∷ ts))) (10 ∷ closing_text cs)))
-    (joined_reads t (10 ∷ (join (u ∷ ts) ++ (10 ∷ closing_text cs))) (part_yield p) (tokens_of (q ∷ ps)) cs (policy_reads i p t f.0 a.0 w.0) gap)
+    let gap = joined_reads [] (paragraphs (u ∷ ts) ++ (10 ∷ closing_text cs)) [] (tokens_of (q ∷ ps)) cs nothing_reads rest in
+    subst (λ z. IsListing z (record { tokens = map with_value (tokens_of (p ∷ (q ∷ ps))); closing = cs })) (sym (append_assoc t (10 ∷ (10 ∷ paragraphs (u ∷ ts))) (10 ∷ closing_text cs)))
+    (joined_reads t (10 ∷ (paragraphs (u ∷ ts) ++ (10 ∷ closing_text cs))) (part_yield p) (tokens_of (q ∷ ps)) cs (policy_reads i p t f.0 a.0 w.0) gap)
 
 -- Every layout reads back.
 pub reads_back : EveryLayoutReadsBack

@@ -4,16 +4,19 @@ use Rattle.std.specs.Prelude.{pos, if◌then◌else◌}
 use Rattle.std.proofs.lemmas.List.{map-append}
 use Rattle.cedar_tokens.specs.Listing.{Decorated}
 use Rattle.cedar_layout.specs.Layout.{Doc, nil, line, line_or_nil, hard, text, ◌·◌, nest, group}
-use Rattle.cedar_grammar.specs.TypedTrees.{Tree, NodeKind, PartKind, Clause, name, accesses, variable, yield, conds, policy, name_one, name_more, ref_of, args_one, args_more, init_of, inits_one, inits_more, literal, slot, reference, named, parens, list_empty, list_of, record_empty, record_of, no_access, field, call_empty, call, index, member_of, unsigned, signed, products_one, products_more, mult_of, sums_one, sums_more, add_of, single, compare, has_or_like, is_type, is_in, ands_one, ands_more, ors_one, ors_more, plain_expr, if_expr, variable_bare, variable_is, variable_op, variable_is_op, cond_of, no_cond, conds_more, annotation_bare, annotation_value, no_annotation, annotations_more, policy_of, part_yield, tree_map, map_first, expr}
+use Rattle.cedar_grammar.specs.TypedTrees.{Tree, NodeKind, PartKind, Clause, name, accesses, variable, parts, tree_yield, conds, policy, name_one, name_more, ref_of, args_one, args_more, init_of, inits_one, inits_more, literal, slot, reference, named, parens, list_empty, list_of, record_empty, record_of, no_access, field, call_empty, call, index, member_of, unsigned, signed, products_one, products_more, mult_of, sums_one, sums_more, add_of, single, compare, has_or_like, is_type, is_in, ands_one, ands_more, ors_one, ors_more, ors_expr, if_expr, variable_bare, variable_is, variable_op, variable_is_op, cond_of, no_cond, conds_more, annotation_bare, annotation_value, no_annotation, annotations_more, policy_of, part_yield, tree_map, map_first, expr}
+use Rattle.cedar_grammar.specs.Trees.{yield}
+use Rattle.cedar_grammar.specs.Laws.{kind_of_decorated}
 use Rattle.cedar_grammar.proofs.FirstLeaf.{map_first_map}
+use Rattle.cedar_grammar.proofs.TreeLaws.{typed_leaves}
 use Rattle.cedar_canonical.specs.Leaves.{part_map}
-use Rattle.cedar_canonical.specs.Table.{space, leaf, C, lead, tok, trail, lead_of, table, part_table, break_after_field, break_after_other, between_conds, is_bare, type_part, lines_of_first, bare_token, head, variables, scope, body}
+use Rattle.cedar_canonical.specs.Table.{space, printed, C, lead, tok, trail, lead_of, table, part_table, break_after_field, break_after_other, between_conds, is_bare, type_part, lines_of_first, bare_token, variables, scope}
 use Rattle.cedar_canonical.specs.Output.{with_value, tokens_of}
 use Rattle.cedar_canonical.proofs.Values.{value_once}
 
 -- ---- leaves
 
-pub yield_map : {A B : Type 0} {k : NodeKind} (f : A → B) (t : Tree A k) → yield (tree_map f t) ≡ map f (yield t)
+pub yield_map : {A B : Type 0} {k : NodeKind} (f : A → B) (t : Tree A k) → tree_yield (tree_map f t) ≡ map f (tree_yield t)
 yield_map f (name_one x) = refl
 yield_map f (name_more x c r) = simp (yield_map f r)
 yield_map f (ref_of n c s) = simp (map-append, yield_map f n)
@@ -54,7 +57,7 @@ yield_map f (ands_one r) = yield_map f r
 yield_map f (ands_more r o m) = simp (map-append, yield_map f r, yield_map f m)
 yield_map f (ors_one a) = yield_map f a
 yield_map f (ors_more a o m) = simp (map-append, yield_map f a, yield_map f m)
-yield_map f (plain_expr o) = yield_map f o
+yield_map f (ors_expr o) = yield_map f o
 yield_map f (if_expr i c t a h b) = simp (map-append, yield_map f c, yield_map f a, yield_map f b)
 
 pub part_yield_map : {A B : Type 0} {k : PartKind} (f : A → B) (t : Clause A k) → part_yield (part_map f t) ≡ map f (part_yield t)
@@ -94,7 +97,7 @@ tok_value x = ap text (value_once x.text)
 C_value : (x : Decorated) (next : Doc) → C (with_value x) next ≡ C x next
 C_value x next = ap (λ z. lead x · z · trail x next) (tok_value x)
 
-leaf_value : (x : Decorated) → leaf (with_value x) ≡ leaf x
+leaf_value : (x : Decorated) → printed (with_value x) ≡ printed x
 leaf_value x = C_value x nil
 
 field_value : (m : Tree Decorated accesses) → break_after_field (tree_map with_value m) ≡ break_after_field m
@@ -152,14 +155,15 @@ table_value i (ands_one r) = table_value i r
 table_value i (ands_more r o m) = same3 (λ d1 d2 d3. d1 · space · d2 · d3) (table_value i r) (C_value o line) (table_value i m)
 table_value i (ors_one a) = table_value i a
 table_value i (ors_more a o m) = same3 (λ d1 d2 d3. d1 · space · d2 · d3) (table_value i a) (C_value o line) (table_value i m)
-table_value i (plain_expr o) = table_value i o
+table_value i (ors_expr o) = table_value i o
 table_value i (if_expr f c t a e b) = same6 (λ d1 d2 d3 d4 d5 d6. group (d1 · nest i (line · d2) · line · d3 · nest i (line · d4) · line · d5 · nest i (line · d6))) (leaf_value f) (table_value i c) (leaf_value t) (table_value i a) (leaf_value e) (table_value i b)
 
 bare_table : {k : NodeKind} (i : ℤ) (t : Tree Decorated k) → table i (map_first bare_token (tree_map with_value t)) ≡ table i (map_first bare_token t)
 bare_table i t = ap (table i) (map_first_map bare_token bare_token with_value (λ a. refl) t) ∙ table_value i (map_first bare_token t)
 
-first_value : {k : NodeKind} (t : Tree Decorated k) → lines_of_first (yield (tree_map with_value t)) ≡ lines_of_first (yield t)
-first_value t = ap lines_of_first (yield_map with_value t) ∙ go (yield t)
+first_value : {k : NodeKind} (t : Tree Decorated k) → lines_of_first (yield (parts kind_of_decorated (tree_map with_value t))) ≡ lines_of_first (yield (parts kind_of_decorated t))
+first_value t =
+    ap lines_of_first (typed_leaves kind_of_decorated (tree_map with_value t) ∙ yield_map with_value t) ∙ (go (tree_yield t) ∙ ap lines_of_first (sym (typed_leaves kind_of_decorated t)))
   where
     go : (xs : List Decorated) → lines_of_first (map with_value xs) ≡ lines_of_first xs
     go [] = refl
@@ -181,6 +185,10 @@ bare_values p a r = rw (bare_value p, bare_value a, bare_value r) refl
 type_value : (i : ℤ) (is : Decorated) (n : Tree Decorated name) → type_part i (with_value is) (table i (tree_map with_value n)) ≡ type_part i is (table i n)
 type_value i is n = same2 (λ d e. group (nest i (group (line · d) · line · e))) (leaf_value is) (table_value i n)
 
+-- the effect of a policy and the bracket behind it
+abbrev head : Decorated → Decorated → Doc
+head e l = lead e · group (tok e · trail e nil · line · printed l)
+
 head_value : (e l : Decorated) → head (with_value e) (with_value l) ≡ head e l
 head_value e l = same2 (λ x y. lead e · group (x · trail e nil · line · y)) (tok_value e) (leaf_value l)
 
@@ -191,6 +199,10 @@ scope_value : (i : ℤ) {t : Bool} (u : Bool) (c d : Decorated) {p q a b r s : D
 scope_value i u c d {p = p} {a = a} {r = r} ht hp ha hr =
     ap (λ z. scope i z p (with_value c) a (with_value d) r) ht
     ∙ same2 (λ x y. if u then group (nest i x) else (nest i (hard · y) · hard)) (variables_value space c d hp ha hr) (variables_value hard c d hp ha hr)
+
+-- the body of a condition
+abbrev body : ℤ → Tree Decorated expr → Doc
+body i e = lead_of (lines_of_first (yield (parts kind_of_decorated e))) · group (table i (map_first bare_token e))
 
 body_value : (i : ℤ) (e : Tree Decorated expr) → body i (tree_map with_value e) ≡ body i e
 body_value i e = same2 (λ x y. x · group y) (ap lead_of (first_value e)) (bare_table i e)

@@ -1,7 +1,7 @@
 -- What the atoms of tokens print meets the law of gaps.
 use Rattle.std.proofs.Common.{◌≡◌, ℕ, zero, suc, List, [], ◌∷◌, ◌++◌, false, refl, sym, ap, ◌∙◌, append_assoc, replicate}
 use Rattle.cedar_tokens.specs.Listing.{Decorated, token_value}
-use Rattle.cedar_layout.specs.Layout.{Atom, word, space_or_break, nothing_or_break, must_break, Piece, written, space, nothing, broken, print, AreMadeOf}
+use Rattle.cedar_layout.specs.Layout.{Atom, word, space_or_break, nothing_or_break, must_break, Piece, written, flat_space, flat_nothing, broken, print, AreMadeOf}
 use Rattle.std.specs.List.{flat_map}
 use Rattle.cedar_text_laws.specs.Neighbours.{glues, first_or}
 use Rattle.cedar_canonical.specs.Fit.{after_of, before_of}
@@ -111,18 +111,18 @@ made_prints [] [] h = p_nil
 made_prints [] (x ∷ xs) h = absurd h
 made_prints (p ∷ ps) [] h = absurd h
 made_prints (written u ∷ ps) (word s ∷ xs) h = rw h.0 (p_word (made_prints ps xs h.1))
-made_prints (space ∷ ps) (space_or_break ∷ xs) h = p_line (made_prints ps xs h.1)
+made_prints (flat_space ∷ ps) (space_or_break ∷ xs) h = p_line (made_prints ps xs h.1)
 made_prints (broken i ∷ ps) (space_or_break ∷ xs) h = p_line_break i (made_prints ps xs h.1)
-made_prints (nothing ∷ ps) (nothing_or_break ∷ xs) h = p_nothing (made_prints ps xs h.1)
+made_prints (flat_nothing ∷ ps) (nothing_or_break ∷ xs) h = p_nothing (made_prints ps xs h.1)
 made_prints (broken i ∷ ps) (nothing_or_break ∷ xs) h = p_nil_break i (made_prints ps xs h.1)
 made_prints (broken i ∷ ps) (must_break ∷ xs) h = p_hard i (made_prints ps xs h.1)
 made_prints (written u ∷ ps) (space_or_break ∷ xs) h = absurd h.0
 made_prints (written u ∷ ps) (nothing_or_break ∷ xs) h = absurd h.0
 made_prints (written u ∷ ps) (must_break ∷ xs) h = absurd h.0
-made_prints (space ∷ ps) (word s ∷ xs) h = absurd h.0
-made_prints (space ∷ ps) (nothing_or_break ∷ xs) h = absurd h.0
-made_prints (space ∷ ps) (must_break ∷ xs) h = absurd h.0
-made_prints (nothing ∷ ps) (word s ∷ xs) h = absurd h.0
-made_prints (nothing ∷ ps) (space_or_break ∷ xs) h = absurd h.0
-made_prints (nothing ∷ ps) (must_break ∷ xs) h = absurd h.0
+made_prints (flat_space ∷ ps) (word s ∷ xs) h = absurd h.0
+made_prints (flat_space ∷ ps) (nothing_or_break ∷ xs) h = absurd h.0
+made_prints (flat_space ∷ ps) (must_break ∷ xs) h = absurd h.0
+made_prints (flat_nothing ∷ ps) (word s ∷ xs) h = absurd h.0
+made_prints (flat_nothing ∷ ps) (space_or_break ∷ xs) h = absurd h.0
+made_prints (flat_nothing ∷ ps) (must_break ∷ xs) h = absurd h.0
 made_prints (broken i ∷ ps) (word s ∷ xs) h = absurd h.0

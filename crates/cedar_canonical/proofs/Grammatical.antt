@@ -1,7 +1,7 @@
 -- The trees of the written grammar with decorated leaves: one to a list, kept by the values of numbers, and there for every accepted text.
-use Rattle.std.proofs.Common.{◌≡◌, ℕ, suc, ◌≤◌, Bool, true, false, cond, ◌&&◌, List, [], ◌∷◌, length, map, refl, ap, arith, sym, ◌∙◌, subst, append-nil}
-use Rattle.cedar_tokens.specs.Units.{is_number}
-use Rattle.cedar_tokens.specs.Listing.{Decorated, Listing, token_value, without_zeros}
+use Rattle.std.proofs.Common.{◌≡◌, ℕ, ℤ, suc, ◌≤◌, Bool, true, false, cond, ◌&&◌, List, [], ◌∷◌, length, map, refl, ap, arith, sym, ◌∙◌, subst, append-nil}
+use Rattle.cedar_tokens.specs.Units.{is_number, is_token, IsToken}
+use Rattle.cedar_tokens.specs.Listing.{Decorated, Listing, IsListing, token_value, without_zeros}
 use Rattle.cedar_tokens.specs.PlainList.{plain_list, plain_from}
 use Rattle.cedar_tokens.proofs.Scanning.{split_unique}
 use Rattle.cedar_grammar.specs.declared.kind.Kind.{Kind}
@@ -11,7 +11,7 @@ use Rattle.cedar_grammar.specs.TokenKinds.{kind_of}
 use Rattle.cedar_grammar.specs.Trees.{Label, Forest, yield}
 use Rattle.cedar_grammar.specs.Grammar.{G, PolicySet}
 use Rattle.cedar_grammar.specs.Laws.{kind_of_decorated}
-use Rattle.cedar_grammar.specs.Texts.{greatest_depth, tokens}
+use Rattle.cedar_grammar.specs.Texts.{greatest_depth, only_tokens, Accepted}
 use Rattle.cedar_grammar.specs.TrailingCommas.{drop_if, plain, without_trailing}
 use Rattle.cedar_grammar.specs.TypedTrees.{Clause, policy, set_tree}
 use Rattle.cedar_grammar.specs.Reader.Reading.{Answer, done, stuck}
@@ -24,10 +24,10 @@ use Rattle.cedar_grammar.proofs.Relabelling.{relabelled, plain_each, each_map}
 use Rattle.cedar_grammar.proofs.ListingTexts.{listing_texts}
 use Rattle.cedar_canonical.specs.Leaves.{part_map}
 use Rattle.cedar_canonical.specs.Output.{with_value, tokens_of}
+use Rattle.cedar_canonical.specs.Canonical.{IsOutputOf}
 use Rattle.cedar_canonical.specs.GrammarTrees.{IsTree, AcceptedHasTree, ListHasOneTree, TreeFits}
 use Rattle.cedar_text_laws.proofs.Listed.{number_value, value_token}
 use Rattle.cedar_canonical.proofs.ByValue.{tokens_map}
-use Rattle.cedar_text_laws.proofs.GoodLists.{every_list_good, plain_list_good}
 use Rattle.cedar_canonical.proofs.FittingTrees.{AllTokens, policies_fit}
 use Rattle.cedar_grammar.proofs.FittingLeaves.{PartFits}
 use Rattle.cedar_grammar.proofs.TypedPolicies.{typed_set}
@@ -171,19 +171,63 @@ pub good_tokens : (ts : List Decorated) → AllByRecursion IsGood ts → AllToke
 good_tokens [] a = tt
 good_tokens (t ∷ ts) a = (a.0.token, good_tokens ts a.1)
 
-pub accepted_has_tree : AcceptedHasTree
-accepted_has_tree x l utf8 a s =
+-- the tokens of a list are tokens, and so are those of its plain list
+tokens_all : (us : List (List ℕ)) → AllByRecursion IsToken (only_tokens us)
+tokens_all [] = tt
+tokens_all (u ∷ us) = go (is_token u) refl (tokens_all us)
+  where
+    go : (b : Bool) → is_token u ≡ b → AllByRecursion IsToken (only_tokens us) → AllByRecursion IsToken (cond b (u ∷ only_tokens us) (only_tokens us))
+    go true h ih = (h, ih)
+    go false h ih = ih
+
+plain_all : (us : List (List ℕ)) → AllByRecursion IsToken us → AllByRecursion IsToken (plain kind_of us)
+plain_all [] a = tt
+plain_all (u ∷ us) a = go (is K.Comma (kind_of u) && begins kind_of is_closing us) (plain_all us a.1)
+  where
+    go : (b : Bool) → AllByRecursion IsToken (plain kind_of us) → AllByRecursion IsToken (drop_if b (u ∷ plain kind_of us) (plain kind_of us))
+    go true ih = ih
+    go false ih = (a.0, ih)
+
+texts_all : (ts : List Decorated) → AllByRecursion IsToken (map (λ (t : Decorated). t.text) ts) → AllTokens ts
+texts_all [] a = tt
+texts_all (t ∷ ts) a = (a.0, texts_all ts a.1)
+
+listed_all : (x : List ℕ) (l : Listing) → IsListing x l → AllTokens (plain_list l.tokens)
+listed_all x l s =
+    let texts : map (λ (t : Decorated). t.text) l.tokens ≡ only_tokens s.units = ap (λ (m : Listing). map (λ (t : Decorated). t.text) m.tokens) s.value ∙ listing_texts s.units in
+    texts_all (plain_list l.tokens) (subst (AllByRecursion IsToken) (sym (plain_texts_agree l.tokens ∙ ap (plain kind_of) texts)) (plain_all (only_tokens s.units) (tokens_all s.units)))
+
+pub tree_of_accepted : (x : List ℕ) (l : Listing) → Accepted x → IsListing x l → (ps : List (Clause Decorated policy)) × IsTree ps × (tokens_of ps ≡ plain_list l.tokens)
+tree_of_accepted x l a s =
     let u : (a.1).units ≡ s.units = split_unique x (a.1).units s.units (a.1).split s.split in
-    let texts : map (λ (t : Decorated). t.text) l.tokens ≡ tokens (a.1).units = ap (λ (m : Listing). map (λ (t : Decorated). t.text) m.tokens) s.value ∙ (listing_texts s.units ∙ ap tokens (sym u)) in
-    let ts = tokens (a.1).units in
+    let texts : map (λ (t : Decorated). t.text) l.tokens ≡ only_tokens (a.1).units = ap (λ (m : Listing). map (λ (t : Decorated). t.text) m.tokens) s.value ∙ (listing_texts s.units ∙ ap only_tokens (sym u)) in
+    let ts = only_tokens (a.1).units in
     let f = without_trailing kind_of a.0 in
     let p : G kind_of greatest_depth f (plain kind_of ts) = plain_is_in_the_grammar kind_of greatest_depth ts a.0 (a.1).grammar in
     let q : G kind_of greatest_depth (without_trailing kind_of f) (plain kind_of ts) =
     subst (λ z. G kind_of greatest_depth (without_trailing kind_of f) z) (plain_is_plain kind_of greatest_depth ts a.0 (a.1).grammar) (plain_is_in_the_grammar kind_of greatest_depth (plain kind_of ts) f p) in
     let w = list_has_one_tree kind_of greatest_depth greatest_depth (plain kind_of ts) (without_trailing kind_of f) f q p in
     let y : yield (without_trailing kind_of a.0) ≡ map (λ (t : Decorated). t.text) (plain_list l.tokens) =
-    leaves_are_plain kind_of greatest_depth (tokens (a.1).units) a.0 (a.1).grammar ∙ (ap (plain kind_of) (sym texts) ∙ sym (plain_texts_agree l.tokens)) in
-    tree_of_texts (plain_list l.tokens) (good_tokens (plain_list l.tokens) (plain_list_good l.tokens (every_list_good x l utf8 s).0)) f p.shape w y
+    leaves_are_plain kind_of greatest_depth (only_tokens (a.1).units) a.0 (a.1).grammar ∙ (ap (plain kind_of) (sym texts) ∙ sym (plain_texts_agree l.tokens)) in
+    tree_of_texts (plain_list l.tokens) (listed_all x l s) f p.shape w y
+
+pub accepted_has_tree : AcceptedHasTree
+accepted_has_tree x l utf8 a s = tree_of_accepted x l a s
+
+-- ---- the trees of an output
+
+pub leaves_of : {w : ℕ} {i : ℤ} {x y : List ℕ} (o : IsOutputOf w i x y) → tokens_of o.policies ≡ plain_list o.list.tokens
+leaves_of o = sym (typed_leaves_agree kind_of_decorated o.policies) ∙ o.grammar.leaves
+
+pub trees_of : {w : ℕ} {i : ℤ} {x y : List ℕ} (o : IsOutputOf w i x y) → IsTree o.policies
+trees_of {x = x} o =
+    let t = tree_of_accepted x o.list o.accepted o.is_list in
+    let g : G kind_of_decorated greatest_depth (set_tree kind_of_decorated t.0) (plain_list o.list.tokens) = subst (λ z. G kind_of_decorated greatest_depth (set_tree kind_of_decorated t.0) z) t.2 t.1.grammar in
+    let same = list_has_one_tree kind_of_decorated greatest_depth greatest_depth (plain_list o.list.tokens) (set_tree kind_of_decorated t.0) (set_tree kind_of_decorated o.policies) g o.grammar in
+    subst IsTree (typed_tree_is_unique kind_of_decorated t.0 o.policies same) t.1
+
+pub grammar_of : (ps : List (Clause Decorated policy)) (ts : List Decorated) → IsTree ps → tokens_of ps ≡ ts → G kind_of_decorated greatest_depth (set_tree kind_of_decorated ps) ts
+grammar_of ps ts t e = subst (λ z. G kind_of_decorated greatest_depth (set_tree kind_of_decorated ps) z) e t.grammar
 
 -- the leaves fit the table
 pub tree_fits : TreeFits

@@ -21,8 +21,9 @@ use Rattle.cedar_canonical.specs.GrammarTrees.{IsTree}
 use Rattle.cedar_canonical.specs.Canonical.{IsOutputOf, plain_listing}
 use Rattle.cedar_canonical.proofs.ByValue.{part_table_value, tokens_map}
 use Rattle.cedar_canonical.proofs.FittingTrees.{AllTokens, all_parts}
-use Rattle.cedar_canonical.proofs.Grammatical.{one_tree, value_tree}
-use Rattle.cedar_canonical.proofs.CanonicalForm.{text_once, documents_by_value, output_exists, own_list, output_again, output_trees, outputs_tell}
+use Rattle.cedar_canonical.proofs.Grammatical.{one_tree, value_tree, trees_of}
+use Rattle.cedar_canonical.proofs.CanonicalForm.{text_once, documents_by_value, output_exists, own_list, output_trees, outputs_tell}
+use Rattle.cedar_canonical.proofs.Accepting.{output_again}
 use Rattle.cedar_canonical.specs.OutputLaws.{LastWidthDecides, policy_values, PoliciesStandAlone, policy_tokens, TokensTellPolicies}
 
 -- ---- one width and then another
@@ -42,11 +43,11 @@ through w v i j x y z u o p =
     let q : IsOutput (IsTheLayoutAt v) j (map (part_map with_value) o.policies) o.list.closing z =
     subst (λ ps. IsOutput (IsTheLayoutAt v) j ps o.list.closing z) (output_trees w v i j x y z u o p) (subst (λ cs. IsOutput (IsTheLayoutAt v) j p.policies cs z) c p.output) in
     record {
+      accepted = o.accepted;
       list = o.list;
       is_list = o.is_list;
       policies = o.policies;
-      trees = o.trees;
-      leaves = o.leaves;
+      grammar = o.grammar;
       output = record { texts = q.texts; cleaned = texts_of_values v j o.policies q.texts q.cleaned; written = q.written };
     }
 
@@ -55,7 +56,7 @@ output_of_output : (w v : ℕ) (i j : ℤ) (x y : List ℕ) → IsUtf8 x → IsO
 output_of_output w v i j x y u o =
     let a = output_again w i x y u o in
     let e = output_exists v j a.policies a.list.closing in
-    (e.0, record { list = a.list; is_list = a.is_list; policies = a.policies; trees = a.trees; leaves = a.leaves; output = e.1 })
+    (e.0, record { accepted = a.accepted; list = a.list; is_list = a.is_list; policies = a.policies; grammar = a.grammar; output = e.1 })
 
 pub last_width_decides : LastWidthDecides
 last_width_decides w v i j x y z u o = (through w v i j x y z u o, back)
@@ -162,5 +163,5 @@ same_value u v s t (a_tree p a b k) (a_tree q c d l) e =
 
 pub tokens_tell_policies : TokensTellPolicies
 tokens_tell_policies w i x1 x2 y1 y2 m n a b e =
-    let v = same_value (slice_get (policy_values a.policies) m) (slice_get (policy_values b.policies) n) (slice_get (policy_tokens a.policies) m) (slice_get (policy_tokens b.policies) n) (tree_at a.policies m a.trees) (tree_at b.policies n b.trees) e in
+    let v = same_value (slice_get (policy_values a.policies) m) (slice_get (policy_values b.policies) n) (slice_get (policy_tokens a.policies) m) (slice_get (policy_tokens b.policies) n) (tree_at a.policies m (trees_of a)) (tree_at b.policies n (trees_of b)) e in
     policies_stand_alone w i a.policies b.policies a.list.closing b.list.closing y1 y2 m n a.output b.output v

@@ -4,12 +4,12 @@ use Rattle.cedar_tokens.specs.Listing.{Decorated, token_value}
 use Rattle.cedar_layout.specs.Layout.{Doc, nil, text_then, line_then as d_line_then, line_or_nil_then as d_line_or_nil_then, nest_then, group_then, line, ◌·◌, Atom, word, must_break, atoms}
 use Rattle.cedar_layout.proofs.Values.{atoms-dot}
 use Rattle.cedar_text_laws.specs.Neighbours.{glues, first_or}
-use Rattle.cedar_layout.specs.Cleaning.{last_or}
+use Rattle.cedar_layout.specs.Cleaning.{last_byte_or}
 use Rattle.cedar_canonical.specs.Fit.{before_of, after_of, Opens, Ends, IsMark, IsWord, Fit}
 use Rattle.cedar_canonical.proofs.PrintedTokens.{Weave, done, w_space, w_line, w_line_or_nil, w_hard, w_token, lead_atoms, line_atoms, trail_atoms}
 use Rattle.std.specs.Prelude.{codes, ◌==◌}
-use Rattle.cedar_grammar.specs.TypedTrees.{Tree, NodeKind, accesses, yield, name_one, name_more, ref_of, args_one, args_more, init_of, inits_one, inits_more, literal, slot, reference, named, parens, list_empty, list_of, record_empty, record_of, no_access, field, call_empty, call, index, member_of, unsigned, signed, products_one, products_more, mult_of, sums_one, sums_more, add_of, single, compare, has_or_like, is_type, is_in, ands_one, ands_more, ors_one, ors_more, plain_expr, if_expr}
-use Rattle.cedar_canonical.specs.Table.{table, leaf, C, lead_of, trail_of, broken_lines, break_after_field, break_after_other}
+use Rattle.cedar_grammar.specs.TypedTrees.{Tree, NodeKind, accesses, tree_yield, name_one, name_more, ref_of, args_one, args_more, init_of, inits_one, inits_more, literal, slot, reference, named, parens, list_empty, list_of, record_empty, record_of, no_access, field, call_empty, call, index, member_of, unsigned, signed, products_one, products_more, mult_of, sums_one, sums_more, add_of, single, compare, has_or_like, is_type, is_in, ands_one, ands_more, ors_one, ors_more, ors_expr, if_expr}
+use Rattle.cedar_canonical.specs.Table.{table, printed, C, lead_of, trail_of, broken_lines, break_after_field, break_after_other}
 
 pub weave_append : {c d e : ℕ} {ts us : List Decorated} {xs ys : List Atom} → Weave c ts xs d → Weave d us ys e → Weave c (ts ++ us) (xs ++ ys) e
 weave_append done q = q
@@ -35,7 +35,7 @@ before_apart c d [] e = e
 before_apart c d (l ∷ ls) e = blank_apart d
 
 -- what holds of a blank and of the last character of the text holds after the token
-pub after_is : (P : ℕ → Type 0) (w tr : List ℕ) → P 32 → P (last_or 32 w) → P (after_of w tr)
+pub after_is : (P : ℕ → Type 0) (w tr : List ℕ) → P 32 → P (last_byte_or 32 w) → P (after_of w tr)
 after_is P w [] b e = e
 after_is P w (c ∷ cs) b e = b
 
@@ -51,7 +51,7 @@ trail_of_atoms : (tr : List ℕ) → atoms (trail_of tr nil) ≡ trail_atoms tr
 trail_of_atoms [] = refl
 trail_of_atoms (c ∷ cs) = refl
 
-pub weave_leaf : (c : ℕ) (t : Decorated) → glues c (first_or 32 (token_value t.text)) ≡ false → Weave c (t ∷ []) (atoms (leaf t)) (after_of (token_value t.text) t.trailing)
+pub weave_leaf : (c : ℕ) (t : Decorated) → glues c (first_or 32 (token_value t.text)) ≡ false → Weave c (t ∷ []) (atoms (printed t)) (after_of (token_value t.text) t.trailing)
 weave_leaf c t apart = simp (atoms-dot, lead_of_atoms, trail_of_atoms) (simp append-nil at (w_token {c = c} t (before_apart c (first_or 32 (token_value t.text)) t.leading apart) done))
 
 -- the document a prints the tokens ts behind c, and what is last then meets P
@@ -103,17 +103,17 @@ pub just : {Q : ℕ → Type 0} (c : ℕ) → Q c → Run Q c [] nil
 just c m = record { last = c; weave = done; meets = m }
 
 -- a token, of which it is known what it begins and ends with
-pub token : (P : ℕ → Type 0) (c : ℕ) (t : Decorated) → glues c (first_or 32 (token_value t.text)) ≡ false → P 32 → P (last_or 32 (token_value t.text)) → Run P c (t ∷ []) (leaf t)
+pub token : (P : ℕ → Type 0) (c : ℕ) (t : Decorated) → glues c (first_or 32 (token_value t.text)) ≡ false → P 32 → P (last_byte_or 32 (token_value t.text)) → Run P c (t ∷ []) (printed t)
 token P c t apart b e = record { last = after_of (token_value t.text) t.trailing; weave = weave_leaf c t apart; meets = after_is P (token_value t.text) t.trailing b e }
 
-pub mark : (P : ℕ → Type 0) (s : List ℕ) (c : ℕ) (t : Decorated) → IsMark s t → glues c (first_or 32 s) ≡ false → P 32 → P (last_or 32 s) → Run P c (t ∷ []) (leaf t)
+pub mark : (P : ℕ → Type 0) (s : List ℕ) (c : ℕ) (t : Decorated) → IsMark s t → glues c (first_or 32 s) ≡ false → P 32 → P (last_byte_or 32 s) → Run P c (t ∷ []) (printed t)
 mark P s c t f apart b e = token P c t (rw f apart) b (rw f e)
 
 abbrev pub Any : ℕ → Type 0
 Any c = Unit {0}
 
 -- an operator between blanks
-pub operator : (c : ℕ) (t : Decorated) → glues c (first_or 32 (token_value t.text)) ≡ false → Run Any c (t ∷ []) (leaf t)
+pub operator : (c : ℕ) (t : Decorated) → glues c (first_or 32 (token_value t.text)) ≡ false → Run Any c (t ∷ []) (printed t)
 operator c t apart = token Any c t apart tt tt
 
 start_not_equals : (x y z : Bool) → not ((x || y) || z) ≡ true → z ≡ false
@@ -145,7 +145,7 @@ start_not_colon true y z e = cc
 opens_at_colon : Opens 58
 opens_at_colon d s = let e = start_not_colon (d == 58) (d == 47) (d == 61) s in rw e (simp and_false)
 
-pub word_token : (c : ℕ) (t : Decorated) → Opens c → IsWord t → Run Ends c (t ∷ []) (leaf t)
+pub word_token : (c : ℕ) (t : Decorated) → Opens c → IsWord t → Run Ends c (t ∷ []) (printed t)
 word_token c t o w = token Ends c t (o (first_or 32 (token_value t.text)) w.0) refl w.1
 
 after_field : {Q : ℕ → Type 0} {c : ℕ} {ts : List Decorated} {a : Doc} (m : Tree Decorated accesses) → Run Q c ts a → Run Q c ts (break_after_field m · a)
@@ -169,7 +169,7 @@ record Behind (n : Doc) (w tr : List ℕ) : Type 0 where
   blank : Weave (after_of w tr) [] rest 32
 
 behind : (n : Doc) (w tr : List ℕ) → ((c : ℕ) → Weave c [] (atoms n) 32) → Behind n w tr
-behind n w [] b = record { rest = atoms n; is = refl; blank = b (last_or 32 w) }
+behind n w [] b = record { rest = atoms n; is = refl; blank = b (last_byte_or 32 w) }
 behind n w (c ∷ cs) b = record { rest = []; is = sym (append-nil (trail_atoms (c ∷ cs))); blank = done }
 
 pub token_then_blank : (n : Doc) (c : ℕ) (t : Decorated) → ((c : ℕ) → Weave c [] (atoms n) 32) → glues c (first_or 32 (token_value t.text)) ≡ false → Run Opens c (t ∷ []) (C t n)
@@ -177,28 +177,28 @@ token_then_blank n c t b apart =
     let r = behind n (token_value t.text) t.trailing b in
     record { last = 32; weave = simp (atoms-dot, lead_of_atoms, r.is) (w_token {c = c} t (before_apart c (first_or 32 (token_value t.text)) t.leading apart) r.blank); meets = blank_opens }
 
-comma : (c : ℕ) (t : Decorated) → IsMark (codes ",") t → Run Any c (t ∷ []) (leaf t)
+comma : (c : ℕ) (t : Decorated) → IsMark (codes ",") t → Run Any c (t ∷ []) (printed t)
 comma c t f = mark Any (codes ",") c t f refl tt tt
 
-pub opening_paren : (c : ℕ) (t : Decorated) → Opens c → IsMark (codes "(") t → Run Opens c (t ∷ []) (leaf t)
+pub opening_paren : (c : ℕ) (t : Decorated) → Opens c → IsMark (codes "(") t → Run Opens c (t ∷ []) (printed t)
 opening_paren c t o f = mark Opens (codes "(") c t f (o 40 refl) blank_opens opens_at_paren
 
-pub closing_paren : (c : ℕ) (t : Decorated) → IsMark (codes ")") t → Run Ends c (t ∷ []) (leaf t)
+pub closing_paren : (c : ℕ) (t : Decorated) → IsMark (codes ")") t → Run Ends c (t ∷ []) (printed t)
 closing_paren c t f = mark Ends (codes ")") c t f refl refl refl
 
-opening_bracket : (c : ℕ) (t : Decorated) → glues c 91 ≡ false → IsMark (codes "[") t → Run Opens c (t ∷ []) (leaf t)
+opening_bracket : (c : ℕ) (t : Decorated) → glues c 91 ≡ false → IsMark (codes "[") t → Run Opens c (t ∷ []) (printed t)
 opening_bracket c t o f = mark Opens (codes "[") c t f o blank_opens opens_at_bracket
 
-closing_bracket : (c : ℕ) (t : Decorated) → IsMark (codes "]") t → Run Ends c (t ∷ []) (leaf t)
+closing_bracket : (c : ℕ) (t : Decorated) → IsMark (codes "]") t → Run Ends c (t ∷ []) (printed t)
 closing_bracket c t f = mark Ends (codes "]") c t f refl refl refl
 
-pub opening_brace : (c : ℕ) (t : Decorated) → glues c 123 ≡ false → IsMark (codes "{") t → Run Any c (t ∷ []) (leaf t)
+pub opening_brace : (c : ℕ) (t : Decorated) → glues c 123 ≡ false → IsMark (codes "{") t → Run Any c (t ∷ []) (printed t)
 opening_brace c t o f = mark Any (codes "{") c t f o tt tt
 
-pub closing_brace : (c : ℕ) (t : Decorated) → IsMark (codes "}") t → Run Ends c (t ∷ []) (leaf t)
+pub closing_brace : (c : ℕ) (t : Decorated) → IsMark (codes "}") t → Run Ends c (t ∷ []) (printed t)
 closing_brace c t f = mark Ends (codes "}") c t f refl refl refl
 
-sign : (c : ℕ) (t : Decorated) → Opens c → IsMark (codes "!") t ⊎ IsMark (codes "-") t → Run Opens c (t ∷ []) (leaf t)
+sign : (c : ℕ) (t : Decorated) → Opens c → IsMark (codes "!") t ⊎ IsMark (codes "-") t → Run Opens c (t ∷ []) (printed t)
 sign c t o (inl f) = mark Opens (codes "!") c t f (o 33 refl) blank_opens opens_at_bang
 sign c t o (inr f) = mark Opens (codes "-") c t f (o 45 refl) blank_opens opens_at_dash
 
@@ -208,7 +208,7 @@ Entry accesses c = Ends c
 Entry _ c = Opens c
 
 -- The weave: a node's document prints the node's tokens, in order, each with its comments.
-pub weave : {k : NodeKind} (i : ℤ) (t : Tree Decorated k) (c : ℕ) → Entry k c → Fit t → Run Ends c (yield t) (table i t)
+pub weave : {k : NodeKind} (i : ℤ) (t : Tree Decorated k) (c : ℕ) → Entry k c → Fit t → Run Ends c (tree_yield t) (table i t)
 weave i (name_one x) c o f = word_token c x o f
 weave i (name_more x s r) c o f = run_then (word_token c x o f.0) (λ d e. run_then (mark Opens (codes "::") d s f.1 e blank_opens opens_at_colon) (λ d o. weave i r d o f.2))
 weave i (ref_of n s x) c o f = run_then (weave i n c o f.0) (λ d e. run_then (mark Opens (codes "::") d s f.1 e blank_opens opens_at_colon) (λ d o. word_token d x o f.2))
@@ -249,5 +249,5 @@ weave i (ands_one r) c o f = weave i r c o f
 weave i (ands_more r s m) c o f = run_then (weave i r c o f.0) (λ d e. space_then (run_then (token_then_blank line 32 s (λ c. w_line done) (blank_apart (first_or 32 (token_value s.text)))) (λ d o. weave i m d o f.1)))
 weave i (ors_one a) c o f = weave i a c o f
 weave i (ors_more a s m) c o f = run_then (weave i a c o f.0) (λ d e. space_then (run_then (token_then_blank line 32 s (λ c. w_line done) (blank_apart (first_or 32 (token_value s.text)))) (λ d o. weave i m d o f.1)))
-weave i (plain_expr e) c o f = weave i e c o f
+weave i (ors_expr e) c o f = weave i e c o f
 weave i (if_expr x g t a e b) c o f = grouped (run_then (word_token c x o f.0) (λ d _. nest_run (line_then (weave i g 32 blank_opens f.1)) (λ d _. line_then (run_then (operator 32 t (blank_apart (first_or 32 (token_value t.text)))) (λ d _. nest_run (line_then (weave i a 32 blank_opens f.2)) (λ d _. line_then (run_then (operator 32 e (blank_apart (first_or 32 (token_value e.text)))) (λ d _. nested (line_then (weave i b 32 blank_opens f.3))))))))))

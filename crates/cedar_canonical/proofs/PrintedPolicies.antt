@@ -1,5 +1,5 @@
 -- The weave of a policy and its parts.
-use Rattle.std.proofs.Common.{◌≡◌, ℕ, ℤ, List, [], ◌∷◌, ◌++◌, Bool, true, false, cond, ◌&&◌, refl, sym, ap, ◌∙◌, append_assoc, append-nil}
+use Rattle.std.proofs.Common.{◌≡◌, ℕ, ℤ, List, [], ◌∷◌, ◌++◌, Bool, true, false, cond, ◌&&◌, refl, sym, ap, ◌∙◌, subst, append_assoc, append-nil}
 use Rattle.std.specs.Prelude.{codes}
 use Rattle.cedar_tokens.specs.Listing.{Decorated, token_value}
 use Rattle.cedar_layout.specs.Layout.{Doc, nil, line, hard, ◌·◌, nest, group, nest_then, hard_then as d_hard_then, atoms, Choice, text_of_choice, pieces}
@@ -8,8 +8,11 @@ use Rattle.cedar_layout.proofs.Atoms.{pieces_are_made}
 use Rattle.cedar_text_laws.specs.Neighbours.{first_or}
 use Rattle.cedar_canonical.specs.Fit.{Opens, Ends, IsMark, IsWord, Fit, PartFit}
 use Rattle.cedar_canonical.proofs.PrintedTokens.{Weave, done, w_space, w_line, w_hard}
-use Rattle.cedar_grammar.specs.TypedTrees.{Tree, name, expr, Clause, variable, cond as a_cond, conds, annotation, annotations, policy, yield, map_first, part_yield, variable_bare, variable_is, variable_op, variable_is_op, cond_of, no_cond, conds_more, annotation_bare, annotation_value, no_annotation, annotations_more, policy_of}
-use Rattle.cedar_canonical.specs.Table.{table, part_table, C, lead_of, space, between_conds, bare_token, lines_of_first, is_bare, variables, comparison, type_part, lead, tok, trail, leaf}
+use Rattle.cedar_grammar.specs.TypedTrees.{Tree, name, expr, Clause, variable, cond as a_cond, conds, annotation, annotations, policy, parts, tree_yield, map_first, part_yield, variable_bare, variable_is, variable_op, variable_is_op, cond_of, no_cond, conds_more, annotation_bare, annotation_value, no_annotation, annotations_more, policy_of}
+use Rattle.cedar_canonical.specs.Table.{table, part_table, C, lead_of, space, between_conds, bare_token, lines_of_first, is_bare, variables, comparison, type_part, lead, tok, trail, printed}
+use Rattle.cedar_grammar.specs.Trees.{yield}
+use Rattle.cedar_grammar.specs.Laws.{kind_of_decorated}
+use Rattle.cedar_grammar.proofs.TreeLaws.{typed_leaves}
 use Rattle.cedar_canonical.specs.Gaps.{Spelled}
 use Rattle.cedar_canonical.proofs.PrintedNodes.{Run, run_then, run_last, nest_run, group_run, grouped, nested, run_as, line_then, just, mark, operator, weave, blank_opens, blank_apart, word_token, token_then_blank, opening_paren, closing_paren, closing_brace, opens_at_paren, and_false}
 use Rattle.cedar_canonical.proofs.FirstLines.{peel}
@@ -22,10 +25,10 @@ opens_at_at : Opens 64
 opens_at_at d s = simp and_false
 
 -- a variable and its type
-typed_weave : (i : ℤ) (v s : Decorated) (n : Tree Decorated name) (c : ℕ) → Opens c → IsWord v → Fit n → Run Ends c (v ∷ (s ∷ yield n)) (leaf v · type_part i s (table i n))
+typed_weave : (i : ℤ) (v s : Decorated) (n : Tree Decorated name) (c : ℕ) → Opens c → IsWord v → Fit n → Run Ends c (v ∷ (s ∷ tree_yield n)) (printed v · type_part i s (table i n))
 typed_weave i v s n c o fv fn = run_then (word_token c v o fv) (λ d e. grouped (nested (group_run (line_then (operator 32 s (blank_apart (first_or 32 (token_value s.text))))) (λ d _. line_then (weave i n 32 blank_opens fn)))))
 
-compared_atoms : (i : ℤ) (l left right : Doc) (s : Decorated) → atoms ((l · left) · (line · (leaf s · (line · right)))) ≡ atoms (l · comparison i left s right)
+compared_atoms : (i : ℤ) (l left right : Doc) (s : Decorated) → atoms ((l · left) · (line · (printed s · (line · right)))) ≡ atoms (l · comparison i left s right)
 compared_atoms i l left right s = simp (atoms-dot, append_assoc, append-nil)
 
 -- leading lines, and a comparison of what is behind them
@@ -44,8 +47,10 @@ brace_then_line : (c : ℕ) (t : Decorated) → IsMark (codes "{") t → Run Ope
 brace_then_line c t f = token_then_blank line c t (λ c. w_line done) (rw f refl)
 
 -- the body behind `{`: its first token's leading lines stand in front of its group
-body_weave : (i : ℤ) (e : Tree Decorated expr) (c : ℕ) → Opens c → Fit e → Run Ends c (yield e) (lead_of (lines_of_first (yield e)) · table i (map_first bare_token e))
-body_weave i e c o f = run_as (sym (peel i e).same ∙ sym (atoms-dot (lead_of (lines_of_first (yield e))) (table i (map_first bare_token e)))) (weave i e c o f)
+body_weave : (i : ℤ) (e : Tree Decorated expr) (c : ℕ) → Opens c → Fit e → Run Ends c (tree_yield e) (lead_of (lines_of_first (yield (parts kind_of_decorated e))) · table i (map_first bare_token e))
+body_weave i e c o f =
+    subst (λ z. Run Ends c (tree_yield e) (lead_of (lines_of_first z) · table i (map_first bare_token e))) (sym (typed_leaves kind_of_decorated e))
+    (run_as (sym (peel i e).same ∙ sym (atoms-dot (lead_of (lines_of_first (tree_yield e))) (table i (map_first bare_token e)))) (weave i e c o f))
 
 cond_weave : (i : ℤ) (k l : Decorated) (e : Tree Decorated expr) (r : Decorated) (c : ℕ) → Opens c → PartFit (cond_of k l e r) → Run Ends c (part_yield (cond_of k l e r)) (part_table i (cond_of k l e r))
 cond_weave i k l e r c o f =

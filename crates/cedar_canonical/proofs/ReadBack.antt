@@ -5,11 +5,12 @@ use Rattle.std.proofs.lemmas.List.Elements.{filter-append}
 use Rattle.std.specs.Str.{trim, trim_start, chars}
 use Rattle.cedar_tokens.specs.Units.{IsToken, is_token, is_comment, slots, punctuators}
 use Rattle.cedar_tokens.specs.Split.{Scans, SplitsInto}
-use Rattle.cedar_tokens.specs.Listing.{Decorated, IsListing, gaps, decorate, listing, comments, before_newline, after_newline, token_value}
+use Rattle.cedar_tokens.specs.Listing.{Decorated, IsListing, gaps, decorate, listing, comments, token_value}
+use Rattle.cedar_tokens.specs.Inside.Newlines.{before_newline, after_newline}
 use Rattle.cedar_tokens.proofs.CommentLines.{comments_nil, comments_skip}
 use Rattle.cedar_tokens.proofs.Heads.{no_empty_token}
 use Rattle.cedar_text_laws.specs.Neighbours.{glues, first_or}
-use Rattle.cedar_layout.specs.Cleaning.{last_or}
+use Rattle.cedar_layout.specs.Cleaning.{last_byte_or}
 use Rattle.cedar_canonical.specs.Fit.{after_of}
 use Rattle.cedar_canonical.specs.Gaps.{Blanks, no_blank, a_space, a_feed, Lines, no_line, a_comment, Front, bare, led, back, Spelled, the_end, a_token}
 use Rattle.cedar_text_laws.specs.Good.{IsGood, IsLine, IsTrailing}
@@ -224,11 +225,11 @@ apart_spelled {c} (a_token {g = g} {s = s} t f n r) a = elim (front_cases c f) [
 ]
 
 -- behind a token's text: a space, or what comes next
-apart_back : (w tr s : List ℕ) → Apart (after_of w tr) s → Apart (last_or 32 w) (back tr ++ s)
+apart_back : (w tr s : List ℕ) → Apart (after_of w tr) s → Apart (last_byte_or 32 w) (back tr ++ s)
 apart_back w [] s h = h
 apart_back w (c ∷ cs) s h = refl
 
-reading_token : (t : Decorated) (ts : List Decorated) (g s : List ℕ) {x : List (List ℕ)} (good : IsGood t) → Front t.leading g → Apart (last_or 32 (token_value t.text)) (back t.trailing ++ s) → Reading ts s x
+reading_token : (t : Decorated) (ts : List Decorated) (g s : List ℕ) {x : List (List ℕ)} (good : IsGood t) → Front t.leading g → Apart (last_byte_or 32 (token_value t.text)) (back t.trailing ++ s) → Reading ts s x
     → Reading (t ∷ ts) (g ++ (token_value t.text ++ (back t.trailing ++ s))) (t.leading ++ (token_value t.text ∷ (filter is_solid good.trailing.units ++ x)))
 unfolding listing decorate
 reading_token t ts g s good f apart r =

@@ -7,7 +7,7 @@ use Rattle.cedar_grammar.specs.Kinds.{is, is_closing}
 use Rattle.cedar_grammar.specs.Trees.{Label, Forest, none, leaf, branch, join}
 use Rattle.cedar_grammar.specs.Trees as L
 use Rattle.cedar_grammar.specs.TrailingCommas.{drop_if, closes_next, without_trailing}
-use Rattle.cedar_grammar.specs.TypedTrees.{Tree, NodeKind, PartKind, Clause, policy, name_one, name_more, ref_of, args_one, args_more, init_of, inits_one, inits_more, literal, slot, reference, named, parens, list_empty, list_of, record_empty, record_of, no_access, field, call_empty, call, index, member_of, unsigned, signed, products_one, products_more, mult_of, sums_one, sums_more, add_of, single, compare, has_or_like, is_type, is_in, ands_one, ands_more, ors_one, ors_more, plain_expr, if_expr, variable_bare, variable_is, variable_op, variable_is_op, cond_of, no_cond, conds_more, annotation_bare, annotation_value, no_annotation, annotations_more, policy_of, tree_map, parts, part_parts, policy_trees, set_tree, literal_label}
+use Rattle.cedar_grammar.specs.TypedTrees.{Tree, NodeKind, PartKind, Clause, policy, name_one, name_more, ref_of, args_one, args_more, init_of, inits_one, inits_more, literal, slot, reference, named, parens, list_empty, list_of, record_empty, record_of, no_access, field, call_empty, call, index, member_of, unsigned, signed, products_one, products_more, mult_of, sums_one, sums_more, add_of, single, compare, has_or_like, is_type, is_in, ands_one, ands_more, ors_one, ors_more, ors_expr, if_expr, variable_bare, variable_is, variable_op, variable_is_op, cond_of, no_cond, conds_more, annotation_bare, annotation_value, no_annotation, annotations_more, policy_of, tree_map, parts, part_parts, policy_trees, set_tree, literal_label}
 use Rattle.cedar_grammar.proofs.RuleMaps.{relabel, relabel_join}
 use Rattle.cedar_canonical.specs.Leaves.{part_map}
 
@@ -53,7 +53,7 @@ module _ {A B : Type 0} (h : A → B) (kind : A → Kind) (kind' : B → Kind) (
   parts_map (ands_more r o m) = simp (parts_map r, parts_map m)
   parts_map (ors_one a) = simp (parts_map a)
   parts_map (ors_more a o m) = simp (parts_map a, parts_map m)
-  parts_map (plain_expr o) = simp (parts_map o)
+  parts_map (ors_expr o) = simp (parts_map o)
   parts_map (if_expr i c t a f b) = simp (parts_map c, parts_map a, parts_map b)
 
   part_parts_map : {k : PartKind} (t : Clause A k) → relabel h (part_parts kind t) ≡ part_parts kind' (part_map h t)

@@ -6,14 +6,16 @@ use Rattle.cedar_layout.specs.Layout.{Choice, text_of_choice, IsTheLayoutAt}
 use Rattle.cedar_tokens.specs.Split.{SplitsInto}
 use Rattle.cedar_tokens.specs.Listing.{Decorated, Listing, IsListing, EqualByValue}
 use Rattle.cedar_tokens.specs.PlainList.{plain_list}
-use Rattle.cedar_grammar.specs.TypedTrees.{Clause, policy, part_yield}
+use Rattle.cedar_grammar.specs.Grammar.{G}
+use Rattle.cedar_grammar.specs.Laws.{kind_of_decorated}
+use Rattle.cedar_grammar.specs.TypedTrees.{Clause, policy, set_tree, part_yield}
 use Rattle.cedar_canonical.specs.Leaves.{part_map}
 use Rattle.cedar_canonical.specs.Table.{part_table}
 use Rattle.cedar_canonical.specs.Fit.{PartFit}
 use Rattle.cedar_text_laws.specs.Good.{IsGood}
 use Rattle.cedar_layout.specs.Cleaning.{IsCleaned}
 use Rattle.cedar_text_laws.specs.CleaningLaws.{NoBlankLine}
-use Rattle.cedar_grammar.specs.Texts.{Accepted}
+use Rattle.cedar_grammar.specs.Texts.{Accepted, greatest_depth}
 use Rattle.cedar_canonical.specs.GrammarTrees.{IsTree}
 use Rattle.cedar_canonical.specs.Output.{IsOutput, IsSomeLayout, with_value, tokens_of}
 use Rattle.cedar_tokens.specs.Bytes.{line_feed}
@@ -53,13 +55,13 @@ abbrev pub TextsReadBack : Type 0
 TextsReadBack = (i : ℤ) (x : List ℕ) (l : Listing) (ps : List (Clause Decorated policy)) (output : List ℕ) → IsUtf8 x → IsListing x l → IsTree ps → tokens_of ps ≡ plain_list l.tokens
     → IsOutput IsSomeLayout i ps l.closing output → IsListing output (record { tokens = map with_value (plain_list l.tokens); closing = l.closing })
 
--- y is the output of the text x: that of the trees whose leaves are its plain list
+-- y is the output of the accepted text x: of the policies whose tree is that of its list without trailing commas
 pub record IsOutputOf (w : ℕ) (i : ℤ) (x y : List ℕ) : Type 0 where
+  pub accepted : Accepted x
   pub list : Listing
   pub is_list : IsListing x list
   pub policies : List (Clause Decorated policy)
-  pub trees : IsTree policies
-  pub leaves : tokens_of policies ≡ plain_list list.tokens
+  pub grammar : G kind_of_decorated greatest_depth (set_tree kind_of_decorated policies) (plain_list list.tokens)
   pub output : IsOutput (IsTheLayoutAt w) i policies list.closing y
 
 -- an accepted text has one output, which is accepted
@@ -67,7 +69,7 @@ abbrev pub AcceptedHasOutput : Type 0
 AcceptedHasOutput = (w : ℕ) (i : ℤ) (x : List ℕ) → IsUtf8 x → Accepted x → (y : List ℕ) × IsOutputOf w i x y
 
 abbrev pub OutputIsAccepted : Type 0
-OutputIsAccepted = (w : ℕ) (i : ℤ) (x y : List ℕ) → IsUtf8 x → Accepted x → IsOutputOf w i x y → Accepted y
+OutputIsAccepted = (w : ℕ) (i : ℤ) (x y : List ℕ) → IsUtf8 x → IsOutputOf w i x y → Accepted y
 
 -- the output's own list is the text's plain list by value, and has no trailing comma
 abbrev pub OutputHasTheList : Type 0

@@ -2,19 +2,19 @@
 use Rattle.std.specs.Prelude.{ℕ, List, [], ◌∷◌, Bool, true, false, ◌||◌, ◌==◌, ◌≡◌, codes, not, ⊤, ◌⊎◌}
 use Rattle.cedar_tokens.specs.Listing.{Decorated, token_value}
 use Rattle.cedar_text_laws.specs.Neighbours.{glues, first_or}
-use Rattle.cedar_layout.specs.Cleaning.{last_or}
-use Rattle.cedar_grammar.specs.TypedTrees.{Tree, NodeKind, PartKind, Clause, variable_bare, variable_is, variable_op, variable_is_op, cond_of, no_cond, conds_more, annotation_bare, annotation_value, no_annotation, annotations_more, policy_of, name_one, name_more, ref_of, args_one, args_more, init_of, inits_one, inits_more, literal, slot, reference, named, parens, list_empty, list_of, record_empty, record_of, no_access, field, call_empty, call, index, member_of, unsigned, signed, products_one, products_more, mult_of, sums_one, sums_more, add_of, single, compare, has_or_like, is_type, is_in, ands_one, ands_more, ors_one, ors_more, plain_expr, if_expr}
-use Rattle.cedar_tokens.specs.Bytes.{colon, equals, slash, space}
+use Rattle.cedar_layout.specs.Cleaning.{last_byte_or}
+use Rattle.cedar_grammar.specs.TypedTrees.{Tree, NodeKind, PartKind, Clause, variable_bare, variable_is, variable_op, variable_is_op, cond_of, no_cond, conds_more, annotation_bare, annotation_value, no_annotation, annotations_more, policy_of, name_one, name_more, ref_of, args_one, args_more, init_of, inits_one, inits_more, literal, slot, reference, named, parens, list_empty, list_of, record_empty, record_of, no_access, field, call_empty, call, index, member_of, unsigned, signed, products_one, products_more, mult_of, sums_one, sums_more, add_of, single, compare, has_or_like, is_type, is_in, ands_one, ands_more, ors_one, ors_more, ors_expr, if_expr}
+use Rattle.cedar_tokens.specs.Bytes.{colon, equals, slash, space_character}
 
 -- what stands last behind a token with this text and this trailing text, and what stands in front of a token
 -- with these leading lines: a space stands for any blank
 abbrev pub after_of : List ℕ → List ℕ → ℕ
-after_of w [] = last_or space w
-after_of w (c ∷ cs) = space
+after_of w [] = last_byte_or space_character w
+after_of w (c ∷ cs) = space_character
 
 abbrev pub before_of : ℕ → List (List ℕ) → ℕ
 before_of c [] = c
-before_of c (l ∷ ls) = space
+before_of c (l ∷ ls) = space_character
 
 -- where a primary or a name may begin: no `:`, `/` or `=`
 abbrev pub is_start : ℕ → Bool
@@ -30,7 +30,7 @@ abbrev pub IsMark : List ℕ → Decorated → Type 0
 IsMark s x = token_value x.text ≡ s
 
 abbrev pub IsWord : Decorated → Type 0
-IsWord x = (is_start (first_or space (token_value x.text)) ≡ true) × Ends (last_or space (token_value x.text))
+IsWord x = (is_start (first_or space_character (token_value x.text)) ≡ true) × Ends (last_byte_or space_character (token_value x.text))
 
 abbrev pub Fit : {k : NodeKind} → Tree Decorated k → Type 0
 Fit (name_one x) = IsWord x
@@ -73,7 +73,7 @@ Fit (ands_one r) = Fit r
 Fit (ands_more r o m) = Fit r × Fit m
 Fit (ors_one a) = Fit a
 Fit (ors_more a o m) = Fit a × Fit m
-Fit (plain_expr o) = Fit o
+Fit (ors_expr o) = Fit o
 Fit (if_expr f c t a e b) = IsWord f × Fit c × Fit a × Fit b
 
 abbrev pub PartFit : {k : PartKind} → Clause Decorated k → Type 0

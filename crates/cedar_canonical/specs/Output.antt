@@ -1,6 +1,6 @@
 -- The text of policies and of closing comments, and the law that every layout reads back.
-use Rattle.std.specs.Prelude.{◌≡◌, ℕ, ℤ, List, [], ◌∷◌, ◌++◌, ⊤, map}
-use Rattle.std.specs.List.{AllByRecursion, flat_map}
+use Rattle.std.specs.Prelude.{◌≡◌, ℕ, ℤ, List, [], ◌∷◌, ◌++◌, map}
+use Rattle.std.specs.List.{AllByRecursion, AllZip, flat_map}
 use Rattle.cedar_layout.specs.Layout.{Doc, Choice, text_of_choice}
 use Rattle.cedar_tokens.specs.Listing.{Decorated, IsListing, token_value}
 use Rattle.cedar_grammar.specs.TypedTrees.{Clause, policy, part_yield}
@@ -11,10 +11,10 @@ use Rattle.cedar_layout.specs.Cleaning.{IsCleaned}
 use Rattle.cedar_tokens.specs.Bytes.{line_feed}
 
 -- the texts with two line feeds between neighbours
-abbrev pub join : List (List ℕ) → List ℕ
-join [] = []
-join (x ∷ []) = x
-join (x ∷ (y ∷ ys)) = x ++ (line_feed ∷ (line_feed ∷ join (y ∷ ys)))
+abbrev pub paragraphs : List (List ℕ) → List ℕ
+paragraphs [] = []
+paragraphs (x ∷ []) = x
+paragraphs (x ∷ (y ∷ ys)) = x ++ (line_feed ∷ (line_feed ∷ paragraphs (y ∷ ys)))
 
 abbrev pub closing_text : List (List ℕ) → List ℕ
 closing_text [] = []
@@ -22,16 +22,13 @@ closing_text (l ∷ ls) = l ++ (line_feed ∷ closing_text ls)
 
 -- each policy's document, laid out by `laid` (a width's layout, or any choice's) and cleaned
 abbrev pub PolicyTexts : (Doc → List ℕ → Type 0) → ℤ → List (Clause Decorated policy) → List (List ℕ) → Type 0
-PolicyTexts laid i [] [] = ⊤
-PolicyTexts laid i [] (t ∷ ts) = ⊥
-PolicyTexts laid i (p ∷ ps) [] = ⊥
-PolicyTexts laid i (p ∷ ps) (t ∷ ts) = ((s : List ℕ) × laid (part_table i p) s × IsCleaned s t) × PolicyTexts laid i ps ts
+PolicyTexts laid i ps ts = AllZip (λ p t. (s : List ℕ) × laid (part_table i p) s × IsCleaned s t) ps ts
 
 -- output is the text of these policies and closing comments
 pub record IsOutput (laid : Doc → List ℕ → Type 0) (i : ℤ) (policies : List (Clause Decorated policy)) (closing : List (List ℕ)) (output : List ℕ) : Type 0 where
   pub texts : List (List ℕ)
   pub cleaned : PolicyTexts laid i policies texts
-  pub written : output ≡ join texts ++ (line_feed ∷ closing_text closing)
+  pub written : output ≡ paragraphs texts ++ (line_feed ∷ closing_text closing)
 
 -- s is a layout of d under some choice of flat and broken groups
 abbrev pub IsSomeLayout : Doc → List ℕ → Type 0

@@ -47,9 +47,13 @@ pub fn outputs_are_canonical()
     ensures some { AcceptedHasOutput }
     ensures accepted { OutputIsAccepted }
     ensures list { OutputHasTheList }
-    ensures trees { OutputHasTheTrees }
     ensures equal { OutputsTellLists }
     ensures again { OutputIsItsOwn }
+{}
+
+/// The policies of an output, at any width and indentation, are those of its text, by value.
+pub fn outputs_have_the_trees()
+    ensures { OutputHasTheTrees }
 {}
 
 /// The text of a policy in an output is determined by its own tokens with their comments, the width and the indentation.

@@ -8,7 +8,7 @@ use Rattle.cedar_tokens.specs.Units.{is_token}
 use Rattle.cedar_tokens.specs.Places.{token_spans}
 use Rattle.cedar_tokens.specs.declared.token.Span.{Span}
 use Rattle.cedar_grammar.specs.TokenKinds.{kind_of}
-use Rattle.cedar_grammar.specs.Texts.{greatest_depth, tokens}
+use Rattle.cedar_grammar.specs.Texts.{greatest_depth, only_tokens}
 use Rattle.cedar_grammar.specs.Trees.{Label, Forest, none, leaf, branch, yield}
 use Rattle.cedar_grammar.specs.Grammar.{G}
 use Rattle.cedar_grammar.specs.Placed.{Placed, kind_of_placed}
@@ -102,7 +102,7 @@ module _ (n : ℕ) where
     -- the policies that were parsed are those of the part
     pub part_tree : (p : Policies) → GivesSet (Ok p) (set_to kind greatest_depth (map moved ls)) → HasPoliciesFrom n part p.policies.items
     part_tree p (f, e, same) =
-        let texts : map (λ (l : Lexeme). l.text.now) (map moved ls) ≡ tokens are.units = map_map (λ (l : Lexeme). l.text.now) moved ls ∙ are.texts in
+        let texts : map (λ (l : Lexeme). l.text.now) (map moved ls) ≡ only_tokens are.units = map_map (λ (l : Lexeme). l.text.now) moved ls ∙ are.texts in
         let places : map (λ (l : Lexeme). l.span) (map moved ls) ≡ token_spans n are.units =
         map_map (λ (l : Lexeme). l.span) moved ls ∙ (sym (map_map (moved_span n) (λ (l : Lexeme). l.span) ls) ∙ (ap (map (moved_span n)) are.places ∙ (spans_moved 0 are.units ∙ ap (λ k. token_spans k are.units) (omega arith)))) in
         let t = placed_tree n are.units (map moved ls) (kinds_moved ls are.kinds) texts places greatest_depth f e in

@@ -19,7 +19,7 @@ use Rattle.cedar_grammar.specs.Numbers.{is_too_large}
 use Rattle.cedar_grammar.specs.Placed.{Placed, with_places, kind_of_placed}
 use Rattle.cedar_grammar.specs.TokenKinds.{kind_of}
 use Rattle.cedar_grammar.specs.TrailingCommas.{without_trailing}
-use Rattle.cedar_grammar.specs.Texts.{greatest_depth, tokens, Accepted}
+use Rattle.cedar_grammar.specs.Texts.{greatest_depth, only_tokens, Accepted}
 use Rattle.cedar_grammar.proofs.LanguageLaws.{yield_join}
 use Rattle.cedar_grammar.proofs.ReadingLaws.{join_assoc}
 use Rattle.cedar_grammar.proofs.RuleMaps.{relabel}
@@ -61,8 +61,8 @@ places_join (t ∷ ts) us (s ∷ ss) rs e = ap (λ z. record { text = t; span = 
 -- the tokens of units, and then those of the units behind them
 placed_join : (from : ℕ) (us vs : List (List ℕ)) → placed_from from (us ++ vs) ≡ placed_from from us ++ placed_from (from + sum_by length us) vs
 placed_join from us vs =
-    ap (λ z. with_places z (token_spans from (us ++ vs))) (filter-append is_token us vs) ∙ (ap (with_places (tokens us ++ tokens vs)) (spans_join from us vs)
-    ∙ places_join (tokens us) (tokens vs) (token_spans from us) (token_spans (from + sum_by length us) vs) (spans_length from us))
+    ap (λ z. with_places z (token_spans from (us ++ vs))) (filter-append is_token us vs) ∙ (ap (with_places (only_tokens us ++ only_tokens vs)) (spans_join from us vs)
+    ∙ places_join (only_tokens us) (only_tokens vs) (token_spans from us) (token_spans (from + sum_by length us) vs) (spans_length from us))
 
 -- ---- trees
 
@@ -143,18 +143,18 @@ text_of t = t.text
 
 -- the tokens of a part that has policies are a list of the grammar
 module _ (from : ℕ) (part : List ℕ) (ps : List (Node Tree.Policy)) (h : HasPoliciesFrom from part ps) where
-  part_grammar : G kind_of greatest_depth (branch Label.policies (relabel text_of h.row) none) (tokens h.units)
+  part_grammar : G kind_of greatest_depth (branch Label.policies (relabel text_of h.row) none) (only_tokens h.units)
   part_grammar = subst (λ z. G kind_of greatest_depth (branch Label.policies (relabel text_of h.row) none) z) (placed_texts h.units from)
       (relabelled text_of kind_of_placed kind_of (λ _. refl) greatest_depth (branch Label.policies h.row none) (placed_from from h.units) (record { shape = (h.row, refl, h.among); leaves = append-nil (yield h.row) ∙ h.leaves }))
 
   pub part_accepted : Accepted part
   part_accepted = (branch Label.policies (relabel text_of h.row) none, record { units = h.units; split = h.split; fitting = h.fitting; grammar = part_grammar })
 
-  row_texts : Many (Policy kind_of greatest_depth) (relabel text_of h.row) × (yield (relabel text_of h.row) ≡ tokens h.units)
+  row_texts : Many (Policy kind_of greatest_depth) (relabel text_of h.row) × (yield (relabel text_of h.row) ≡ only_tokens h.units)
   row_texts = go part_grammar.shape
     where
       go : ((g : Forest Label (List ℕ)) × (branch Label.policies (relabel text_of h.row) none ≡ branch Label.policies g none) × Many (Policy kind_of greatest_depth) g)
-          → Many (Policy kind_of greatest_depth) (relabel text_of h.row) × (yield (relabel text_of h.row) ≡ tokens h.units)
+          → Many (Policy kind_of greatest_depth) (relabel text_of h.row) × (yield (relabel text_of h.row) ≡ only_tokens h.units)
       go (g, e, m) =
           let same : relabel text_of h.row ≡ g = cc in
           (subst (Many (Policy kind_of greatest_depth)) (sym same) m, sym (append-nil (yield (relabel text_of h.row))) ∙ part_grammar.leaves)
@@ -181,11 +181,11 @@ module _ (from : ℕ) (part : List ℕ) (ps : List (Node Tree.Policy)) (h : HasP
   one_node (q ∷ qs) k e = let rest : policy_trees qs ≡ none = cc in (q, ap (λ z. q ∷ z) (no_nodes qs rest))
 
   -- a part without tokens has no policies
-  pub has_none : (us : List (List ℕ)) → SplitsInto part us → tokens us ≡ [] → ps ≡ []
+  pub has_none : (us : List (List ℕ)) → SplitsInto part us → only_tokens us ≡ [] → ps ≡ []
   has_none us s e =
       let r = row_texts in
       let same : h.units ≡ us = split_unique part h.units us h.split s in
-      let bare : yield (relabel text_of h.row) ≡ [] = r.1 ∙ (ap tokens same ∙ e) in
+      let bare : yield (relabel text_of h.row) ≡ [] = r.1 ∙ (ap only_tokens same ∙ e) in
       let empty = no_policies kind_of greatest_depth (relabel text_of h.row) r.0 (ap (list_any _) bare) in
       no_nodes ps (h.nodes ∙ ap row_nodes (no_trees h.row empty))
 
@@ -193,15 +193,15 @@ module _ (from : ℕ) (part : List ℕ) (ps : List (Node Tree.Policy)) (h : HasP
 pub has_one : (from : ℕ) (text : List ℕ) (n : ℕ) (ps : List (Node Tree.Policy)) (p : IsPiece text n) → list_any is_semicolon p.before ≡ false → HasPoliciesFrom from (take n text) ps → (q : Node Tree.Policy) × (ps ≡ q ∷ [])
 has_one from text n ps p first h =
     let r = row_texts from (take n text) ps h in
-    let same : tokens h.units ≡ tokens p.before ++ (codes ";" ∷ []) = ap tokens (split_unique (take n text) h.units (units_of p) h.split (piece_splits text n p)) ∙ piece_tokens text n p in
-    let one = one_policy kind_of greatest_depth (relabel text_of h.row) (tokens p.before) (codes ";") r.0 refl (no_kind p.before first) (r.1 ∙ same) in
+    let same : only_tokens h.units ≡ only_tokens p.before ++ (codes ";" ∷ []) = ap only_tokens (split_unique (take n text) h.units (units_of p) h.split (piece_splits text n p)) ∙ piece_tokens text n p in
+    let one = one_policy kind_of greatest_depth (relabel text_of h.row) (only_tokens p.before) (codes ";") r.0 refl (no_kind p.before first) (r.1 ∙ same) in
     let tree = one_tree from (take n text) ps h h.row one.0 one.1 in
     one_node from (take n text) ps h ps tree.0 (h.nodes ∙ ap row_nodes tree.1)
 
 -- ---- what is read comes first
 
 -- a piece's tokens end with its `;`
-lone_semicolon : (from : ℕ) (line : List (List ℕ)) → tokens line ≡ [] → (s : Placed) × (placed_from from (codes ";" ∷ line) ≡ s ∷ []) × (s.text ≡ codes ";")
+lone_semicolon : (from : ℕ) (line : List (List ℕ)) → only_tokens line ≡ [] → (s : Placed) × (placed_from from (codes ";" ∷ line) ≡ s ∷ []) × (s.text ≡ codes ";")
 unfolding token_spans slots punctuators keywords
 lone_semicolon from line e = (
   record { text = codes ";"; span = record { start = from; end = from + length (codes ";") } },
@@ -209,7 +209,7 @@ lone_semicolon from line e = (
   refl,
 )
 
-placed_piece : (from : ℕ) (before line : List (List ℕ)) → tokens line ≡ [] → (s : Placed) × (placed_from from (before ++ (codes ";" ∷ line)) ≡ placed_from from before ++ (s ∷ [])) × (s.text ≡ codes ";")
+placed_piece : (from : ℕ) (before line : List (List ℕ)) → only_tokens line ≡ [] → (s : Placed) × (placed_from from (before ++ (codes ";" ∷ line)) ≡ placed_from from before ++ (s ∷ [])) × (s.text ≡ codes ";")
 placed_piece from before line e =
     let s = lone_semicolon (from + sum_by length before) line e in
     (s.0, placed_join from before (codes ";" ∷ line) ∙ ap (λ z. placed_from from before ++ z) s.1, s.2)

@@ -7,13 +7,14 @@ use Rattle.std.proofs.lemmas.List.{length-take-le, length-drop}
 use Rattle.cedar_tokens.specs.Split.{SplitsInto}
 use Rattle.cedar_tokens.proofs.Scanning.{fault_prevents, split_unique}
 use Rattle.cedar_grammar.specs.Numbers.{is_too_large}
-use Rattle.cedar_grammar.specs.Texts.{Accepted, IsRefused}
+use Rattle.cedar_grammar.specs.Texts.{Accepted, LeavesGrammar}
+use Rattle.cedar_grammar.proofs.Leaving.{leaves_grammar, is_refused}
 use Rattle.cedar_grammar.proofs.TextLaws.{fit_part}
 use Rattle.cedar_tree.specs.declared.error.FormatError.{FormatError}
 use Rattle.cedar_tree.specs.declared.error.FormatError.TheVariants.{UnknownCharacter, UnfinishedString, NumberTooLarge, Grammar, TooDeep, NoDocument, Unsound, OutOfMemory}
 use Rattle.cedar_tree.specs.declared.tree.Node.{Node}
 use Rattle.cedar_tree.specs.declared.tree.Policy.{Policy}
-use Rattle.cedar_tree.specs.Refusals.{Refuses}
+use Rattle.cedar_tree.specs.Refusals.{OutOfMemoryOr, Refuses}
 use Rattle.cedar_reading.specs.Tokens.{HasTokens}
 use Rattle.cedar_reading.proofs.Walking.{part_unit}
 use Rattle.cedar_pieces.specs.Pieces.{IsPiece, HasNoPiece, IsFirstPiece}
@@ -118,13 +119,13 @@ read_all text at ps qs all r q h =
 -- ---- refusals
 
 -- where the part's tokens can be parsed, only the grammar refuses it
-only_grammar : (from : ℕ) (part text : List ℕ) (vs : List (List ℕ)) → SplitsInto part vs → list_any is_too_large vs ≡ false → ((p : ℕ) (deep : Bool) → IsRefused part p deep → IsRefused text (from + p) deep)
-    → (e : FormatError) → RefusesFrom from part e → Refuses text e
+only_grammar : (from : ℕ) (part text : List ℕ) (vs : List (List ℕ)) → SplitsInto part vs → list_any is_too_large vs ≡ false → ((p : ℕ) (deep : Bool) → LeavesGrammar part p deep → LeavesGrammar text (from + p) deep)
+    → (e : FormatError) → RefusesFrom from part e → OutOfMemoryOr (Refuses text) e
 only_grammar from part text vs s f h (UnknownCharacter p) r = absurd (fault_prevents part p r.0 (vs, s))
 only_grammar from part text vs s f h (UnfinishedString p) r = absurd (fault_prevents part p r.0 (vs, s))
 only_grammar from part text vs s f h (NumberTooLarge p) r = absurd (fit_part r.before r.number r.after (ap (list_any is_too_large) (split_unique part (r.before ++ (r.number ∷ r.after)) vs r.split s) ∙ f) r.large)
-only_grammar from part text vs s f h (Grammar p) (q, e, r) = subst (λ k. IsRefused text k false) (sym e) (h q false r)
-only_grammar from part text vs s f h (TooDeep p) (q, e, r) = subst (λ k. IsRefused text k true) (sym e) (h q true r)
+only_grammar from part text vs s f h (Grammar p) (q, e, r) = subst (λ k. LeavesGrammar text k false) (sym e) (h q false r)
+only_grammar from part text vs s f h (TooDeep p) (q, e, r) = subst (λ k. LeavesGrammar text k true) (sym e) (h q true r)
 only_grammar from part text vs s f h NoDocument r = absurd r
 only_grammar from part text vs s f h Unsound r = absurd r
 only_grammar from part text vs s f h OutOfMemory r = tt
@@ -138,23 +139,25 @@ module _ (text : List ℕ) (at : ℕ) (b : IsBehindPolicies text at) where
   rest_fits (inl e) = subst (λ k. Fitting (drop k text)) (sym e) (b.tokens.units, b.tokens.split, b.tokens.fitting)
   rest_fits (inr p) = (parts_fit text at b.tokens.units p b.tokens.split b.tokens.fitting).1
 
-  rest_moves : EndsPiece text at → (p : ℕ) (deep : Bool) → IsRefused (drop at text) p deep → IsRefused text (at + p) deep
+  rest_moves : EndsPiece text at → (p : ℕ) (deep : Bool) → LeavesGrammar (drop at text) p deep → LeavesGrammar text (at + p) deep
   rest_moves (inl e) p deep r =
-      let z : IsRefused text p deep = subst (λ k. IsRefused (drop k text) p deep) e r in
+      let z : LeavesGrammar text p deep = subst (λ k. LeavesGrammar (drop k text) p deep) e r in
       let same : p ≡ at + p = omega (arith, e) in
-      subst (λ k. IsRefused text k deep) same z
-  rest_moves (inr q) p deep r = rest_refused text at p deep b.tokens.units q b.tokens.split b.tokens.fitting b.accepted r
+      subst (λ k. LeavesGrammar text k deep) same z
+  rest_moves (inr q) p deep r =
+      leaves_grammar text (at + p) deep (rest_refused text at p deep b.tokens.units q b.tokens.split b.tokens.fitting b.accepted (is_refused (drop at text) p deep r))
 
   -- a refusal of the rest is one of the text
-  pub rest_refuses : (e : FormatError) → RefusesFrom at (drop at text) e → Refuses text e
+  pub rest_refuses : (e : FormatError) → RefusesFrom at (drop at text) e → OutOfMemoryOr (Refuses text) e
   rest_refuses e r = let f = rest_fits b.ends in only_grammar at (drop at text) text f.0 f.1 f.2 (rest_moves b.ends) e r
 
   -- a refusal of the next piece is one of the text
-  pub piece_refuses : (n : ℕ) → IsPiece (drop at text) n → (e : FormatError) → RefusesFrom at (take n (drop at text)) e → Refuses text e
+  pub piece_refuses : (n : ℕ) → IsPiece (drop at text) n → (e : FormatError) → RefusesFrom at (take n (drop at text)) e → OutOfMemoryOr (Refuses text) e
   piece_refuses n q e r =
       let f = rest_fits b.ends in
       let g = (parts_fit (drop at text) n f.0 q f.1 f.2).0 in
-      only_grammar at (take n (drop at text)) text g.0 g.1 g.2 (λ p deep h. rest_moves b.ends p deep (piece_refused (drop at text) n p deep f.0 q f.1 f.2 h)) e r
+      only_grammar at (take n (drop at text)) text g.0 g.1 g.2 (λ p deep h. rest_moves b.ends p deep
+      (leaves_grammar (drop at text) p deep (piece_refused (drop at text) n p deep f.0 q f.1 f.2 (is_refused (take n (drop at text)) p deep h)))) e r
 
 -- ---- the policy of a piece
 

@@ -6,7 +6,9 @@ use Rattle.std.proofs.lemmas.Option.{slice_get_past}
 use Rattle.cedar_tokens.specs.Units.{is_token}
 use Rattle.cedar_grammar.specs.TokenKinds.{kind_of}
 use Rattle.cedar_grammar.specs.Trees.{Label, Forest, none, leaf, branch, yield}
-use Rattle.cedar_grammar.specs.Texts.{greatest_depth, IsRefused}
+use Rattle.cedar_grammar.specs.Texts.{greatest_depth, LeavesGrammar}
+use Rattle.cedar_grammar.specs.Reader.Hopeless.{IsRefused}
+use Rattle.cedar_grammar.proofs.Leaving.{leaves_grammar}
 use Rattle.cedar_grammar.specs.Reader.Reading.{Answer, done, stuck}
 use Rattle.cedar_grammar.specs.Reader.Lines.{set_to}
 use Rattle.cedar_grammar.proofs.DepthLaws.{Beyond}
@@ -79,12 +81,12 @@ module _ (text : List ℕ) (ls : List Lexeme) (are : AreLexemes text ls) where
       let k = (set_sound kind greatest_depth ls f (t ∷ s) e).tokens in
       subst (λ z. IsRefused text z false) (sym (ap (λ z. place_of text z (length (t ∷ s))) k ∙ place_at text (yield f) t s)) (parsed text ls are (done f (t ∷ s)) e)
 
-  pub whole_grammar : (left : ℕ) → GivesSet (Err (Grammar left)) (set_to kind greatest_depth ls) → IsRefused text (place_of text ls left) false
-  whole_grammar left h = go h.0 h.1 h.2
+  pub whole_grammar : (left : ℕ) → GivesSet (Err (Grammar left)) (set_to kind greatest_depth ls) → LeavesGrammar text (place_of text ls left) false
+  whole_grammar left h = leaves_grammar text (place_of text ls left) false (go h.0 h.1 h.2)
     where
       go : (r : List Lexeme) → (set_to kind greatest_depth ls ≡ stuck false r) ⊎ ((f : Forest Label Lexeme) × (t : Lexeme) × (s : List Lexeme) × (set_to kind greatest_depth ls ≡ done f r) × (r ≡ t ∷ s)) → left ≡ length r → IsRefused text (place_of text ls left) false
       go r (inl e) n = subst (λ z. IsRefused text (place_of text ls z) false) (sym n) (stuck_place false r e)
       go r (inr x) n = subst (λ z. IsRefused text (place_of text ls z) false) (sym (n ∙ ap length x.4)) (left_place x.0 x.1 x.2 (x.3 ∙ ap (done x.0) x.4))
 
-  pub whole_deep : (left : ℕ) → GivesSet (Err (TooDeep left)) (set_to kind greatest_depth ls) → IsRefused text (place_of text ls left) true
-  whole_deep left h = subst (λ z. IsRefused text (place_of text ls z) true) (sym h.2) (stuck_place true h.0 h.1)
+  pub whole_deep : (left : ℕ) → GivesSet (Err (TooDeep left)) (set_to kind greatest_depth ls) → LeavesGrammar text (place_of text ls left) true
+  whole_deep left h = leaves_grammar text (place_of text ls left) true (subst (λ z. IsRefused text (place_of text ls z) true) (sym h.2) (stuck_place true h.0 h.1))

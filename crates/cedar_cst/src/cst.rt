@@ -1,7 +1,7 @@
 //! Trees of policies, and the parser.
 ghost use Rattle.std.specs.Prelude.{◌≡◌, IfOk, IfErr};
 ghost use Rattle.cedar_tree.specs.NodeTrees.{IsTreeOf};
-ghost use Rattle.cedar_tree.specs.Refusals.{Refuses};
+ghost use Rattle.cedar_tree.specs.Refusals.{OutOfMemoryOr, Refuses};
 
 mod policies;
 mod reader;
@@ -28,7 +28,7 @@ use std::alloc::Global;
 /// a token is missing, at the text's length.
 pub fn parse_policies<'src>(alloc: Global, text: &'src str) -> Result<Policies<'src>, FormatError>
     ensures tree { IfOk result (λ p. IsTreeOf text.now p) }
-    ensures refusal { IfErr result (λ e. Refuses text.now e) }
+    ensures refusal { IfErr result (OutOfMemoryOr (Refuses text.now)) }
 {
     tree_has_the_policies();
     let mut reader = PolicyReader::new(text)?;

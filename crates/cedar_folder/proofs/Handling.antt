@@ -3,7 +3,8 @@ use Rattle.std.proofs.Common.{◌≡◌, ◌≢◌, ◌∙◌, ◌⊎◌, ℕ, L
 use Rattle.std.specs.Str.{IsUtf8}
 use Rattle.cedar_documents.specs.declared.config.Config.{Config}
 use Rattle.cedar_folder.specs.Folders.{Names, Picture, Since, Stored}
-use Rattle.cedar_folder.specs.Runs.{Became, Handles, HasOutput, HoldsOutput, IsLeft, IsMoment, IsUnformatted, Replaced, Replaces}
+use Rattle.cedar_policy_formatter.specs.Outputs.{HasOutput}
+use Rattle.cedar_folder.specs.Runs.{Became, Handles, HoldsOutput, IsLeft, IsMoment, IsUnformatted, Replaced, Replaces}
 use Rattle.cedar_folder.specs.declared.folder.Access.{Access}
 use Rattle.cedar_folder.specs.declared.folder.Outcome.{Outcome}
 use Rattle.cedar_folder.specs.declared.folder.Outcome.TheVariants.{Formatted, Unformatted, NotUtf8, Refused, Unread, Unwritten, LeftBeside}

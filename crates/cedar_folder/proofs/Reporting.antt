@@ -8,7 +8,8 @@ use Rattle.cedar_tokens.specs.Listing.{ListingIsUnique}
 use Rattle.cedar_canonical.specs.Canonical.{OutputIsItsOwn, OutputsTellLists}
 use Rattle.cedar_documents.specs.declared.config.Config.{Config}
 use Rattle.cedar_folder.specs.Folders.{Names, Picture, Reports, Since, Stored}
-use Rattle.cedar_folder.specs.Runs.{Became, Handles, HandlesAll, HandlesThese, HasOutput, HoldsOutput, HoldsReplaced, IsLeft, IsMoment, IsNamed, IsOutputFile, IsUnformatted, NoneTwice, SomeLeft}
+use Rattle.cedar_policy_formatter.specs.Outputs.{HasOutput}
+use Rattle.cedar_folder.specs.Runs.{Became, Handles, HandlesAll, HandlesThese, HoldsOutput, HoldsReplaced, IsLeft, IsMoment, IsNamed, IsOutputFile, IsUnformatted, NoneTwice, SomeLeft}
 use Rattle.cedar_folder.specs.declared.folder.Outcome.{Outcome}
 use Rattle.cedar_folder.specs.declared.folder.Outcome.TheVariants.{Formatted, Unformatted, NotUtf8, Refused, Unread, Unwritten, LeftBeside}
 use Rattle.cedar_folder.proofs.Layouts.{one_output, output_is_formatted}
@@ -116,7 +117,7 @@ module _ (again : OutputIsItsOwn) (tell : OutputsTellLists) (unique : ListingIsU
     still : (f g : Stored) (h : Option Stored) → IsOutputFile c f g → (h ≡ Some g) ⊎ HoldsOutput c g h → HoldsOutput c f h
     still f g h is (inl same) = (g, is, same)
     still f g h is (inr (k, other, held)) =
-        let same : k.bytes ≡ g.bytes = one_output tell unique c g.bytes k.bytes g.bytes other.0 (is.1, other.0.1, again c.line_width c.indent_width f.bytes g.bytes is.0.0 is.0.2) in
+        let same : k.bytes ≡ g.bytes = one_output tell unique c g.bytes k.bytes g.bytes other.0 (is.1, again c.line_width c.indent_width f.bytes g.bytes is.0.0 is.0.1) in
         (k, (subst (λ z. HasOutput c f.bytes z) (sym same) is.0, other.1, other.2 ∙ is.2), held)
 
     at_output : (s : Names) (n : List ℕ) (f g : Stored) → IsMoment c (λ z. z ≡ m) q.holds s → IsOutputFile c f g → q.holds n ≡ Some g → HoldsOutput c f (s n)

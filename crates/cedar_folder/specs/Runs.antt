@@ -3,8 +3,8 @@ use Rattle.std.specs.Prelude.{◌≡◌, ◌≢◌, ◌⊎◌, ◌++◌, ◌∷�
 use Rattle.std.specs.List.{AllByRecursion}
 use Rattle.std.specs.Str.{IsUtf8}
 use Rattle.cedar_grammar.specs.Texts.{Accepted}
-use Rattle.cedar_canonical.specs.Canonical.{IsOutputOf}
-use Rattle.cedar_tree.specs.Refusals.{Refuses}
+use Rattle.cedar_policy_formatter.specs.Outputs.{HasOutput}
+use Rattle.cedar_tree.specs.Refusals.{OutOfMemoryOr, Refuses}
 use Rattle.cedar_documents.specs.declared.config.Config.{Config}
 use Rattle.cedar_folder.specs.Folders.{Alike, Names, Picture, Since, Spares, Stored}
 use Rattle.cedar_folder.specs.declared.folder.Access.{Access}
@@ -12,10 +12,6 @@ use Rattle.cedar_folder.specs.declared.folder.Outcome.{Outcome}
 use Rattle.cedar_folder.specs.declared.folder.Outcome.TheVariants.{Formatted, Unformatted, NotUtf8, Refused, Unread, Unwritten, LeftBeside}
 use Rattle.cedar_folder.specs.declared.files.Layout.{Layout}
 use Rattle.cedar_folder.specs.declared.files.Layout.TheVariants as layout
-
--- the output of these bytes
-abbrev pub HasOutput : Config → List ℕ → List ℕ → Type 0
-HasOutput c x y = IsUtf8 x × Accepted x × IsOutputOf c.line_width c.indent_width x y
 
 -- the bytes are accepted, and not their own output
 abbrev pub IsUnformatted : Config → List ℕ → Type 0
@@ -38,7 +34,7 @@ abbrev pub GivesLayout : Config → List ℕ → Layout → Type 0
 GivesLayout c x layout.Own = HasOutput c x x
 GivesLayout c x (layout.Other s) = IsUnformatted c x × HasOutput c x (string_bytes s) × IsUtf8 (string_bytes s)
 GivesLayout c x layout.NotUtf8 = ¬ (IsUtf8 x)
-GivesLayout c x (layout.Refused e) = Refuses x e
+GivesLayout c x (layout.Refused e) = OutOfMemoryOr (Refuses x) e
 
 -- a file was left beside one that couldn't be replaced
 abbrev pub IsLeft : Outcome → Type 0
@@ -55,7 +51,7 @@ abbrev pub Became : Bool → Config → Stored → Outcome → Option Stored →
 Became only c f Formatted h = HasOutput c f.bytes f.bytes × (h ≡ Some f)
 Became only c f Unformatted h = IsUnformatted c f.bytes × HoldsReplaced only c f h
 Became only c f NotUtf8 h = ¬ (IsUtf8 f.bytes) × (h ≡ Some f)
-Became only c f (Refused e bytes) h = Refuses f.bytes e × (bytes.items ≡ f.bytes) × (h ≡ Some f)
+Became only c f (Refused e bytes) h = OutOfMemoryOr (Refuses f.bytes) e × (bytes.items ≡ f.bytes) × (h ≡ Some f)
 Became only c f o h = h ≡ Some f
 
 -- at a moment of the run each file holds what it held, or one of these its output

@@ -11,7 +11,8 @@ use Rattle.cedar_grammar.proofs.Families
 use Rattle.cedar_grammar.proofs.Families.{Starts, HopelessAt, refused, left_over, unfinished}
 use Rattle.cedar_grammar.proofs.WholeLaws.{set_laws}
 use Rattle.cedar_grammar.proofs.RuleMaps.{each, answer_of, set_agrees}
-use Rattle.cedar_grammar.specs.HopelessPlaces.{Begins, Hopeless, Unfinished}
+use Rattle.cedar_grammar.specs.Beginnings.{Begins}
+use Rattle.cedar_grammar.specs.Reader.Hopeless.{Hopeless, Unfinished}
 
 module _ {A : Type 0} (kind : A → Kind) where
   abbrev pub Says : ℕ → List A → Answer A → Type 0

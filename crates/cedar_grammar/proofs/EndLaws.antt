@@ -3,7 +3,7 @@ use Rattle.std.specs.Prelude.{◌≡◌, ℕ, zero, suc, Bool, true, false, List
 use Rattle.std.proofs.Common.{refl, sym, ap, ◌∙◌, append_assoc, append-nil, inl, inr}
 use Rattle.cedar_grammar.specs.declared.kind.Kind.{Kind}
 use Rattle.cedar_grammar.specs.Trees.{Label, Forest, none, branch, yield, join}
-use Rattle.cedar_grammar.specs.Languages.{Lang, ◌·◌, Many, no_more, one_more, Tree, Of}
+use Rattle.cedar_grammar.specs.Languages.{Lang, ◌⋄◌, Many, no_more, one_more, Branch, Of}
 use Rattle.cedar_grammar.specs.Reader.Reading.{Answer, Reader, done, stuck, choice, both, skip, tree, nest, too_deep, many, repeat, token}
 use Rattle.cedar_grammar.proofs.ReadingLaws.{choice_yes, choice_no, both_done, both_fails, both_then_fails, tree_done, tree_fails, token_yes, token_no, token_end}
 use Rattle.cedar_grammar.proofs.LanguageLaws.{IsRead, Sound, yield_join}
@@ -43,10 +43,10 @@ module _ {A : Type 0} where
       go (inl e) = record { trees = least.0; rest = yield least.0; among = least.1; leaves = ap (λ z. z ++ yield least.0) (sym e) }
       go (inr c) = c
 
-  pub both_completes : (P Q : Reader A) (X Y : Lang A) → Sound P X → Completes P X → Completes Q Y → Inhabited Y → Completes (both P Q) (X · Y)
+  pub both_completes : (P Q : Reader A) (X Y : Lang A) → Sound P X → Completes P X → Completes Q Y → Inhabited Y → Completes (both P Q) (X ⋄ Y)
   both_completes P Q X Y sound p q least ts b r e = go (P ts) refl
     where
-      first : (k : Halt X ts r) → (k.front ≡ []) ⊎ Completed X k.front → Halt (X · Y) ts r
+      first : (k : Halt X ts r) → (k.front ≡ []) ⊎ Completed X k.front → Halt (X ⋄ Y) ts r
       first k (inl z) = record { front = k.front; tokens = k.tokens; completed = inl z }
       first k (inr c) = record {
         front = k.front;
@@ -59,7 +59,7 @@ module _ {A : Type 0} where
         });
       }
 
-      second : (g : Forest Label A) (s : List A) → IsRead X ts g s → (k : Halt Y s r) → (f : Forest Label A) (c : List A) → Y f → yield f ≡ k.front ++ c → Halt (X · Y) ts r
+      second : (g : Forest Label A) (s : List A) → IsRead X ts g s → (k : Halt Y s r) → (f : Forest Label A) (c : List A) → Y f → yield f ≡ k.front ++ c → Halt (X ⋄ Y) ts r
       second g s x k f c y l = record {
         front = yield g ++ k.front;
         tokens = x.tokens ∙ ap (λ z. yield g ++ z) k.tokens ∙ sym (append_assoc (yield g) k.front r);
@@ -71,7 +71,7 @@ module _ {A : Type 0} where
         });
       }
 
-      inner : (g : Forest Label A) (s : List A) → P ts ≡ done g s → (c : Answer A) → Q s ≡ c → Halt (X · Y) ts r
+      inner : (g : Forest Label A) (s : List A) → P ts ≡ done g s → (c : Answer A) → Q s ≡ c → Halt (X ⋄ Y) ts r
       inner g s d (done h u) k = let w = both_done P Q ts g s h u d k in absurd cc
       inner g s d (stuck c u) k =
           let w = both_then_fails P Q ts g s c u d k in
@@ -80,17 +80,17 @@ module _ {A : Type 0} where
           let o = halt_whole Y least s r h in
           second g s (sound ts g s d) (record { front = o.0; tokens = o.1; completed = inr o.2 }) (o.2).trees (o.2).rest (o.2).among (o.2).leaves
 
-      go : (a : Answer A) → P ts ≡ a → Halt (X · Y) ts r
+      go : (a : Answer A) → P ts ≡ a → Halt (X ⋄ Y) ts r
       go (done g s) d = inner g s d (Q s) refl
       go (stuck c s) d =
           let w = both_fails P Q ts c s d in
           let k = p ts b r (let deep : c ≡ b = cc in let rest : s ≡ r = cc in d ∙ ap (λ z. stuck z s) deep ∙ ap (λ z. stuck b z) rest) in
           first k k.completed
 
-  pub tree_completes : (l : Label) (P : Reader A) (X : Lang A) → Completes P X → Completes (tree l P) (Tree l X)
+  pub tree_completes : (l : Label) (P : Reader A) (X : Lang A) → Completes P X → Completes (tree l P) (Branch l X)
   tree_completes l P X p ts b r e = go (P ts) refl
     where
-      up : (k : Halt X ts r) → (k.front ≡ []) ⊎ Completed X k.front → Halt (Tree l X) ts r
+      up : (k : Halt X ts r) → (k.front ≡ []) ⊎ Completed X k.front → Halt (Branch l X) ts r
       up k (inl z) = record { front = k.front; tokens = k.tokens; completed = inl z }
       up k (inr c) = record {
         front = k.front;
@@ -98,7 +98,7 @@ module _ {A : Type 0} where
         completed = inr (record { trees = branch l c.trees none; rest = c.rest; among = (c.trees, refl, c.among); leaves = append-nil (yield c.trees) ∙ c.leaves });
       }
 
-      go : (a : Answer A) → P ts ≡ a → Halt (Tree l X) ts r
+      go : (a : Answer A) → P ts ≡ a → Halt (Branch l X) ts r
       go (done g s) d = let w = tree_done l P ts g s d in absurd cc
       go (stuck c s) d =
           let w = tree_fails l P ts c s d in
@@ -124,7 +124,7 @@ module _ {A : Type 0} where
   unfolding many
   many_completes t P X s p zero ts b r e = absurd cc
   many_completes t P X s p (suc n) ts b r e = choice_completes t (both P (many t P n)) skip (Many X)
-      (λ ts b r e. halt_more (X · Many X) (Many X) (λ f (g, h, e, x, m). one_more f g h e x m) ts r (both_completes P (many t P n) X (Many X) s p (many_completes t P X s p n) (none, no_more none refl) ts b r e))
+      (λ ts b r e. halt_more (X ⋄ Many X) (Many X) (λ f (g, h, e, x, m). one_more f g h e x m) ts r (both_completes P (many t P n) X (Many X) s p (many_completes t P X s p n) (none, no_more none refl) ts b r e))
       (λ ts b r e. absurd cc) ts b r e
 
   pub repeat_completes : (t : List A → Bool) (P : Reader A) (X : Lang A) → Sound P X → Completes P X → Completes (repeat t P) (Many X)

@@ -1,7 +1,7 @@
 -- Trees whose first leaf is changed.
 use Rattle.std.proofs.Common.{◌≡◌, List, [], ◌∷◌, ◌++◌, refl, ap, ◌∙◌}
 use Rattle.std.specs.Prelude.{⊤}
-use Rattle.cedar_grammar.specs.TypedTrees.{Tree, NodeKind, accesses, yield, tree_map, map_first, name_one, name_more, ref_of, args_one, args_more, init_of, inits_one, inits_more, literal, slot, reference, named, parens, list_empty, list_of, record_empty, record_of, no_access, field, call_empty, call, index, member_of, unsigned, signed, products_one, products_more, mult_of, sums_one, sums_more, add_of, single, compare, has_or_like, is_type, is_in, ands_one, ands_more, ors_one, ors_more, plain_expr, if_expr}
+use Rattle.cedar_grammar.specs.TypedTrees.{Tree, NodeKind, accesses, tree_yield, tree_map, map_first, name_one, name_more, ref_of, args_one, args_more, init_of, inits_one, inits_more, literal, slot, reference, named, parens, list_empty, list_of, record_empty, record_of, no_access, field, call_empty, call, index, member_of, unsigned, signed, products_one, products_more, mult_of, sums_one, sums_more, add_of, single, compare, has_or_like, is_type, is_in, ands_one, ands_more, ors_one, ors_more, ors_expr, if_expr}
 
 -- ---- every node but a list of accesses has a leaf
 
@@ -17,15 +17,15 @@ nonempty_append : {A : Type 0} (xs ys : List A) → NonEmpty xs → NonEmpty (xs
 nonempty_append [] ys h = absurd h
 nonempty_append (x ∷ xs) ys h = tt
 
-pub starts : {A : Type 0} {k : NodeKind} (t : Tree A k) → Starts k (yield t)
+pub starts : {A : Type 0} {k : NodeKind} (t : Tree A k) → Starts k (tree_yield t)
 starts (name_one x) = tt
 starts (name_more x c r) = tt
-starts (ref_of n c s) = nonempty_append (yield n) (c ∷ s ∷ []) (starts n)
+starts (ref_of n c s) = nonempty_append (tree_yield n) (c ∷ s ∷ []) (starts n)
 starts (args_one e) = starts e
-starts (args_more e c r) = nonempty_append (yield e) (c ∷ yield r) (starts e)
-starts (init_of k c v) = nonempty_append (yield k) (c ∷ yield v) (starts k)
+starts (args_more e c r) = nonempty_append (tree_yield e) (c ∷ tree_yield r) (starts e)
+starts (init_of k c v) = nonempty_append (tree_yield k) (c ∷ tree_yield v) (starts k)
 starts (inits_one e) = starts e
-starts (inits_more e c r) = nonempty_append (yield e) (c ∷ yield r) (starts e)
+starts (inits_more e c r) = nonempty_append (tree_yield e) (c ∷ tree_yield r) (starts e)
 starts (literal x) = tt
 starts (slot x) = tt
 starts (reference r) = starts r
@@ -40,25 +40,25 @@ starts (field d x m) = tt
 starts (call_empty l r m) = tt
 starts (call l a r m) = tt
 starts (index l x r m) = tt
-starts (member_of p m) = nonempty_append (yield p) (yield m) (starts p)
+starts (member_of p m) = nonempty_append (tree_yield p) (tree_yield m) (starts p)
 starts (unsigned m) = starts m
 starts (signed s u) = tt
 starts (products_one u) = starts u
-starts (products_more u o r) = nonempty_append (yield u) (o ∷ yield r) (starts u)
+starts (products_more u o r) = nonempty_append (tree_yield u) (o ∷ tree_yield r) (starts u)
 starts (mult_of p) = starts p
 starts (sums_one m) = starts m
-starts (sums_more m o r) = nonempty_append (yield m) (o ∷ yield r) (starts m)
+starts (sums_more m o r) = nonempty_append (tree_yield m) (o ∷ tree_yield r) (starts m)
 starts (add_of s) = starts s
 starts (single a) = starts a
-starts (compare a o b) = nonempty_append (yield a) (o ∷ yield b) (starts a)
-starts (has_or_like a o b) = nonempty_append (yield a) (o ∷ yield b) (starts a)
-starts (is_type a o n) = nonempty_append (yield a) (o ∷ yield n) (starts a)
-starts (is_in a o n p b) = nonempty_append (yield a) (o ∷ (yield n ++ (p ∷ yield b))) (starts a)
+starts (compare a o b) = nonempty_append (tree_yield a) (o ∷ tree_yield b) (starts a)
+starts (has_or_like a o b) = nonempty_append (tree_yield a) (o ∷ tree_yield b) (starts a)
+starts (is_type a o n) = nonempty_append (tree_yield a) (o ∷ tree_yield n) (starts a)
+starts (is_in a o n p b) = nonempty_append (tree_yield a) (o ∷ (tree_yield n ++ (p ∷ tree_yield b))) (starts a)
 starts (ands_one r) = starts r
-starts (ands_more r o m) = nonempty_append (yield r) (o ∷ yield m) (starts r)
+starts (ands_more r o m) = nonempty_append (tree_yield r) (o ∷ tree_yield m) (starts r)
 starts (ors_one a) = starts a
-starts (ors_more a o m) = nonempty_append (yield a) (o ∷ yield m) (starts a)
-starts (plain_expr o) = starts o
+starts (ors_more a o m) = nonempty_append (tree_yield a) (o ∷ tree_yield m) (starts a)
+starts (ors_expr o) = starts o
 starts (if_expr i c t a g b) = tt
 
 -- ---- the tree by a map of all its leaves
@@ -106,7 +106,7 @@ module _ {A B : Type 0} (f : A → A) (g : B → B) (h : A → B) (same : (a : A
   map_first_map (ands_more r o m) = ap (λ w. ands_more w (h o) (tree_map h m)) (map_first_map r)
   map_first_map (ors_one a) = ap ors_one (map_first_map a)
   map_first_map (ors_more a o m) = ap (λ w. ors_more w (h o) (tree_map h m)) (map_first_map a)
-  map_first_map (plain_expr o) = ap plain_expr (map_first_map o)
+  map_first_map (ors_expr o) = ap ors_expr (map_first_map o)
   map_first_map (if_expr i c t a g b) = ap (λ w. if_expr w (tree_map h c) (h t) (tree_map h a) (h g) (tree_map h b)) (same i)
 
 -- a map that does not see the change
@@ -152,7 +152,7 @@ module _ {A B : Type 0} (f : A → A) (h : A → B) (same : (a : A) → h (f a) 
   map_first_unseen (ands_more r o m) = ap (λ w. ands_more w (h o) (tree_map h m)) (map_first_unseen r)
   map_first_unseen (ors_one a) = ap ors_one (map_first_unseen a)
   map_first_unseen (ors_more a o m) = ap (λ w. ors_more w (h o) (tree_map h m)) (map_first_unseen a)
-  map_first_unseen (plain_expr o) = ap plain_expr (map_first_unseen o)
+  map_first_unseen (ors_expr o) = ap ors_expr (map_first_unseen o)
   map_first_unseen (if_expr i c t a g b) = ap (λ w. if_expr w (tree_map h c) (h t) (tree_map h a) (h g) (tree_map h b)) (same i)
 
 -- ---- its leaves
@@ -167,15 +167,15 @@ module _ {A : Type 0} (f : A → A) where
   first_of_more [] ys h = absurd h
   first_of_more (x ∷ xs) ys h = refl
 
-  pub map_first_yield : {k : NodeKind} (t : Tree A k) → yield (map_first f t) ≡ change_first f (yield t)
+  pub map_first_yield : {k : NodeKind} (t : Tree A k) → tree_yield (map_first f t) ≡ change_first f (tree_yield t)
   map_first_yield (name_one x) = refl
   map_first_yield (name_more x c r) = refl
-  map_first_yield (ref_of n c s) = ap (λ w. w ++ (c ∷ s ∷ [])) (map_first_yield n) ∙ first_of_more (yield n) (c ∷ s ∷ []) (starts n)
+  map_first_yield (ref_of n c s) = ap (λ w. w ++ (c ∷ s ∷ [])) (map_first_yield n) ∙ first_of_more (tree_yield n) (c ∷ s ∷ []) (starts n)
   map_first_yield (args_one e) = map_first_yield e
-  map_first_yield (args_more e c r) = ap (λ w. w ++ (c ∷ yield r)) (map_first_yield e) ∙ first_of_more (yield e) (c ∷ yield r) (starts e)
-  map_first_yield (init_of k c v) = ap (λ w. w ++ (c ∷ yield v)) (map_first_yield k) ∙ first_of_more (yield k) (c ∷ yield v) (starts k)
+  map_first_yield (args_more e c r) = ap (λ w. w ++ (c ∷ tree_yield r)) (map_first_yield e) ∙ first_of_more (tree_yield e) (c ∷ tree_yield r) (starts e)
+  map_first_yield (init_of k c v) = ap (λ w. w ++ (c ∷ tree_yield v)) (map_first_yield k) ∙ first_of_more (tree_yield k) (c ∷ tree_yield v) (starts k)
   map_first_yield (inits_one e) = map_first_yield e
-  map_first_yield (inits_more e c r) = ap (λ w. w ++ (c ∷ yield r)) (map_first_yield e) ∙ first_of_more (yield e) (c ∷ yield r) (starts e)
+  map_first_yield (inits_more e c r) = ap (λ w. w ++ (c ∷ tree_yield r)) (map_first_yield e) ∙ first_of_more (tree_yield e) (c ∷ tree_yield r) (starts e)
   map_first_yield (literal x) = refl
   map_first_yield (slot x) = refl
   map_first_yield (reference r) = map_first_yield r
@@ -190,23 +190,23 @@ module _ {A : Type 0} (f : A → A) where
   map_first_yield (call_empty l r m) = refl
   map_first_yield (call l a r m) = refl
   map_first_yield (index l x r m) = refl
-  map_first_yield (member_of p m) = ap (λ w. w ++ (yield m)) (map_first_yield p) ∙ first_of_more (yield p) (yield m) (starts p)
+  map_first_yield (member_of p m) = ap (λ w. w ++ (tree_yield m)) (map_first_yield p) ∙ first_of_more (tree_yield p) (tree_yield m) (starts p)
   map_first_yield (unsigned m) = map_first_yield m
   map_first_yield (signed s u) = refl
   map_first_yield (products_one u) = map_first_yield u
-  map_first_yield (products_more u o r) = ap (λ w. w ++ (o ∷ yield r)) (map_first_yield u) ∙ first_of_more (yield u) (o ∷ yield r) (starts u)
+  map_first_yield (products_more u o r) = ap (λ w. w ++ (o ∷ tree_yield r)) (map_first_yield u) ∙ first_of_more (tree_yield u) (o ∷ tree_yield r) (starts u)
   map_first_yield (mult_of p) = map_first_yield p
   map_first_yield (sums_one m) = map_first_yield m
-  map_first_yield (sums_more m o r) = ap (λ w. w ++ (o ∷ yield r)) (map_first_yield m) ∙ first_of_more (yield m) (o ∷ yield r) (starts m)
+  map_first_yield (sums_more m o r) = ap (λ w. w ++ (o ∷ tree_yield r)) (map_first_yield m) ∙ first_of_more (tree_yield m) (o ∷ tree_yield r) (starts m)
   map_first_yield (add_of s) = map_first_yield s
   map_first_yield (single a) = map_first_yield a
-  map_first_yield (compare a o b) = ap (λ w. w ++ (o ∷ yield b)) (map_first_yield a) ∙ first_of_more (yield a) (o ∷ yield b) (starts a)
-  map_first_yield (has_or_like a o b) = ap (λ w. w ++ (o ∷ yield b)) (map_first_yield a) ∙ first_of_more (yield a) (o ∷ yield b) (starts a)
-  map_first_yield (is_type a o n) = ap (λ w. w ++ (o ∷ yield n)) (map_first_yield a) ∙ first_of_more (yield a) (o ∷ yield n) (starts a)
-  map_first_yield (is_in a o n p b) = ap (λ w. w ++ (o ∷ (yield n ++ (p ∷ yield b)))) (map_first_yield a) ∙ first_of_more (yield a) (o ∷ (yield n ++ (p ∷ yield b))) (starts a)
+  map_first_yield (compare a o b) = ap (λ w. w ++ (o ∷ tree_yield b)) (map_first_yield a) ∙ first_of_more (tree_yield a) (o ∷ tree_yield b) (starts a)
+  map_first_yield (has_or_like a o b) = ap (λ w. w ++ (o ∷ tree_yield b)) (map_first_yield a) ∙ first_of_more (tree_yield a) (o ∷ tree_yield b) (starts a)
+  map_first_yield (is_type a o n) = ap (λ w. w ++ (o ∷ tree_yield n)) (map_first_yield a) ∙ first_of_more (tree_yield a) (o ∷ tree_yield n) (starts a)
+  map_first_yield (is_in a o n p b) = ap (λ w. w ++ (o ∷ (tree_yield n ++ (p ∷ tree_yield b)))) (map_first_yield a) ∙ first_of_more (tree_yield a) (o ∷ (tree_yield n ++ (p ∷ tree_yield b))) (starts a)
   map_first_yield (ands_one r) = map_first_yield r
-  map_first_yield (ands_more r o m) = ap (λ w. w ++ (o ∷ yield m)) (map_first_yield r) ∙ first_of_more (yield r) (o ∷ yield m) (starts r)
+  map_first_yield (ands_more r o m) = ap (λ w. w ++ (o ∷ tree_yield m)) (map_first_yield r) ∙ first_of_more (tree_yield r) (o ∷ tree_yield m) (starts r)
   map_first_yield (ors_one a) = map_first_yield a
-  map_first_yield (ors_more a o m) = ap (λ w. w ++ (o ∷ yield m)) (map_first_yield a) ∙ first_of_more (yield a) (o ∷ yield m) (starts a)
-  map_first_yield (plain_expr o) = map_first_yield o
+  map_first_yield (ors_more a o m) = ap (λ w. w ++ (o ∷ tree_yield m)) (map_first_yield a) ∙ first_of_more (tree_yield a) (o ∷ tree_yield m) (starts a)
+  map_first_yield (ors_expr o) = map_first_yield o
   map_first_yield (if_expr i c t a g b) = refl

@@ -3,7 +3,7 @@ use Rattle.std.specs.Prelude.{◌≡◌, ℕ, zero, suc, Bool, true, false, List
 use Rattle.std.proofs.Common.{refl, sym, ap, ◌∙◌, append_assoc, inl, inr}
 use Rattle.cedar_grammar.specs.declared.kind.Kind.{Kind}
 use Rattle.cedar_grammar.specs.Trees.{Label, Forest, none, leaf, branch, yield, join}
-use Rattle.cedar_grammar.specs.Languages.{Lang, ◌·◌, ◌∪◌, Many, no_more, one_more, Tree, Of}
+use Rattle.cedar_grammar.specs.Languages.{Lang, ◌⋄◌, ◌∪◌, Many, no_more, one_more, Branch, Of}
 use Rattle.cedar_grammar.specs.Reader.Reading.{Answer, Reader, done, stuck, after, choice, both, skip, tree, nest, too_deep, many, repeat, token}
 use Rattle.cedar_grammar.proofs.ReadingLaws.{choice_yes, choice_no, both_done, both_fails, both_then_fails, tree_done, tree_fails, Takes, repeat_step, repeat_end, token_yes, token_no, token_end}
 
@@ -38,10 +38,10 @@ module _ {A : Type 0} where
   pub sound_more : (P : Reader A) (X Y : Lang A) → ((f : Forest Label A) → X f → Y f) → Sound P X → Sound P Y
   sound_more P X Y h p ts f r e = let q = p ts f r e in record { among = h f q.among; tokens = q.tokens }
 
-  pub both_sound : (P Q : Reader A) (X Y : Lang A) → Sound P X → Sound Q Y → Sound (both P Q) (X · Y)
+  pub both_sound : (P Q : Reader A) (X Y : Lang A) → Sound P X → Sound Q Y → Sound (both P Q) (X ⋄ Y)
   both_sound P Q X Y p q ts f r e = go (P ts) refl
     where
-      inner : (g : Forest Label A) (s : List A) → P ts ≡ done g s → (b : Answer A) → Q s ≡ b → IsRead (X · Y) ts f r
+      inner : (g : Forest Label A) (s : List A) → P ts ≡ done g s → (b : Answer A) → Q s ≡ b → IsRead (X ⋄ Y) ts f r
       inner g s d (done h u) k =
           let w = both_done P Q ts g s h u d k in
           let tree : f ≡ join g h = cc in
@@ -54,20 +54,20 @@ module _ {A : Type 0} where
           }
       inner g s d (stuck b u) k = let w = both_then_fails P Q ts g s b u d k in absurd cc
 
-      go : (a : Answer A) → P ts ≡ a → IsRead (X · Y) ts f r
+      go : (a : Answer A) → P ts ≡ a → IsRead (X ⋄ Y) ts f r
       go (done g s) d = inner g s d (Q s) refl
       go (stuck b s) d = let w = both_fails P Q ts b s d in absurd cc
 
   pub both_complete : (P Q : Reader A) (X Y : Lang A) (S T : List A → Type 0) → Complete P X S → Complete Q Y T
-      → ((g : Forest Label A) (r : List A) → Y g → T r → S (yield g ++ r)) → Complete (both P Q) (X · Y) T
+      → ((g : Forest Label A) (r : List A) → Y g → T r → S (yield g ++ r)) → Complete (both P Q) (X ⋄ Y) T
   both_complete P Q X Y S T p q next f r (g, h, e, x, y) t =
       ap (λ z. both P Q (yield z ++ r)) e ∙ ap (both P Q) (yield_join_more g h r)
       ∙ both_done P Q (yield g ++ (yield h ++ r)) g (yield h ++ r) h r (p g (yield h ++ r) x (next h r y t)) (q h r y t) ∙ ap (λ z. done z r) (sym e)
 
-  pub tree_sound : (l : Label) (P : Reader A) (X : Lang A) → Sound P X → Sound (tree l P) (Tree l X)
+  pub tree_sound : (l : Label) (P : Reader A) (X : Lang A) → Sound P X → Sound (tree l P) (Branch l X)
   tree_sound l P X p ts f r e = go (P ts) refl
     where
-      go : (a : Answer A) → P ts ≡ a → IsRead (Tree l X) ts f r
+      go : (a : Answer A) → P ts ≡ a → IsRead (Branch l X) ts f r
       go (done g s) d =
           let w = tree_done l P ts g s d in
           let tree : f ≡ branch l g none = cc in
@@ -76,7 +76,7 @@ module _ {A : Type 0} where
           record { among = (g, tree, x.among); tokens = x.tokens ∙ ap (λ z. yield g ++ z) rest ∙ sym (yield_tree l g r) ∙ ap (λ z. yield z ++ r) (sym tree) }
       go (stuck b s) d = let w = tree_fails l P ts b s d in absurd cc
 
-  pub tree_complete : (l : Label) (P : Reader A) (X : Lang A) (S : List A → Type 0) → Complete P X S → Complete (tree l P) (Tree l X) S
+  pub tree_complete : (l : Label) (P : Reader A) (X : Lang A) (S : List A → Type 0) → Complete P X S → Complete (tree l P) (Branch l X) S
   tree_complete l P X S p f r (g, e, x) s =
       ap (λ z. tree l P (yield z ++ r)) e ∙ ap (tree l P) (yield_tree l g r) ∙ tree_done l P (yield g ++ r) g r (p g r x s) ∙ ap (λ z. done z r) (sym e)
 
@@ -105,7 +105,7 @@ module _ {A : Type 0} where
   many_sound_step : (t : List A → Bool) (P : Reader A) (X : Lang A) → Sound P X → (n : ℕ) → Sound (many t P n) (Many X) → Sound (many t P (suc n)) (Many X)
   unfolding many
   many_sound_step t P X p n again = choice_sound t (both P (many t P n)) skip (Many X)
-      (sound_more (both P (many t P n)) (X · Many X) (Many X) (λ f (g, h, e, x, m). one_more f g h e x m) (both_sound P (many t P n) X (Many X) p again))
+      (sound_more (both P (many t P n)) (X ⋄ Many X) (Many X) (λ f (g, h, e, x, m). one_more f g h e x m) (both_sound P (many t P n) X (Many X) p again))
       (λ ts f r e. record { among = no_more f (let z : f ≡ none = cc in z); tokens = let a : none ≡ f = cc in let b : ts ≡ r = cc in b ∙ ap (λ z. yield z ++ r) a })
 
   pub many_sound : (t : List A → Bool) (P : Reader A) (X : Lang A) → Sound P X → (n : ℕ) → Sound (many t P n) (Many X)

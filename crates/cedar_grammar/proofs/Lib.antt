@@ -30,6 +30,7 @@ pub mod TypedChains
 pub mod TypedExpressions
 pub mod TypedPolicies
 pub mod Verdicts
+pub mod Leaving
 pub mod WholeLaws
 pub mod Relabelling
 pub mod ListingTexts

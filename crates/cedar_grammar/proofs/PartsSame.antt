@@ -6,7 +6,7 @@ use Rattle.cedar_grammar.specs.declared.kind.Kind.TheVariants as K
 use Rattle.cedar_grammar.specs.Kinds.{is}
 use Rattle.cedar_grammar.specs.Trees.{Label, Forest, none, leaf, branch, join}
 use Rattle.cedar_grammar.specs.Trees as L
-use Rattle.cedar_grammar.specs.TypedTrees.{NodeKind, Tree, parts, literal_label, name_one, name_more, ref_of, args_one, args_more, init_of, inits_one, inits_more, literal, slot, reference, named, parens, list_empty, list_of, record_empty, record_of, no_access, field, call_empty, call, index, member_of, unsigned, signed, products_one, products_more, mult_of, sums_one, sums_more, add_of, single, compare, has_or_like, is_type, is_in, ands_one, ands_more, ors_one, ors_more, plain_expr, if_expr}
+use Rattle.cedar_grammar.specs.TypedTrees.{NodeKind, Tree, parts, literal_label, name_one, name_more, ref_of, args_one, args_more, init_of, inits_one, inits_more, literal, slot, reference, named, parens, list_empty, list_of, record_empty, record_of, no_access, field, call_empty, call, index, member_of, unsigned, signed, products_one, products_more, mult_of, sums_one, sums_more, add_of, single, compare, has_or_like, is_type, is_in, ands_one, ands_more, ors_one, ors_more, ors_expr, if_expr}
 
 pub last_same : {L A : Type 0} → (f g : Forest L A) (r s : A) → join f (leaf r none) ≡ join g (leaf s none) → (f ≡ g) × (r ≡ s)
 last_same none none r s e = (refl, cc)
@@ -422,11 +422,11 @@ parts_same kind (ors_more x0 x1 x2) (ors_more y0 y1 y2) e =
     let e1 : x1 ≡ y1 = ap (λ z. hd x1 (nxt z)) e in
     let e2 = parts_same kind x2 y2 (ap (λ z. nxt (nxt z)) e) in
     ap (λ z. ors_more z x1 x2) e0 ∙ ap (λ z. ors_more y0 z x2) e1 ∙ ap (λ z. ors_more y0 y1 z) e2
-parts_same kind (plain_expr x0) (plain_expr y0) e =
+parts_same kind (ors_expr x0) (ors_expr y0) e =
     let e0 = parts_same kind x0 y0 (ap (λ z. ins z) e) in
-    ap (λ z. plain_expr z) e0
-parts_same kind (plain_expr x0) (if_expr y0 y1 y2 y3 y4 y5) e = let h : ◌≡◌ {A = ℕ} 2 1 = ap (λ z. shape (z)) e in absurd cc
-parts_same kind (if_expr x0 x1 x2 x3 x4 x5) (plain_expr y0) e = let h : ◌≡◌ {A = ℕ} 1 2 = ap (λ z. shape (z)) e in absurd cc
+    ap (λ z. ors_expr z) e0
+parts_same kind (ors_expr x0) (if_expr y0 y1 y2 y3 y4 y5) e = let h : ◌≡◌ {A = ℕ} 2 1 = ap (λ z. shape (z)) e in absurd cc
+parts_same kind (if_expr x0 x1 x2 x3 x4 x5) (ors_expr y0) e = let h : ◌≡◌ {A = ℕ} 1 2 = ap (λ z. shape (z)) e in absurd cc
 parts_same kind (if_expr x0 x1 x2 x3 x4 x5) (if_expr y0 y1 y2 y3 y4 y5) e =
     let e0 : x0 ≡ y0 = ap (λ z. hd x0 (z)) e in
     let e1 = parts_same kind x1 y1 (ap (λ z. ins (nxt z)) e) in

@@ -5,7 +5,7 @@ use Rattle.cedar_grammar.proofs.KindSets.{kinds, and_left, and_right, some_kind,
 use Rattle.cedar_grammar.specs.declared.kind.Kind.{Kind}
 use Rattle.cedar_grammar.specs.Kinds.{is, begins}
 use Rattle.cedar_grammar.specs.Trees.{Label, Forest, none, leaf, branch, join}
-use Rattle.cedar_grammar.specs.Languages.{Lang, ◌·◌, ◌∪◌, no_more, Of}
+use Rattle.cedar_grammar.specs.Languages.{Lang, ◌⋄◌, ◌∪◌, no_more, Of}
 use Rattle.cedar_grammar.specs.Grammar.{One}
 use Rattle.cedar_grammar.specs.Reader.Reading.{Answer, Reader, done, stuck, one}
 use Rattle.cedar_grammar.specs.Reader.Regroup.{gather}
@@ -43,7 +43,7 @@ or_either true b h = inl refl
 or_either false b h = inr h
 
 module _ {A : Type 0} (kind : A → Kind) where
-  roll : (s : Kind) (X Y Z : Lang A) (f : Forest Label A) → (One kind s · (X · Tail kind s X Y Z ∪ Y) ∪ Z) f → Tail kind s X Y Z f
+  roll : (s : Kind) (X Y Z : Lang A) (f : Forest Label A) → (One kind s ⋄ (X ⋄ Tail kind s X Y Z ∪ Y) ∪ Z) f → Tail kind s X Y Z f
   roll s X Y Z f (inr z) = (0, z)
   roll s X Y Z f (inl (g, i, e, o, inr y)) = (1, inl (g, i, e, o, inr y))
   roll s X Y Z f (inl (g, i, e, o, inl (h, j, c, x, (n, t)))) = (suc n, inl (g, i, e, o, inl (h, j, c, x, t)))
@@ -52,12 +52,12 @@ module _ {A : Type 0} (kind : A → Kind) where
       → (n : ℕ) → Completes (tail_to kind s u P Q R n) (Tail kind s X Y Z)
   tail_completes s u P Q R X Y Z sound p q r y o zero = λ ts b v e. halt_more Z (Tail kind s X Y Z) (λ f x. (0, x)) ts v (r ts b v e)
   tail_completes s u P Q R X Y Z sound p q r y o (suc n) = choice_completes (begins kind (is s)) _ R (Tail kind s X Y Z)
-      (λ ts b v e. halt_more (One kind s · (X · Tail kind s X Y Z ∪ Y)) (Tail kind s X Y Z) (λ f x. roll s X Y Z f (inl x)) ts v
-      (both_completes (one kind s) _ (One kind s) (X · Tail kind s X Y Z ∪ Y) (token_sound kind (is s)) (token_completes kind (is s))
-      (choice_completes (begins kind u) _ Q (X · Tail kind s X Y Z ∪ Y)
-      (λ ts b v e. halt_more (X · Tail kind s X Y Z) (X · Tail kind s X Y Z ∪ Y) (λ f x. inl x) ts v
+      (λ ts b v e. halt_more (One kind s ⋄ (X ⋄ Tail kind s X Y Z ∪ Y)) (Tail kind s X Y Z) (λ f x. roll s X Y Z f (inl x)) ts v
+      (both_completes (one kind s) _ (One kind s) (X ⋄ Tail kind s X Y Z ∪ Y) (token_sound kind (is s)) (token_completes kind (is s))
+      (choice_completes (begins kind u) _ Q (X ⋄ Tail kind s X Y Z ∪ Y)
+      (λ ts b v e. halt_more (X ⋄ Tail kind s X Y Z) (X ⋄ Tail kind s X Y Z ∪ Y) (λ f x. inl x) ts v
       (both_completes P _ X (Tail kind s X Y Z) sound p (tail_completes s u P Q R X Y Z sound p q r y o n) (join o.0 y.0, (1, inl (o.0, y.0, refl, o.1, inr y.1))) ts b v e))
-      (λ ts b v e. halt_more Y (X · Tail kind s X Y Z ∪ Y) (λ f x. inr x) ts v (q ts b v e)))
+      (λ ts b v e. halt_more Y (X ⋄ Tail kind s X Y Z ∪ Y) (λ f x. inr x) ts v (q ts b v e)))
       (y.0, inr y.1) ts b v e))
       (λ ts b v e. halt_more Z (Tail kind s X Y Z) (λ f x. (0, x)) ts v (r ts b v e))
 

@@ -7,8 +7,8 @@ use Rattle.cedar_grammar.specs.Kinds.{is_ident, is_variable}
 use Rattle.cedar_grammar.proofs.KindSets.{within_at, and_left}
 use Rattle.cedar_grammar.specs.Trees.{Label, Forest, none, leaf, branch, join}
 use Rattle.cedar_grammar.specs.Trees as L
-use Rattle.cedar_grammar.specs.Languages.{Lang, ◌·◌, ◌∪◌, Many, no_more, one_more, Empty, Never, Tree, Of}
-use Rattle.cedar_grammar.specs.Grammar.{One, Items, Ident, Text, Entity}
+use Rattle.cedar_grammar.specs.Languages.{Lang, ◌⋄◌, ◌∪◌, Many, no_more, one_more, Empty, Never, Branch, Of}
+use Rattle.cedar_grammar.specs.Grammar.{One, Items, Ident, STR, Entity}
 use Rattle.cedar_grammar.specs.Reader.Regroup.{gather}
 use Rattle.cedar_grammar.specs.Reader.Rules.{Rule, never, empty, inner, leaf_of, nested, then, either, star, tail, node, shaped, items, entity, reference, core}
 use Rattle.cedar_grammar.proofs.RuleMeanings.{TailTo, Tail, Shaped, Reference, means}
@@ -42,7 +42,7 @@ module _ {A : Type 0} (kind : A → Kind) where
   abbrev Comma : Lang A
   Comma = One kind K.Comma
 
-  after_item : (X : Lang A) (n : ℕ) (f : Forest Label A) → TailTo kind K.Comma X Empty Empty n f → (Many (Comma · X) · (Comma ∪ Empty)) f
+  after_item : (X : Lang A) (n : ℕ) (f : Forest Label A) → TailTo kind K.Comma X Empty Empty n f → (Many (Comma ⋄ X) ⋄ (Comma ∪ Empty)) f
   after_item X zero f e = (none, f, refl, no_more none refl, inr e)
   after_item X (suc n) f (inr e) = (none, f, refl, no_more none refl, inr e)
   after_item X (suc n) f (inl (g, i, e, o, inr d)) = (none, f, refl, no_more none refl, inl (o.0, e ∙ ap (join g) d ∙ join_none g ∙ o.1, o.2))
@@ -50,33 +50,33 @@ module _ {A : Type 0} (kind : A → Kind) where
       let w = after_item X n j t in
       (join (join g h) w.0, w.1, e ∙ ap (join g) (c ∙ ap (join h) w.2) ∙ sym (join_assoc g h (join w.0 w.1)) ∙ sym (join_assoc (join g h) w.0 w.1), one_more _ (join g h) w.0 refl (g, h, refl, o, x) w.3, w.4)
 
-  items_read : (X Y : Lang A) → Inside X Y → Inside (X · Tail kind K.Comma X Empty Empty) (Items kind Y)
+  items_read : (X Y : Lang A) → Inside X Y → Inside (X ⋄ Tail kind K.Comma X Empty Empty) (Items kind Y)
   items_read X Y h f (g, i, e, x, (n, t)) =
       let w = after_item Y n i (tail_inside K.Comma X Empty Empty Y Empty Empty h (λ f z. z) (λ f z. z) n i t) in
       (g, i, e, h g x, w)
 
-  to_tail : (X : Lang A) (m k : Forest Label A) → Many (Comma · X) m → (Comma ∪ Empty) k → Tail kind K.Comma X Empty Empty (join m k)
+  to_tail : (X : Lang A) (m k : Forest Label A) → Many (Comma ⋄ X) m → (Comma ∪ Empty) k → Tail kind K.Comma X Empty Empty (join m k)
   to_tail X m k (no_more i e) (inr d) = (0, ap (λ z. join z k) e ∙ d)
   to_tail X m k (no_more i e) (inl o) = (1, inl (k, none, ap (λ z. join z k) e ∙ sym (join_none k), o, inr refl))
   to_tail X m k (one_more i g h e (p, q, d, o, x) n) c =
       let w = to_tail X h k n c in
       (suc w.0, inl (p, join q (join h k), ap (λ z. join z k) (e ∙ ap (λ z. join z h) d) ∙ join_assoc (join p q) h k ∙ join_assoc p q (join h k), o, inl (q, join h k, refl, x, w.1)))
 
-  items_written : (X Y : Lang A) → Inside X Y → Inside (Items kind X) (Y · Tail kind K.Comma Y Empty Empty)
+  items_written : (X Y : Lang A) → Inside X Y → Inside (Items kind X) (Y ⋄ Tail kind K.Comma Y Empty Empty)
   items_written X Y h f (g, i, e, x, (m, k, d, n, c)) =
       let w = to_tail X m k n c in
       (g, i, e, h g x, (w.0, let t : TailTo kind K.Comma X Empty Empty w.0 i = rw d w.1 in tail_inside K.Comma X Empty Empty Y Empty Empty h (λ f z. z) (λ f z. z) w.0 i t))
 
   -- Paths.
   abbrev Names : Lang A
-  Names = Ident kind · Many (One kind K.DoubleColon · Ident kind)
+  Names = Ident kind ⋄ Many (One kind K.DoubleColon ⋄ Ident kind)
 
   names_more : (f g h : Forest Label A) → Names f → One kind K.DoubleColon g → Ident kind h → Names (join (join f g) h)
   names_more f g h (a, m, e, i, n) o j =
       (a, join m (join g h), ap (λ z. join (join z g) h) e ∙ join_assoc (join a m) g h ∙ join_assoc a m (join g h), i, many_snoc _ m (join g h) n (g, h, refl, o, j))
 
   abbrev Step : ℕ → Lang A → Lang A
-  Step n Z = TailTo kind K.DoubleColon (Ident kind) (Text kind) Z n
+  Step n Z = TailTo kind K.DoubleColon (Ident kind) (STR kind) Z n
 
   -- what is read after some names
   names_read : (Z : Lang A) (Y : Lang A) → ((names f : Forest Label A) → Names names → Z f → Y (gather names f)) → ((f : Forest Label A) → Entity kind f → Y f)
@@ -98,7 +98,7 @@ module _ {A : Type 0} (kind : A → Kind) where
       rw (e, d, c, q) m
 
   -- Each way to go on after some names is read.
-  names_written : (Z : Lang A) (m names k : Forest Label A) → Many (One kind K.DoubleColon · Ident kind) m → (n : ℕ) → Step n Z k → (f : Forest Label A) × (Tail kind K.DoubleColon (Ident kind) (Text kind) Z f) × (gather names f ≡ gather (join names m) k)
+  names_written : (Z : Lang A) (m names k : Forest Label A) → Many (One kind K.DoubleColon ⋄ Ident kind) m → (n : ℕ) → Step n Z k → (f : Forest Label A) × (Tail kind K.DoubleColon (Ident kind) (STR kind) Z f) × (gather names f ≡ gather (join names m) k)
   names_written Z m names k (no_more i e) n t = (k, (n, t), ap (λ z. gather z k) (sym (join_none names) ∙ ap (join names) (sym e)))
   names_written Z m names k (one_more i g h e (p, q, d, (a, c, b), (w, u, x)) more) n t =
       let r = names_written Z h (join (join names p) q) k more n t in (
@@ -108,16 +108,16 @@ module _ {A : Type 0} (kind : A → Kind) where
             s ∙ r.2 ∙ ap (λ z. gather z k) (join_assoc (join names p) q h ∙ join_assoc names p (join q h) ∙ ap (join names) (sym (join_assoc p q h) ∙ ap (λ z. join z h) (sym d) ∙ sym e))),
       )
 
-  entity_read : Inside (Shaped (Ident kind · Tail kind K.DoubleColon (Ident kind) (Text kind) Never)) (Entity kind)
+  entity_read : Inside (Shaped (Ident kind ⋄ Tail kind K.DoubleColon (Ident kind) (STR kind) Never)) (Entity kind)
   entity_read f (g, e, (i, t, d, (w, q, x), (n, s))) =
       let m = names_read Never (Entity kind) (λ _ _ _ z. absurd z) (λ f y. y) n (branch L.ident w none) t (branch L.ident w none, none, refl, (w, refl, x), no_more none refl) s in
       rw (e, d, q) m
 
-  step_text : (Z : Lang A) (n : ℕ) (g h : Forest Label A) → One kind K.DoubleColon g → Text kind h → Step (suc n) Z (join g h)
+  step_text : (Z : Lang A) (n : ℕ) (g h : Forest Label A) → One kind K.DoubleColon g → STR kind h → Step (suc n) Z (join g h)
   step_text Z n g h o t = inl (g, h, refl, o, inr t)
 
   -- an entity, as one identifier and what follows it
-  entity_parts : (Z : Lang A) (f : Forest Label A) → Entity kind f → (g : Forest Label A) × (h : Forest Label A) × Ident kind g × Tail kind K.DoubleColon (Ident kind) (Text kind) Z h × (f ≡ gather none (join g h))
+  entity_parts : (Z : Lang A) (f : Forest Label A) → Entity kind f → (g : Forest Label A) × (h : Forest Label A) × Ident kind g × Tail kind K.DoubleColon (Ident kind) (STR kind) Z h × (f ≡ gather none (join g h))
   entity_parts Z f (r, e, (s, d, (p, k, c, (names, q, (i, m, b, (w, u, x), more)), (o, t, v, (a, y, z), (l, j, is_text))))) =
       let n = names_written Z m (branch L.ident w none) (join o t) more 1 (step_text Z 0 o t (a, y, z) (l, j, is_text)) in (
         i,
@@ -129,26 +129,26 @@ module _ {A : Type 0} (kind : A → Kind) where
             sym (left ∙ n.2 ∙ right)),
       )
 
-  entity_written : Inside (Entity kind) (Shaped (Ident kind · Tail kind K.DoubleColon (Ident kind) (Text kind) Never))
+  entity_written : Inside (Entity kind) (Shaped (Ident kind ⋄ Tail kind K.DoubleColon (Ident kind) (STR kind) Never))
   entity_written f x = let p = entity_parts Never f x in (join p.0 p.1, p.4, (p.0, p.1, refl, p.2, p.3))
 
   abbrev Other : Kind → Bool
   Other k = is_ident k && not (is_variable k)
 
   abbrev Ways : Lang A → Lang A
-  Ways C = Tail kind K.DoubleColon (Ident kind) (Text kind) C
+  Ways C = Tail kind K.DoubleColon (Ident kind) (STR kind) C
 
   abbrev Flat : Lang A → Lang A
-  Flat C = Tree L.ident (Of kind is_variable) · (Ways C ∪ Empty) ∪ Tree L.ident (Of kind Other) · Ways C
+  Flat C = Branch L.ident (Of kind is_variable) ⋄ (Ways C ∪ Empty) ∪ Branch L.ident (Of kind Other) ⋄ Ways C
 
   module _ (X Y : Lang A) (inside : Inside X Y) where
-    called : (names f : Forest Label A) → Names names → Tree L.access X f → Reference kind (Tree L.access Y) (gather names f)
+    called : (names f : Forest Label A) → Names names → Branch L.access X f → Reference kind (Branch L.access Y) (gather names f)
     called names f p (g, e, x) = rw e (inr (inr (branch L.primary (branch L.name names none) none, branch L.access g none, refl, (branch L.name names none, refl, (names, refl, p)), (g, refl, inside g x))))
 
-    ways_read : (w : Forest Label A) → Of kind is_ident w → (n : ℕ) (f : Forest Label A) → Step n (Tree L.access X) f → Reference kind (Tree L.access Y) (gather (branch L.ident w none) f)
-    ways_read w x n f t = names_read (Tree L.access X) (Reference kind (Tree L.access Y)) called (λ f y. inr (inl y)) n (branch L.ident w none) f (branch L.ident w none, none, refl, (w, refl, x), no_more none refl) t
+    ways_read : (w : Forest Label A) → Of kind is_ident w → (n : ℕ) (f : Forest Label A) → Step n (Branch L.access X) f → Reference kind (Branch L.access Y) (gather (branch L.ident w none) f)
+    ways_read w x n f t = names_read (Branch L.access X) (Reference kind (Branch L.access Y)) called (λ f y. inr (inl y)) n (branch L.ident w none) f (branch L.ident w none, none, refl, (w, refl, x), no_more none refl) t
 
-    reference_read : Inside (Shaped (Flat (Tree L.access X))) (Reference kind (Tree L.access Y))
+    reference_read : Inside (Shaped (Flat (Branch L.access X))) (Reference kind (Branch L.access Y))
     reference_read f (g, e, inl (i, t, d, (w, q, (a, c, v)), inl (n, s))) = rw (e, d, q) (ways_read w (a, c, within_at is_variable is_ident refl (kind a) v) n t s)
     reference_read f (g, e, inl (i, t, d, (w, q, x), inr s)) = rw (e, d, q, s) (inl (branch L.name (branch L.ident w none) none, refl, (branch L.ident w none, refl, (w, refl, x))))
     reference_read f (g, e, inr (i, t, d, (w, q, (a, c, v)), (n, s))) = rw (e, d, q) (ways_read w (a, c, and_left (is_ident (kind a)) _ v) n t s)
@@ -160,18 +160,18 @@ module _ {A : Type 0} (kind : A → Kind) where
       go true e = inl (g, h, refl, (w, q, (a, c, e)), inl t)
       go false e = inr (g, h, refl, (w, q, (a, c, and_both (is_ident (kind a)) (not (is_variable (kind a))) v (ap not e))), t)
 
-  reference_written : (X Y : Lang A) → Inside X Y → Inside (Reference kind (Tree L.access X)) (Shaped (Flat (Tree L.access Y)))
+  reference_written : (X Y : Lang A) → Inside X Y → Inside (Reference kind (Branch L.access X)) (Shaped (Flat (Branch L.access Y)))
   reference_written X Y inside f (inl (g, e, (h, d, (w, q, x)))) =
       (h, (let z : gather none h ≡ f = rw (e, d, q) refl in sym z), inl (h, none, sym (join_none h), (w, q, x), inr refl))
   reference_written X Y inside f (inr (inl x)) =
-      let p = entity_parts (Tree L.access Y) f x in (join p.0 p.1, p.4, one_of_two (Tree L.access Y) p.0 p.1 p.2 p.3)
+      let p = entity_parts (Branch L.access Y) f x in (join p.0 p.1, p.4, one_of_two (Branch L.access Y) p.0 p.1 p.2 p.3)
   reference_written X Y inside f (inr (inr (p, k, e, (h, d, (names, q, (i, m, b, (w, u, x), more))), (g, c, y)))) =
-      let n = names_written (Tree L.access Y) m (branch L.ident w none) k more 0 (g, c, inside g y) in (
+      let n = names_written (Branch L.access Y) m (branch L.ident w none) k more 0 (g, c, inside g y) in (
         join i n.0,
         (let left : gather none (join i n.0) ≡ gather (branch L.ident w none) n.0 = rw u refl in
             let right : gather (join (branch L.ident w none) m) k ≡ f = rw (e, d, q, b, u, c) refl in
             sym (left ∙ n.2 ∙ right)),
-        one_of_two (Tree L.access Y) i n.0 (w, u, x) n.1,
+        one_of_two (Branch L.access Y) i n.0 (w, u, x) n.1,
       )
 
   module _ (room : Bool) (E : Lang A) where

@@ -6,7 +6,7 @@ use Rattle.cedar_grammar.specs.declared.kind.Kind.{Kind}
 use Rattle.cedar_grammar.specs.Kinds.{is, begins}
 use Rattle.cedar_grammar.specs.Reader.Sets.{no_kind, joined}
 use Rattle.cedar_grammar.specs.Trees.{Label, Forest, none, yield}
-use Rattle.cedar_grammar.specs.Languages.{Lang, ◌·◌, ◌∪◌, Many, no_more, one_more, Empty, Tree}
+use Rattle.cedar_grammar.specs.Languages.{Lang, ◌⋄◌, ◌∪◌, Many, no_more, one_more, Empty, Branch}
 use Rattle.cedar_grammar.specs.Grammar.{One}
 use Rattle.cedar_grammar.specs.Reader.Reading.{Answer, Reader, done, stuck, after, choice, both, skip, nest, repeat, one}
 use Rattle.cedar_grammar.specs.Reader.Regroup.{gather}
@@ -133,10 +133,10 @@ module _ {A : Type 0} (kind : A → Kind) where
   pub tail_to_sound : (s : Kind) (u : Kind → Bool) (P Q R : Reader A) (X Y Z : Lang A) → Sound P X → Sound Q Y → Sound R Z → (n : ℕ) → Sound (tail_to kind s u P Q R n) (TailTo kind s X Y Z n)
   tail_to_sound s u P Q R X Y Z p q r zero = r
   tail_to_sound s u P Q R X Y Z p q r (suc n) = choice_sound (begins kind (is s)) _ R (TailTo kind s X Y Z (suc n))
-      (sound_more _ (One kind s · (X · TailTo kind s X Y Z n ∪ Y)) (TailTo kind s X Y Z (suc n)) (λ f x. inl x)
-      (both_sound _ _ _ _ (token_sound kind (is s)) (choice_sound (begins kind u) _ Q (X · TailTo kind s X Y Z n ∪ Y)
-      (sound_more _ (X · TailTo kind s X Y Z n) (X · TailTo kind s X Y Z n ∪ Y) (λ f x. inl x) (both_sound P _ X _ p (tail_to_sound s u P Q R X Y Z p q r n)))
-      (sound_more Q Y (X · TailTo kind s X Y Z n ∪ Y) (λ f x. inr x) q))))
+      (sound_more _ (One kind s ⋄ (X ⋄ TailTo kind s X Y Z n ∪ Y)) (TailTo kind s X Y Z (suc n)) (λ f x. inl x)
+      (both_sound _ _ _ _ (token_sound kind (is s)) (choice_sound (begins kind u) _ Q (X ⋄ TailTo kind s X Y Z n ∪ Y)
+      (sound_more _ (X ⋄ TailTo kind s X Y Z n) (X ⋄ TailTo kind s X Y Z n ∪ Y) (λ f x. inl x) (both_sound P _ X _ p (tail_to_sound s u P Q R X Y Z p q r n)))
+      (sound_more Q Y (X ⋄ TailTo kind s X Y Z n ∪ Y) (λ f x. inr x) q))))
       (sound_more R Z (TailTo kind s X Y Z (suc n)) (λ f x. inr x) r)
 
   tailed_sound : (s : Kind) (u : Kind → Bool) (P Q R : Reader A) (X Y Z : Lang A) → Sound P X → Sound Q Y → Sound R Z → Sound (tailed kind s u P Q R) (Tail kind s X Y Z)
@@ -176,7 +176,7 @@ module _ {A : Type 0} (kind : A → Kind) where
   shaped_begun : (X : Lang A) (n : Bool) (p : Kind → Bool) → ((f : Forest Label A) → X f → Begun n p (yield f)) → (f : Forest Label A) → Shaped X f → Begun n p (yield f)
   shaped_begun X n p h f (g, e, x) = rw (e, gather_yield none g) (h g x)
 
-  tree_begun : (l : Label) (X : Lang A) (n : Bool) (p : Kind → Bool) → ((f : Forest Label A) → X f → Begun n p (yield f)) → (f : Forest Label A) → Tree l X f → Begun n p (yield f)
+  tree_begun : (l : Label) (X : Lang A) (n : Bool) (p : Kind → Bool) → ((f : Forest Label A) → X f → Begun n p (yield f)) → (f : Forest Label A) → Branch l X f → Begun n p (yield f)
   tree_begun l X n p h f (g, e, x) = rw (e, append-nil (yield g)) (h g x)
 
   module _ (room : Bool) (X : Lang A) (h : (f : Forest Label A) → X f → Begun false expr_first (yield f)) where
@@ -209,10 +209,10 @@ module _ {A : Type 0} (kind : A → Kind) where
   nested_complete : (room : Bool) (k : Kind) (P : Reader A) (X : Lang A) (S : List A → Type 0) → Complete P X S → Complete (nested_at kind room k P) (Nested kind room k X) S
   nested_complete room k P X S p f r (o, (g, i, e, (a, c, b), y)) s =
       choice_yes (begins kind (is k) (yield f ++ r)) (nest room (both (one kind k) P)) refuse (yield f ++ r) (rw (e, c) b)
-      ∙ nest_complete room (both (one kind k) P) (One kind k · X) S (λ _. both_complete (one kind k) P (One kind k) X (λ _. Unit {0}) S (token_complete kind (is k) _) p (λ _ _ _ _. tt)) f r (o, (g, i, e, (a, c, b), y)) s
+      ∙ nest_complete room (both (one kind k) P) (One kind k ⋄ X) S (λ _. both_complete (one kind k) P (One kind k) X (λ _. Unit {0}) S (token_complete kind (is k) _) p (λ _ _ _ _. tt)) f r (o, (g, i, e, (a, c, b), y)) s
 
   then_complete : (P Q : Reader A) (X Y : Lang A) (c d q : Kind → Bool) (n : Bool) → Complete P X (Stop c) → Complete Q Y (Stop d) → IsTrue (apart c q) → ((f : Forest Label A) → Y f → Begun n q (yield f))
-      → Complete (both P Q) (X · Y) (Stop (joined n d c))
+      → Complete (both P Q) (X ⋄ Y) (Stop (joined n d c))
   then_complete P Q X Y c d q n p k away begun = both_complete P Q X Y (Stop c) (Stop (joined n d c)) p (complete_less Q Y (Stop d) _ (λ r s. stop_joined n d c r s) k)
       (λ g r y s. begins_false n q c (yield g) r (begun g y) (λ k i. apart_back c q away k i) (λ i. stop_second n d c r s i))
 
@@ -264,9 +264,9 @@ module _ {A : Type 0} (kind : A → Kind) where
 
     tail_to_complete : (n : ℕ) → Complete (tail_to kind s p P Q R n) (TailTo kind s X Y Z n) (Stop (joined ny (joined nz (λ k. cy k || cz k) (λ k. is s k || cx k)) p))
     tail_to_complete zero = complete_less R Z (Stop cz) _ stop_z z
-    tail_to_complete (suc n) = choice_complete (begins kind (is s)) _ R (One kind s · (X · TailTo kind s X Y Z n ∪ Y)) Z (Stop (joined ny (joined nz (λ k. cy k || cz k) (λ k. is s k || cx k)) p))
-        (both_complete (one kind s) _ (One kind s) (X · TailTo kind s X Y Z n ∪ Y) (λ _. Unit {0}) _ (token_complete kind (is s) _)
-        (choice_complete (begins kind p) (both P (tail_to kind s p P Q R n)) Q (X · TailTo kind s X Y Z n) Y _
+    tail_to_complete (suc n) = choice_complete (begins kind (is s)) _ R (One kind s ⋄ (X ⋄ TailTo kind s X Y Z n ∪ Y)) Z (Stop (joined ny (joined nz (λ k. cy k || cz k) (λ k. is s k || cx k)) p))
+        (both_complete (one kind s) _ (One kind s) (X ⋄ TailTo kind s X Y Z n ∪ Y) (λ _. Unit {0}) _ (token_complete kind (is s) _)
+        (choice_complete (begins kind p) (both P (tail_to kind s p P Q R n)) Q (X ⋄ TailTo kind s X Y Z n) Y _
         (both_complete P (tail_to kind s p P Q R n) X (TailTo kind s X Y Z n) (Stop cx) _ x (tail_to_complete n) (λ g v t h. before_tail n g v t h))
         (complete_less Q Y (Stop cy) _ stop_y y)
         (λ f v (g, i, e, a, b) h. begins_true false p (yield f) v refl (rw (e, yield_join g i) (begun_front false false p (yield g) (yield i) refl (bx g a))))

@@ -5,7 +5,7 @@ use Rattle.cedar_grammar.specs.declared.kind.Kind.TheVariants as K
 use Rattle.cedar_grammar.specs.Kinds.{is, is_variable}
 use Rattle.cedar_grammar.specs.Trees.{Label, Forest, none}
 use Rattle.cedar_grammar.specs.Trees as L
-use Rattle.cedar_grammar.specs.Languages.{Lang, ◌·◌, ◌∪◌, Many, Empty, Never, Tree, Of}
+use Rattle.cedar_grammar.specs.Languages.{Lang, ◌⋄◌, ◌∪◌, Many, Empty, Never, Branch, Of}
 use Rattle.cedar_grammar.specs.Grammar.{One, Items, Path, Entity}
 use Rattle.cedar_grammar.specs.Reader.Sets.{no_kind, joined}
 use Rattle.cedar_grammar.specs.Reader.Regroup.{gather}
@@ -109,17 +109,17 @@ module _ {A : Type 0} where
 module _ {A : Type 0} (kind : A → Kind) where
   abbrev pub TailTo : Kind → Lang A → Lang A → Lang A → ℕ → Lang A
   TailTo s X Y Z zero = Z
-  TailTo s X Y Z (suc n) = One kind s · (X · TailTo s X Y Z n ∪ Y) ∪ Z
+  TailTo s X Y Z (suc n) = One kind s ⋄ (X ⋄ TailTo s X Y Z n ∪ Y) ∪ Z
 
   abbrev pub Tail : Kind → Lang A → Lang A → Lang A → Lang A
   Tail s X Y Z f = (n : ℕ) × TailTo s X Y Z n f
 
   abbrev pub Nested : Bool → Kind → Lang A → Lang A
-  Nested room k X f = IsTrue room × (One kind k · X) f
+  Nested room k X f = IsTrue room × (One kind k ⋄ X) f
 
   -- a variable, an entity or a path that is called
   abbrev pub Reference : Lang A → Lang A
-  Reference C = Tree L.primary (Tree L.name (Tree L.ident (Of kind is_variable))) ∪ Entity kind ∪ Tree L.primary (Path kind) · C
+  Reference C = Branch L.primary (Branch L.name (Branch L.ident (Of kind is_variable))) ∪ Entity kind ∪ Branch L.primary (Path kind) ⋄ C
 
   -- what the rule means, where room says whether a bracket or an if may stand there, and E has what may stand in it
   abbrev pub means : Bool → Lang A → Rule → Lang A
@@ -128,12 +128,12 @@ module _ {A : Type 0} (kind : A → Kind) where
   means room E inner = E
   means room E (leaf_of p) = Of kind p
   means room E (nested k a) = Nested room k (means room E a)
-  means room E (then a b) = means room E a · means room E b
+  means room E (then a b) = means room E a ⋄ means room E b
   means room E (either a b) = means room E a ∪ means room E b
   means room E (star a) = Many (means room E a)
   means room E (tail s x y z) = Tail s (means room E x) (means room E y) (means room E z)
-  means room E (node l a) = Tree l (means room E a)
+  means room E (node l a) = Branch l (means room E a)
   means room E (shaped a) = Shaped (means room E a)
   means room E (items a) = Items kind (means room E a)
   means room E entity = Entity kind
-  means room E (reference c) = Reference (Tree L.access (means room E c))
+  means room E (reference c) = Reference (Branch L.access (means room E c))

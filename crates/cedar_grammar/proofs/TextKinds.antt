@@ -14,7 +14,7 @@ use Rattle.cedar_tokens.proofs.Prefixes.{and_parts, apart_from}
 use Rattle.cedar_grammar.specs.declared.kind.Kind.{Kind}
 use Rattle.cedar_grammar.specs.declared.kind.Kind.TheVariants as K
 use Rattle.cedar_grammar.specs.Kinds.{is, is_closing, begins}
-use Rattle.cedar_grammar.specs.TokenKinds.{Fixed, fixed_tokens, other_kind, kind_among, kind_of}
+use Rattle.cedar_grammar.specs.TokenKinds.{fixed_tokens, other_kind, kind_among, kind_of}
 use Rattle.cedar_grammar.specs.TrailingCommas.{drop_if, plain}
 use Rattle.cedar_grammar.specs.Laws.{PlainTextsAgree}
 use Rattle.cedar_grammar.proofs.KindSets.{apart_at}
@@ -71,20 +71,20 @@ samples K.Modulo = (codes "%", refl)
 samples K.Neg = (codes "!", refl)
 
 -- the text is none of these tokens
-abbrev pub NotIn : List Fixed → List ℕ → Type 0
+abbrev pub NotIn : List (List ℕ × Kind) → List ℕ → Type 0
 NotIn [] text = Unit {0}
-NotIn (f ∷ fs) text = (bytes_eq f.text text ≡ false) × NotIn fs text
+NotIn (f ∷ fs) text = (bytes_eq f.0 text ≡ false) × NotIn fs text
 
-abbrev pub IsNone : List Fixed → List ℕ → Type 0
+abbrev pub IsNone : List (List ℕ × Kind) → List ℕ → Type 0
 IsNone [] text = Unit {0}
-IsNone (f ∷ fs) text = (text ≢ f.text) × IsNone fs text
+IsNone (f ∷ fs) text = (text ≢ f.0) × IsNone fs text
 
-pub kind_among-none : (fs : List Fixed) (text : List ℕ) → IsNone fs text → kind_among fs text ≡ other_kind text
+pub kind_among-none : (fs : List (List ℕ × Kind)) (text : List ℕ) → IsNone fs text → kind_among fs text ≡ other_kind text
 kind_among-none [] text n = refl
-kind_among-none (f ∷ fs) text (d, n) = ap (λ b. if b then f.kind else kind_among fs text) (differ (bytes_eq f.text text) refl) ∙ kind_among-none fs text n
+kind_among-none (f ∷ fs) text (d, n) = ap (λ b. if b then f.1 else kind_among fs text) (differ (bytes_eq f.0 text) refl) ∙ kind_among-none fs text n
   where
-    differ : (x : Bool) → bytes_eq f.text text ≡ x → x ≡ false
-    differ true e = absurd (d (sym ((bytes_eq-Decides f.text text).0 e)))
+    differ : (x : Bool) → bytes_eq f.0 text ≡ x → x ≡ false
+    differ true e = absurd (d (sym ((bytes_eq-Decides f.0 text).0 e)))
     differ false e = refl
 
 -- a text that is no keyword, no slot and no punctuator has one of the other kinds
@@ -97,19 +97,19 @@ kind_of-not_fixed text (a, b, c) =
     kind_among-none fixed_tokens text (k.0, (k.1.0, (k.1.1.0, (k.1.1.1.1.1.1.1.1.1.1.1.0, (k.1.1.1.1.1.1.1.1.1.1.1.1.0, (k.1.1.1.1.1.1.1.0, (k.1.1.1.1.1.1.1.1.1.1.0, (k.1.1.1.1.1.1.1.1.1.0, (k.1.1.1.1.1.1.1.1.0, (k.1.1.1.0, (k.1.1.1.1.0, (k.1.1.1.1.1.0, (k.1.1.1.1.1.1.0, (k.1.1.1.1.1.1.1.1.1.1.1.1.1.0, (k.1.1.1.1.1.1.1.1.1.1.1.1.1.1.0, (k.1.1.1.1.1.1.1.1.1.1.1.1.1.1.1.0, (k.1.1.1.1.1.1.1.1.1.1.1.1.1.1.1.1.0, (s.0, (s.1.0, (p.0, (p.1.0, (p.1.1.0, (p.1.1.1.0, (p.1.1.1.1.0, (p.1.1.1.1.1.0, (p.1.1.1.1.1.1.0, (p.1.1.1.1.1.1.1.0, (p.1.1.1.1.1.1.1.1.0, (p.1.1.1.1.1.1.1.1.1.0, (p.1.1.1.1.1.1.1.1.1.1.0, (p.1.1.1.1.1.1.1.1.1.1.1.0, (p.1.1.1.1.1.1.1.1.1.1.1.1.0, (p.1.1.1.1.1.1.1.1.1.1.1.1.1.0, (p.1.1.1.1.1.1.1.1.1.1.1.1.1.1.0, (p.1.1.1.1.1.1.1.1.1.1.1.1.1.1.1.0, (p.1.1.1.1.1.1.1.1.1.1.1.1.1.1.1.1.0, (p.1.1.1.1.1.1.1.1.1.1.1.1.1.1.1.1.1.0, (p.1.1.1.1.1.1.1.1.1.1.1.1.1.1.1.1.1.1.0, (p.1.1.1.1.1.1.1.1.1.1.1.1.1.1.1.1.1.1.1.0, (p.1.1.1.1.1.1.1.1.1.1.1.1.1.1.1.1.1.1.1.1.0, (p.1.1.1.1.1.1.1.1.1.1.1.1.1.1.1.1.1.1.1.1.1.0, (p.1.1.1.1.1.1.1.1.1.1.1.1.1.1.1.1.1.1.1.1.1.1.0, (p.1.1.1.1.1.1.1.1.1.1.1.1.1.1.1.1.1.1.1.1.1.1.1.0, (p.1.1.1.1.1.1.1.1.1.1.1.1.1.1.1.1.1.1.1.1.1.1.1.1.0, (p.1.1.1.1.1.1.1.1.1.1.1.1.1.1.1.1.1.1.1.1.1.1.1.1.1.0, tt)))))))))))))))))))))))))))))))))))))))))))))
 
 -- a number's kind
-abbrev none_numbers : List Fixed → Bool
+abbrev none_numbers : List (List ℕ × Kind) → Bool
 none_numbers [] = true
-none_numbers (f ∷ fs) = cond (is_number f.text) false (none_numbers fs)
+none_numbers (f ∷ fs) = cond (is_number f.0) false (none_numbers fs)
 
-number_among : (fs : List Fixed) (text : List ℕ) → none_numbers fs ≡ true → is_number text ≡ true → kind_among fs text ≡ other_kind text
+number_among : (fs : List (List ℕ × Kind)) (text : List ℕ) → none_numbers fs ≡ true → is_number text ≡ true → kind_among fs text ≡ other_kind text
 number_among [] text a h = refl
-number_among (f ∷ fs) text a h = go (bytes_eq f.text text) refl (is_number f.text) refl a (number_among fs text)
+number_among (f ∷ fs) text a h = go (bytes_eq f.0 text) refl (is_number f.0) refl a (number_among fs text)
   where
-    go : (b : Bool) → bytes_eq f.text text ≡ b → (n : Bool) → is_number f.text ≡ n → cond n false (none_numbers fs) ≡ true → (none_numbers fs ≡ true → is_number text ≡ true → kind_among fs text ≡ other_kind text)
-        → cond b f.kind (kind_among fs text) ≡ other_kind text
+    go : (b : Bool) → bytes_eq f.0 text ≡ b → (n : Bool) → is_number f.0 ≡ n → cond n false (none_numbers fs) ≡ true → (none_numbers fs ≡ true → is_number text ≡ true → kind_among fs text ≡ other_kind text)
+        → cond b f.1 (kind_among fs text) ≡ other_kind text
     go b e true i k again = absurd cc
     go false e false i k again = again k h
-    go true e false i k again = absurd (let g : f.text ≡ text = (bytes_eq-Decides f.text text).0 e in let j : is_number text ≡ false = ap is_number (sym g) ∙ i in cc)
+    go true e false i k again = absurd (let g : f.0 ≡ text = (bytes_eq-Decides f.0 text).0 e in let j : is_number text ≡ false = ap is_number (sym g) ∙ i in cc)
 
 pub number_kind : (text : List ℕ) → is_number text ≡ true → kind_of text ≡ K.Number
 number_kind [] h = absurd cc
@@ -122,16 +122,16 @@ number_kind (b ∷ text) h =
 
 -- Where a test of kinds agrees with a test of texts on the table and on all other texts, it does on every text.
 module _ (P : Kind → Bool) (Q : List ℕ → Bool) where
-  abbrev Agrees : List Fixed → Type 0
+  abbrev Agrees : List (List ℕ × Kind) → Type 0
   Agrees [] = Unit {0}
-  Agrees (f ∷ fs) = (P f.kind ≡ Q f.text) × Agrees fs
+  Agrees (f ∷ fs) = (P f.1 ≡ Q f.0) × Agrees fs
 
-  agrees_among : (fs : List Fixed) (text : List ℕ) → Agrees fs → (NotIn fs text → P (other_kind text) ≡ Q text) → P (kind_among fs text) ≡ Q text
+  agrees_among : (fs : List (List ℕ × Kind)) (text : List ℕ) → Agrees fs → (NotIn fs text → P (other_kind text) ≡ Q text) → P (kind_among fs text) ≡ Q text
   agrees_among [] text a h = h tt
-  agrees_among (f ∷ fs) text (e, a) h = go (λ m. agrees_among fs text a m) (bytes_eq f.text text) refl
+  agrees_among (f ∷ fs) text (e, a) h = go (λ m. agrees_among fs text a m) (bytes_eq f.0 text) refl
     where
-      go : ((NotIn fs text → P (other_kind text) ≡ Q text) → P (kind_among fs text) ≡ Q text) → (b : Bool) → bytes_eq f.text text ≡ b → P (if b then f.kind else kind_among fs text) ≡ Q text
-      go again true i = e ∙ ap Q ((bytes_eq-Decides f.text text).0 i)
+      go : ((NotIn fs text → P (other_kind text) ≡ Q text) → P (kind_among fs text) ≡ Q text) → (b : Bool) → bytes_eq f.0 text ≡ b → P (if b then f.1 else kind_among fs text) ≡ Q text
+      go again true i = e ∙ ap Q ((bytes_eq-Decides f.0 text).0 i)
       go again false i = again (λ n. h (i, n))
 
 -- a string, a number or an identifier is in no set without these three kinds

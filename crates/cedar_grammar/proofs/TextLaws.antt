@@ -6,9 +6,10 @@ use Rattle.cedar_tokens.specs.Units.{is_token}
 use Rattle.cedar_grammar.specs.declared.kind.Kind.{Kind}
 use Rattle.cedar_grammar.specs.Trees.{Label, Forest}
 use Rattle.cedar_grammar.specs.Grammar.{G}
-use Rattle.cedar_grammar.specs.HopelessPlaces.{Begins, Hopeless}
+use Rattle.cedar_grammar.specs.Beginnings.{Begins}
+use Rattle.cedar_grammar.specs.Reader.Hopeless.{Hopeless}
 use Rattle.cedar_grammar.specs.Numbers.{is_too_large}
-use Rattle.cedar_grammar.specs.Texts.{tokens}
+use Rattle.cedar_grammar.specs.Texts.{only_tokens}
 use Rattle.cedar_grammar.proofs.KindSets.{or_right}
 
 -- Two cuts of one list.
@@ -95,50 +96,50 @@ pub record UnitCut (units front : List (List ℕ)) (t : List ℕ) (rest : List (
   pub after : List (List ℕ)
   pub whole : units ≡ before ++ (t ∷ after)
   pub is_one : is_token t ≡ true
-  pub front_is : tokens before ≡ front
-  pub rest_is : tokens after ≡ rest
+  pub front_is : only_tokens before ≡ front
+  pub rest_is : only_tokens after ≡ rest
 
-pub unit_cut : (units front : List (List ℕ)) (t : List ℕ) (rest : List (List ℕ)) → tokens units ≡ front ++ (t ∷ rest) → UnitCut units front t rest
+pub unit_cut : (units front : List (List ℕ)) (t : List ℕ) (rest : List (List ℕ)) → only_tokens units ≡ front ++ (t ∷ rest) → UnitCut units front t rest
 unit_cut [] [] t rest e = absurd (let h : ◌≡◌ {A = List (List ℕ)} [] (t ∷ rest) = e in cc)
 unit_cut [] (x ∷ front) t rest e = absurd (let h : ◌≡◌ {A = List (List ℕ)} [] (x ∷ (front ++ (t ∷ rest))) = e in cc)
 unit_cut (u ∷ us) front t rest e = go front (λ f. unit_cut us f t rest) e (is_token u) refl
   where
-    go : (front : List (List ℕ)) → ((f : List (List ℕ)) → tokens us ≡ f ++ (t ∷ rest) → UnitCut us f t rest) → tokens (u ∷ us) ≡ front ++ (t ∷ rest) → (b : Bool) → is_token u ≡ b → UnitCut (u ∷ us) front t rest
+    go : (front : List (List ℕ)) → ((f : List (List ℕ)) → only_tokens us ≡ f ++ (t ∷ rest) → UnitCut us f t rest) → only_tokens (u ∷ us) ≡ front ++ (t ∷ rest) → (b : Bool) → is_token u ≡ b → UnitCut (u ∷ us) front t rest
     go front again e false h =
-        let c = again front (let z : tokens us ≡ front ++ (t ∷ rest) = sym (ap (λ b. if b then u ∷ tokens us else tokens us) h) ∙ e in z) in
-        record { before = u ∷ c.before; after = c.after; whole = ap (λ z. u ∷ z) c.whole; is_one = c.is_one; front_is = ap (λ b. if b then u ∷ tokens c.before else tokens c.before) h ∙ c.front_is; rest_is = c.rest_is }
+        let c = again front (let z : only_tokens us ≡ front ++ (t ∷ rest) = sym (ap (λ b. if b then u ∷ only_tokens us else only_tokens us) h) ∙ e in z) in
+        record { before = u ∷ c.before; after = c.after; whole = ap (λ z. u ∷ z) c.whole; is_one = c.is_one; front_is = ap (λ b. if b then u ∷ only_tokens c.before else only_tokens c.before) h ∙ c.front_is; rest_is = c.rest_is }
     go [] again e true h =
-        let z : u ∷ tokens us ≡ t ∷ rest = sym (ap (λ b. if b then u ∷ tokens us else tokens us) h) ∙ e in
+        let z : u ∷ only_tokens us ≡ t ∷ rest = sym (ap (λ b. if b then u ∷ only_tokens us else only_tokens us) h) ∙ e in
         let same : u ≡ t = cc in
-        let rest_same : tokens us ≡ rest = cc in
+        let rest_same : only_tokens us ≡ rest = cc in
         record { before = []; after = us; whole = ap (λ w. w ∷ us) same; is_one = sym (ap is_token same) ∙ h; front_is = refl; rest_is = rest_same }
     go (x ∷ front) again e true h =
-        let z : u ∷ tokens us ≡ x ∷ (front ++ (t ∷ rest)) = sym (ap (λ b. if b then u ∷ tokens us else tokens us) h) ∙ e in
+        let z : u ∷ only_tokens us ≡ x ∷ (front ++ (t ∷ rest)) = sym (ap (λ b. if b then u ∷ only_tokens us else only_tokens us) h) ∙ e in
         let same : u ≡ x = cc in
-        let rest_same : tokens us ≡ front ++ (t ∷ rest) = cc in
+        let rest_same : only_tokens us ≡ front ++ (t ∷ rest) = cc in
         let c = again front rest_same in
         record {
           before = u ∷ c.before;
           after = c.after;
           whole = ap (λ z. u ∷ z) c.whole;
           is_one = c.is_one;
-          front_is = ap (λ b. if b then u ∷ tokens c.before else tokens c.before) h ∙ ap (λ z. u ∷ z) c.front_is ∙ ap (λ z. z ∷ front) same;
+          front_is = ap (λ b. if b then u ∷ only_tokens c.before else only_tokens c.before) h ∙ ap (λ z. u ∷ z) c.front_is ∙ ap (λ z. z ∷ front) same;
           rest_is = c.rest_is;
         }
 
-tokens_length : (x : List (List ℕ)) (t : List ℕ) (y : List (List ℕ)) → is_token t ≡ true → length (tokens x) < length (tokens (x ++ (t ∷ y)))
+tokens_length : (x : List (List ℕ)) (t : List ℕ) (y : List (List ℕ)) → is_token t ≡ true → length (only_tokens x) < length (only_tokens (x ++ (t ∷ y)))
 tokens_length [] t y h = rw h (omega arith)
 tokens_length (u ∷ us) t y h = go (tokens_length us t y h) (is_token u)
   where
-    go : length (tokens us) < length (tokens (us ++ (t ∷ y))) → (b : Bool) → length (if b then u ∷ tokens us else tokens us) < length (if b then u ∷ tokens (us ++ (t ∷ y)) else tokens (us ++ (t ∷ y)))
+    go : length (only_tokens us) < length (only_tokens (us ++ (t ∷ y))) → (b : Bool) → length (if b then u ∷ only_tokens us else only_tokens us) < length (if b then u ∷ only_tokens (us ++ (t ∷ y)) else only_tokens (us ++ (t ∷ y)))
     go k true = omega (arith, k)
     go k false = k
 
 -- a token among the units is found by the tokens before it
-pub one_cut : (f1 f2 : List (List ℕ)) (t1 t2 : List ℕ) (r1 r2 : List (List ℕ)) → f1 ++ (t1 ∷ r1) ≡ f2 ++ (t2 ∷ r2) → is_token t1 ≡ true → is_token t2 ≡ true → tokens f1 ≡ tokens f2 → f1 ≡ f2
+pub one_cut : (f1 f2 : List (List ℕ)) (t1 t2 : List ℕ) (r1 r2 : List (List ℕ)) → f1 ++ (t1 ∷ r1) ≡ f2 ++ (t2 ∷ r2) → is_token t1 ≡ true → is_token t2 ≡ true → only_tokens f1 ≡ only_tokens f2 → f1 ≡ f2
 one_cut f1 f2 t1 t2 r1 r2 e h1 h2 same = go (cuts f1 f2 t1 t2 r1 r2 e)
   where
     go : ((f1 ≡ f2) × (t1 ≡ t2)) ⊎ (((e : List (List ℕ)) × (f2 ≡ f1 ++ (t1 ∷ e))) ⊎ ((e : List (List ℕ)) × (f1 ≡ f2 ++ (t2 ∷ e)))) → f1 ≡ f2
     go (inl h) = h.0
-    go (inr (inl (d, i))) = let k = tokens_length f1 t1 d h1 in let l = ap length (same ∙ ap tokens i) in absurd (omega (arith, k, l))
-    go (inr (inr (d, i))) = let k = tokens_length f2 t2 d h2 in let l = ap length (sym same ∙ ap tokens i) in absurd (omega (arith, k, l))
+    go (inr (inl (d, i))) = let k = tokens_length f1 t1 d h1 in let l = ap length (same ∙ ap only_tokens i) in absurd (omega (arith, k, l))
+    go (inr (inr (d, i))) = let k = tokens_length f2 t2 d h2 in let l = ap length (sym same ∙ ap only_tokens i) in absurd (omega (arith, k, l))

@@ -7,7 +7,7 @@ use Rattle.cedar_grammar.specs.Trees.{Label, Forest, yield}
 use Rattle.cedar_grammar.specs.Grammar.{G}
 use Rattle.cedar_grammar.specs.TrailingCommas.{plain}
 use Rattle.cedar_grammar.specs.TypedTrees as T
-use Rattle.cedar_grammar.specs.TypedTrees.{NodeKind, PartKind, Tree, Clause, parts, part_parts, policy_trees, part_yield, name_one, name_more, ref_of, args_one, args_more, init_of, inits_one, inits_more, literal, slot, reference, named, parens, list_empty, list_of, record_empty, record_of, no_access, field, call_empty, call, index, member_of, unsigned, signed, products_one, products_more, mult_of, sums_one, sums_more, add_of, single, compare, has_or_like, is_type, is_in, ands_one, ands_more, ors_one, ors_more, plain_expr, if_expr, variable_bare, variable_is, variable_op, variable_is_op, cond_of, no_cond, conds_more, annotation_bare, annotation_value, no_annotation, annotations_more, policy_of}
+use Rattle.cedar_grammar.specs.TypedTrees.{NodeKind, PartKind, Tree, Clause, parts, part_parts, policy_trees, part_yield, name_one, name_more, ref_of, args_one, args_more, init_of, inits_one, inits_more, literal, slot, reference, named, parens, list_empty, list_of, record_empty, record_of, no_access, field, call_empty, call, index, member_of, unsigned, signed, products_one, products_more, mult_of, sums_one, sums_more, add_of, single, compare, has_or_like, is_type, is_in, ands_one, ands_more, ors_one, ors_more, ors_expr, if_expr, variable_bare, variable_is, variable_op, variable_is_op, cond_of, no_cond, conds_more, annotation_bare, annotation_value, no_annotation, annotations_more, policy_of}
 use Rattle.cedar_grammar.specs.Laws.{ListHasOneTree, GrammarIsDecidable, DeeperHasMore, LeavesArePlain, EveryTreeIsTyped, TypedTreeIsUnique, TypedLeavesAgree}
 use Rattle.cedar_grammar.specs.Reader.Reading.{Answer, done, stuck}
 use Rattle.cedar_grammar.specs.Reader.Lines.{set_to}
@@ -60,7 +60,7 @@ module _ {A : Type 0} (kind : A → Kind) where
   pub typed_tree_is_unique : TypedTreeIsUnique kind
   typed_tree_is_unique = set_same kind
 
-  pub typed_leaves : {k : NodeKind} (t : Tree A k) → yield (parts kind t) ≡ T.yield t
+  pub typed_leaves : {k : NodeKind} (t : Tree A k) → yield (parts kind t) ≡ T.tree_yield t
   typed_leaves (name_one x) = refl
   typed_leaves (name_more x c r) = simp (typed_leaves r) refl
   typed_leaves (ref_of n c s) = simp (append-nil, typed_leaves n) refl
@@ -93,15 +93,15 @@ module _ {A : Type 0} (kind : A → Kind) where
   typed_leaves (sums_more m o r) = simp (typed_leaves m, typed_leaves r) refl
   typed_leaves (add_of s) = simp (typed_leaves s) refl
   typed_leaves (single a) = simp (append-nil, typed_leaves a) refl
-  typed_leaves (compare a o b) = simp (append-nil (T.yield b), typed_leaves a, typed_leaves b) refl
-  typed_leaves (has_or_like a o b) = simp (append-nil (T.yield b), typed_leaves a, typed_leaves b) refl
-  typed_leaves (is_type a o n) = simp (append-nil (T.yield n), typed_leaves a, typed_leaves n) refl
-  typed_leaves (is_in a o n p b) = simp (append-nil (T.yield b), append_assoc, typed_leaves a, typed_leaves n, typed_leaves b) refl
+  typed_leaves (compare a o b) = simp (append-nil (T.tree_yield b), typed_leaves a, typed_leaves b) refl
+  typed_leaves (has_or_like a o b) = simp (append-nil (T.tree_yield b), typed_leaves a, typed_leaves b) refl
+  typed_leaves (is_type a o n) = simp (append-nil (T.tree_yield n), typed_leaves a, typed_leaves n) refl
+  typed_leaves (is_in a o n p b) = simp (append-nil (T.tree_yield b), append_assoc, typed_leaves a, typed_leaves n, typed_leaves b) refl
   typed_leaves (ands_one r) = simp (append-nil, typed_leaves r) refl
   typed_leaves (ands_more r o m) = simp (typed_leaves r, typed_leaves m) refl
   typed_leaves (ors_one a) = simp (append-nil, typed_leaves a) refl
   typed_leaves (ors_more a o m) = simp (typed_leaves a, typed_leaves m) refl
-  typed_leaves (plain_expr o) = simp (append-nil, typed_leaves o) refl
+  typed_leaves (ors_expr o) = simp (append-nil, typed_leaves o) refl
   typed_leaves (if_expr i c t a f b) = simp (append-nil, typed_leaves c, typed_leaves a, typed_leaves b) refl
 
   pub part_leaves : {k : PartKind} (t : Clause A k) → yield (part_parts kind t) ≡ part_yield t

@@ -7,7 +7,7 @@ use borrow.Author.Tests.{eqb-true}
 use Rattle.cedar_grammar.specs.Kinds.{is, code, is_closing}
 use Rattle.cedar_grammar.specs.Trees.{Label, Forest, none, leaf, branch, join}
 use Rattle.cedar_grammar.specs.Trees as L
-use Rattle.cedar_grammar.specs.Languages.{Lang, ◌·◌, ◌∪◌, Empty, Many, no_more, one_more, Tree, Of}
+use Rattle.cedar_grammar.specs.Languages.{Lang, ◌⋄◌, ◌∪◌, Empty, Many, no_more, one_more, Branch, Of}
 use Rattle.cedar_grammar.specs.Grammar as G
 use Rattle.cedar_grammar.specs.TrailingCommas.{drop_if, closes_next, without_trailing}
 use Rattle.cedar_grammar.specs.TypedTrees as T
@@ -34,7 +34,7 @@ module _ {A : Type 0} (kind : A → Kind) where
       (one_is : (t : T.Tree A k) → parts kind (one t) ≡ branch l (parts kind t) none) (more_is : (t : T.Tree A k) (a : A) (r : T.Tree A c) → parts kind (more t a r) ≡ branch l (parts kind t) (leaf a (parts kind r)))
       (one_fits : (t : T.Tree A k) → Fits kind t → Fits kind (one t)) (more_fits : (t : T.Tree A k) (a : A) (r : T.Tree A c) → Fits kind t → Fits kind r → Fits kind (more t a r))
       (typed : (f : Forest Label A) → X f → Typed k f) where
-    chain_from : (m g : Forest Label A) → X g → Many (Of kind p · Tree l X) m → Typed c (branch l g m)
+    chain_from : (m g : Forest Label A) → X g → Many (Of kind p ⋄ Branch l X) m → Typed c (branch l g m)
     chain_from m g x (no_more i e) =
         let t = typed g x in
         (one t.0, ap (λ z. without_trailing kind (branch l g z)) e ∙ ap (λ z. branch l z none) t.1 ∙ sym (one_is t.0), one_fits t.0 t.2)
@@ -47,17 +47,17 @@ module _ {A : Type 0} (kind : A → Kind) where
           more_fits t.0 a r.0 t.2 r.2,
         )
 
-    pub chain : (f : Forest Label A) → (Tree l X · Many (Of kind p · Tree l X)) f → Typed c f
+    pub chain : (f : Forest Label A) → (Branch l X ⋄ Many (Of kind p ⋄ Branch l X)) f → Typed c f
     chain f (u, m, e, (g, d, x), n) = let r = chain_from m g x n in (r.0, ap (without_trailing kind) (e ∙ ap (λ z. join z m) d) ∙ r.1, r.2)
 
   -- Sums: from typed operands to a typed sum, one line for each chain of the grammar.
   module _ (X : Lang A) (typed : (f : Forest Label A) → X f → Typed T.unary f) where
-    pub products : (f : Forest Label A) → (Tree L.unary X · Many (G.One kind K.Mul · Tree L.unary X)) f → Typed T.mult f
+    pub products : (f : Forest Label A) → (Branch L.unary X ⋄ Many (G.One kind K.Mul ⋄ Branch L.unary X)) f → Typed T.mult f
     products f x = let r = chain L.unary T.unary T.products X (is K.Mul) T.products_one T.products_more (λ t. refl) (λ t a r. refl) (λ t h. h) (λ t a r h k. (h, k)) typed f x in (T.mult_of r.0, r.1, r.2)
 
-    pub sums : (f : Forest Label A) → (Tree L.mult (Tree L.unary X · Many (G.One kind K.Mul · Tree L.unary X))
-        · Many (Of kind (λ x. is K.Add x || is K.Dash x) · Tree L.mult (Tree L.unary X · Many (G.One kind K.Mul · Tree L.unary X)))) f → Typed T.add f
-    sums f x = let r = chain L.mult T.mult T.sums (Tree L.unary X · Many (G.One kind K.Mul · Tree L.unary X)) (λ x. is K.Add x || is K.Dash x) T.sums_one T.sums_more (λ t. refl) (λ t a r. refl) (λ t h. h) (λ t a r h k. (h, k)) products f x in (T.add_of r.0, r.1, r.2)
+    pub sums : (f : Forest Label A) → (Branch L.mult (Branch L.unary X ⋄ Many (G.One kind K.Mul ⋄ Branch L.unary X))
+        ⋄ Many (Of kind (λ x. is K.Add x || is K.Dash x) ⋄ Branch L.mult (Branch L.unary X ⋄ Many (G.One kind K.Mul ⋄ Branch L.unary X)))) f → Typed T.add f
+    sums f x = let r = chain L.mult T.mult T.sums (Branch L.unary X ⋄ Many (G.One kind K.Mul ⋄ Branch L.unary X)) (λ x. is K.Add x || is K.Dash x) T.sums_one T.sums_more (λ t. refl) (λ t a r. refl) (λ t h. h) (λ t a r h k. (h, k)) products f x in (T.add_of r.0, r.1, r.2)
 
   pub lone : (a : A) → without_trailing kind (leaf a none) ≡ leaf a none
   lone a = ap (λ b. drop_if b (leaf a none) none) (and_false (is K.Comma (kind a)))
@@ -69,7 +69,7 @@ module _ {A : Type 0} (kind : A → Kind) where
   opening_kept a f e = ap (λ b. drop_if (b && closes_next kind f) (leaf a (without_trailing kind f)) (without_trailing kind f)) e
 
   -- Names.
-  names_from : (m : Forest Label A) (a : A) → IsTrue (is_ident (kind a)) → Many (G.One kind K.DoubleColon · G.Ident kind) m → Typed T.name (branch L.ident (leaf a none) m)
+  names_from : (m : Forest Label A) (a : A) → IsTrue (is_ident (kind a)) → Many (G.One kind K.DoubleColon ⋄ G.Ident kind) m → Typed T.name (branch L.ident (leaf a none) m)
   names_from m a w (no_more i e) = (T.name_one a, ap (λ z. branch L.ident (without_trailing kind (leaf a none)) (without_trailing kind z)) e ∙ ap (λ z. branch L.ident z none) (lone a), within_at is_ident is_atom refl (kind a) w)
   names_from m a i2 (one_more i u v e (s, w, d, (b, c, o), (g, q, (x, y, z))) n) =
       let r = names_from v x z n in (
@@ -80,7 +80,7 @@ module _ {A : Type 0} (kind : A → Kind) where
         (within_at is_ident is_atom refl (kind a) i2, o, r.2),
       )
 
-  pub names : (f : Forest Label A) → (G.Ident kind · Many (G.One kind K.DoubleColon · G.Ident kind)) f → Typed T.name f
+  pub names : (f : Forest Label A) → (G.Ident kind ⋄ Many (G.One kind K.DoubleColon ⋄ G.Ident kind)) f → Typed T.name f
   names f (u, m, e, (g, d, (a, b, o)), n) =
       let r = names_from m a o n in
       (r.0, ap (without_trailing kind) (e ∙ ap (λ z. join z m) (d ∙ ap (λ z. branch L.ident z none) b)) ∙ r.1, r.2)
@@ -94,7 +94,7 @@ module _ {A : Type 0} (kind : A → Kind) where
     last_dropped f (inr e) = ap (λ z. without_trailing kind (join z (leaf close none))) e ∙ lone close
     last_dropped f (inl (a, e, o)) = ap (λ z. without_trailing kind (join z (leaf close none))) e ∙ rw (o, closes) (lone close)
 
-    items_from : (m n g : Forest Label A) → Typed k g → Many (G.One kind K.Comma · E) m → (G.One kind K.Comma ∪ Empty) n
+    items_from : (m n g : Forest Label A) → Typed k g → Many (G.One kind K.Comma ⋄ E) m → (G.One kind K.Comma ∪ Empty) n
         → (t : T.Tree A c) × (without_trailing kind (join (branch l g (join m n)) (leaf close none)) ≡ join (parts kind t) (leaf close none)) × Fits kind t
     items_from m n g t (no_more i e) x = (
       one t.0,

@@ -8,7 +8,7 @@ use Rattle.cedar_grammar.specs.Kinds.{is, code, is_boolean, is_ident, is_variabl
 use Rattle.cedar_grammar.proofs.ReadingLaws.{join_none, join_assoc}
 use Rattle.cedar_grammar.specs.Trees.{Label, Forest, none, leaf, branch, join}
 use Rattle.cedar_grammar.specs.Trees as L
-use Rattle.cedar_grammar.specs.Languages.{Lang, ◌·◌, ◌∪◌, Many, no_more, one_more, Maybe, Tree, Of}
+use Rattle.cedar_grammar.specs.Languages.{Lang, ◌⋄◌, ◌∪◌, Many, no_more, one_more, Maybe, Branch, Of}
 use Rattle.cedar_grammar.specs.Grammar as G
 use Rattle.cedar_grammar.specs.TrailingCommas.{without_trailing}
 use Rattle.cedar_grammar.specs.TypedTrees as T
@@ -46,14 +46,14 @@ module _ {A : Type 0} (kind : A → Kind) where
   boolean_label k h = ap (λ b. if b then L.number else (if is K.Str k then L.string else L.boolean)) (apart_at is_boolean (is K.Number) refl k h)
       ∙ ap (λ b. if b then L.string else L.boolean) (apart_at is_boolean (is K.Str) refl k h)
 
-  literal : (l : Label) (p : Kind → Bool) → IsTrue (within p is_atom) → ((k : Kind) → IsTrue (p k) → literal_label k ≡ l) → (f : Forest Label A) → Tree L.primary (Tree l (Of kind p)) f → Node L.primary T.primary f
+  literal : (l : Label) (p : Kind → Bool) → IsTrue (within p is_atom) → ((k : Kind) → IsTrue (p k) → literal_label k ≡ l) → (f : Forest Label A) → Branch L.primary (Branch l (Of kind p)) f → Node L.primary T.primary f
   literal l p atoms same f (g, e, (h, d, (a, c, o))) = (
     g,
     e,
     (T.literal a, ap (without_trailing kind) (d ∙ ap (λ k. branch l k none) c) ∙ ap (λ k. branch l k none) (lone kind a) ∙ ap (λ k. branch k (leaf a none) none) (sym (same (kind a) o)), within_at p is_atom atoms (kind a) o),
   )
 
-  named : (p : Kind → Bool) → IsTrue (within p is_atom) → (f : Forest Label A) → Tree L.primary (Tree L.name (Tree L.ident (Of kind p))) f → Node L.primary T.primary f
+  named : (p : Kind → Bool) → IsTrue (within p is_atom) → (f : Forest Label A) → Branch L.primary (Branch L.name (Branch L.ident (Of kind p))) f → Node L.primary T.primary f
   named p atoms f (g, e, (h, d, (i, c, (a, b, o)))) =
       (g, e, (T.named (T.name_one a), ap (without_trailing kind) (d ∙ ap (λ k. branch L.name k none) (c ∙ ap (λ k. branch L.ident k none) b)) ∙ ap (λ k. branch L.name (branch L.ident k none) none) (lone kind a), within_at p is_atom atoms (kind a) o))
 
@@ -75,16 +75,16 @@ module _ {A : Type 0} (kind : A → Kind) where
 
   -- `&&` and `||`
   module _ (X : Lang A) (typed : (f : Forest Label A) → X f → Typed kind T.relation f) where
-    ands : (f : Forest Label A) → (Tree L.relation X · Many (G.One kind K.And · Tree L.relation X)) f → Typed kind T.ands f
+    ands : (f : Forest Label A) → (Branch L.relation X ⋄ Many (G.One kind K.And ⋄ Branch L.relation X)) f → Typed kind T.ands f
     ands = chain kind L.relation T.relation T.ands X (is K.And) T.ands_one T.ands_more (λ t. refl) (λ t a r. refl) (λ t h. h) (λ t a r h k. (h, k)) typed
 
-    pub ors : (f : Forest Label A) → (Tree L.and (Tree L.relation X · Many (G.One kind K.And · Tree L.relation X))
-        · Many (G.One kind K.Or · Tree L.and (Tree L.relation X · Many (G.One kind K.And · Tree L.relation X)))) f → Typed kind T.ors f
-    ors = chain kind L.and T.ands T.ors (Tree L.relation X · Many (G.One kind K.And · Tree L.relation X)) (is K.Or) T.ors_one T.ors_more (λ t. refl) (λ t a r. refl) (λ t h. h) (λ t a r h k. (h, k)) ands
+    pub ors : (f : Forest Label A) → (Branch L.and (Branch L.relation X ⋄ Many (G.One kind K.And ⋄ Branch L.relation X))
+        ⋄ Many (G.One kind K.Or ⋄ Branch L.and (Branch L.relation X ⋄ Many (G.One kind K.And ⋄ Branch L.relation X)))) f → Typed kind T.ors f
+    ors = chain kind L.and T.ands T.ors (Branch L.relation X ⋄ Many (G.One kind K.And ⋄ Branch L.relation X)) (is K.Or) T.ors_one T.ors_more (λ t. refl) (λ t a r. refl) (λ t h. h) (λ t a r h k. (h, k)) ands
 
   module _ (Sum : Lang A) (sum : (f : Forest Label A) → Sum f → Node L.add T.add f) where
     -- a relation: one operand, or an operator and what stands behind it
-    pub operator_kept : (p : Kind → Bool) (X : Lang A) (l k : Label) (f : Forest Label A) → ((g : Forest Label A) → X g → Node L.add T.add g) → Tree k (Of kind p · X) f
+    pub operator_kept : (p : Kind → Bool) (X : Lang A) (l k : Label) (f : Forest Label A) → ((g : Forest Label A) → X g → Node L.add T.add g) → Branch k (Of kind p ⋄ X) f
         → (a : A) × (t : T.Tree A T.add) × (without_trailing kind f ≡ branch k (leaf a (branch L.add (parts kind t) none)) none) × Fits kind t
     operator_kept p X l k f typed (g, e, (u, v, d, (a, b, o), y)) =
         let n = typed v y in (
@@ -96,7 +96,7 @@ module _ {A : Type 0} (kind : A → Kind) where
         )
 
   module _ (room : Bool) (E : Lang A) (typed_expr : (f : Forest Label A) → E f → Node L.expr T.expr f) where
-    parens : (q : Forest Label A) → (G.One kind K.LParen · E · G.One kind K.RParen) q → Typed kind T.primary (branch L.parens q none)
+    parens : (q : Forest Label A) → (G.One kind K.LParen ⋄ E ⋄ G.One kind K.RParen) q → Typed kind T.primary (branch L.parens q none)
     parens q (u, v, c, (a, b, h), (x, y, g, ex, (r, j, k))) =
         let n = typed_expr x ex in (
           T.parens a n.2.0 r,
@@ -110,7 +110,7 @@ module _ {A : Type 0} (kind : A → Kind) where
         (one_is : (t : T.Tree A k) → parts kind (one t) ≡ branch l (parts kind t) none) (more_is : (t : T.Tree A k) (a : A) (r : T.Tree A c) → parts kind (more t a r) ≡ branch l (parts kind t) (leaf a (parts kind r)))
         (one_fits : (t : T.Tree A k) → Fits kind t → Fits kind (one t)) (more_fits : (t : T.Tree A k) (a : A) (r : T.Tree A c) → IsTrue (is K.Comma (kind a)) → Fits kind t → Fits kind r → Fits kind (more t a r))
         (typed : (f : Forest Label A) → X f → Node l k f) (left right : Kind) (not_sep : nat_eq (code left) (code K.Comma) ≡ false) (ends : IsTrue (within (is right) is_closing)) where
-      bracketed : (q : Forest Label A) → (G.One kind left · Maybe (G.Items kind X) · G.One kind right) q
+      bracketed : (q : Forest Label A) → (G.One kind left ⋄ Maybe (G.Items kind X) ⋄ G.One kind right) q
           → (a : A) × (r : A) × IsTrue (is left (kind a)) × IsTrue (is right (kind r)) × ((without_trailing kind q ≡ leaf a (leaf r none)) ⊎ ((t : T.Tree A c) × (without_trailing kind q ≡ leaf a (join (parts kind t) (leaf r none))) × Fits kind t))
       bracketed q (u, v, d, (a, b, h), (x, y, g, inl i, (r, j, o))) =
           let t = items kind l k c X one more one_is more_is one_fits more_fits typed r (within_at (is right) is_closing ends (kind r) o) x i in
@@ -118,25 +118,25 @@ module _ {A : Type 0} (kind : A → Kind) where
       bracketed q (u, v, d, (a, b, h), (x, y, g, inr i, (r, j, o))) =
           (a, r, h, o, inl (ap (without_trailing kind) (d ∙ ap (λ z. join z v) b ∙ ap (leaf a) (g ∙ ap (λ z. join z y) i ∙ j)) ∙ opening_kept kind a (leaf r none) (not_comma kind left a h not_sep) ∙ ap (leaf a) (lone kind r)))
 
-    arguments : (left right : Kind) → nat_eq (code left) (code K.Comma) ≡ false → IsTrue (within (is right) is_closing) → (q : Forest Label A) → (G.One kind left · Maybe (G.Items kind E) · G.One kind right) q
+    arguments : (left right : Kind) → nat_eq (code left) (code K.Comma) ≡ false → IsTrue (within (is right) is_closing) → (q : Forest Label A) → (G.One kind left ⋄ Maybe (G.Items kind E) ⋄ G.One kind right) q
         → (a : A) × (r : A) × IsTrue (is left (kind a)) × IsTrue (is right (kind r)) × ((without_trailing kind q ≡ leaf a (leaf r none)) ⊎ ((t : T.Tree A T.args) × (without_trailing kind q ≡ leaf a (join (parts kind t) (leaf r none))) × Fits kind t))
     arguments left right n w q x = bracketed L.expr T.expr T.args E T.args_one T.args_more (λ t. refl) (λ t a r. refl) (λ t h. h) (λ t a r c h k. (h, c, k)) typed_expr left right n w q x
 
-    pub list : (q : Forest Label A) → (G.One kind K.LBracket · Maybe (G.Items kind E) · G.One kind K.RBracket) q → Typed kind T.primary (branch L.list q none)
+    pub list : (q : Forest Label A) → (G.One kind K.LBracket ⋄ Maybe (G.Items kind E) ⋄ G.One kind K.RBracket) q → Typed kind T.primary (branch L.list q none)
     list q x = go (arguments K.LBracket K.RBracket refl refl q x)
       where
         go : (a : A) × (r : A) × IsTrue (is K.LBracket (kind a)) × IsTrue (is K.RBracket (kind r)) × ((without_trailing kind q ≡ leaf a (leaf r none)) ⊎ ((t : T.Tree A T.args) × (without_trailing kind q ≡ leaf a (join (parts kind t) (leaf r none))) × Fits kind t)) → Typed kind T.primary (branch L.list q none)
         go (a, r, h, k, inl e) = (T.list_empty a r, ap (λ z. branch L.list z none) e, (h, k))
         go (a, r, h, k, inr (t, e, f)) = (T.list_of a t r, ap (λ z. branch L.list z none) e, (h, f, k))
 
-    call_before : (q m : Forest Label A) → (G.One kind K.LParen · Maybe (G.Items kind E) · G.One kind K.RParen) q → Typed kind T.accesses m → Typed kind T.accesses (branch L.access q m)
+    call_before : (q m : Forest Label A) → (G.One kind K.LParen ⋄ Maybe (G.Items kind E) ⋄ G.One kind K.RParen) q → Typed kind T.accesses m → Typed kind T.accesses (branch L.access q m)
     call_before q m x s = go (arguments K.LParen K.RParen refl refl q x)
       where
         go : (a : A) × (r : A) × IsTrue (is K.LParen (kind a)) × IsTrue (is K.RParen (kind r)) × ((without_trailing kind q ≡ leaf a (leaf r none)) ⊎ ((t : T.Tree A T.args) × (without_trailing kind q ≡ leaf a (join (parts kind t) (leaf r none))) × Fits kind t)) → Typed kind T.accesses (branch L.access q m)
         go (a, r, h, k, inl e) = (T.call_empty a r s.0, ap (λ z. branch L.access z (without_trailing kind m)) e ∙ ap (branch L.access (leaf a (leaf r none))) s.1, (h, k, s.2))
         go (a, r, h, k, inr (t, e, f)) = (T.call a t r s.0, ap (λ z. branch L.access z (without_trailing kind m)) e ∙ ap (branch L.access (leaf a (join (parts kind t) (leaf r none)))) s.1, (h, f, k, s.2))
 
-    field_before : (f m : Forest Label A) → Tree L.access (G.One kind K.Dot · G.Ident kind) f → Typed kind T.accesses m → Typed kind T.accesses (join f m)
+    field_before : (f m : Forest Label A) → Branch L.access (G.One kind K.Dot ⋄ G.Ident kind) f → Typed kind T.accesses m → Typed kind T.accesses (join f m)
     field_before f m (g, e, (u, v, d, (a, b, o), (w, c, (i, j, h)))) s = (
       T.field a i s.0,
       ap (λ z. without_trailing kind (join z m)) (e ∙ ap (λ z. branch L.access z none) (d ∙ ap (λ z. join z v) b ∙ ap (leaf a) (c ∙ ap (λ z. branch L.ident z none) j)))
@@ -144,7 +144,7 @@ module _ {A : Type 0} (kind : A → Kind) where
       (o, within_at is_ident is_atom refl (kind i) h, s.2),
     )
 
-    index_before : (f m : Forest Label A) → Tree L.access (G.One kind K.LBracket · G.Text kind · G.One kind K.RBracket) f → Typed kind T.accesses m → Typed kind T.accesses (join f m)
+    index_before : (f m : Forest Label A) → Branch L.access (G.One kind K.LBracket ⋄ G.STR kind ⋄ G.One kind K.RBracket) f → Typed kind T.accesses m → Typed kind T.accesses (join f m)
     index_before f m (g, e, (u, v, d, (a, b, o), (x, y, c, (w, h, (i, j, k)), (r, p, q)))) s = (
       T.index a i r s.0,
       ap (λ z. without_trailing kind (join z m)) (e ∙ ap (λ z. branch L.access z none) (d ∙ ap (λ z. join z v) b ∙ ap (leaf a) (c ∙ ap (λ z. join z y) (h ∙ ap (λ z. branch L.str z none) j) ∙ ap (branch L.str (leaf i none)) p)))
@@ -165,7 +165,7 @@ module _ {A : Type 0} (kind : A → Kind) where
     init : (f : Forest Label A) → G.Init kind room E f → Node L.rec_init T.init f
     init f (p, e, (u, v, d, k, (x, y, g, (a, b, o), s))) = go (key u k)
       where
-        key : (u : Forest Label A) → (Tree L.primary (Tree L.name (G.Ident kind)) ∪ Tree L.primary (Tree L.string (G.One kind K.Str))) u → Node L.primary T.primary u
+        key : (u : Forest Label A) → (Branch L.primary (Branch L.name (G.Ident kind)) ∪ Branch L.primary (Branch L.string (G.One kind K.Str))) u → Node L.primary T.primary u
         key u (inl k) = named is_ident refl u k
         key u (inr k) = literal L.string (is K.Str) refl string_label u k
 
@@ -183,36 +183,36 @@ module _ {A : Type 0} (kind : A → Kind) where
               ),
             )
 
-    fields : (q : Forest Label A) → (G.One kind K.LBrace · Maybe (G.Items kind (G.Init kind room E)) · G.One kind K.RBrace) q → Typed kind T.primary (branch L.fields q none)
+    fields : (q : Forest Label A) → (G.One kind K.LBrace ⋄ Maybe (G.Items kind (G.Init kind room E)) ⋄ G.One kind K.RBrace) q → Typed kind T.primary (branch L.fields q none)
     fields q x = go (bracketed L.rec_init T.init T.inits (G.Init kind room E) T.inits_one T.inits_more (λ t. refl) (λ t a r. refl) (λ t h. h) (λ t a r c h k. (h, c, k)) init K.LBrace K.RBrace refl refl q x)
       where
         go : (a : A) × (r : A) × IsTrue (is K.LBrace (kind a)) × IsTrue (is K.RBrace (kind r)) × ((without_trailing kind q ≡ leaf a (leaf r none)) ⊎ ((t : T.Tree A T.inits) × (without_trailing kind q ≡ leaf a (join (parts kind t) (leaf r none))) × Fits kind t)) → Typed kind T.primary (branch L.fields q none)
         go (a, r, h, k, inl e) = (T.record_empty a r, ap (λ z. branch L.fields z none) e, (h, k))
         go (a, r, h, k, inr (t, e, f)) = (T.record_of a t r, ap (λ z. branch L.fields z none) e, (h, f, k))
 
-    boxed : (l : Label) (X : Lang A) → ((q : Forest Label A) → X q → Typed kind T.primary (branch l q none)) → (f : Forest Label A) → Tree L.primary (Tree l X) f → Node L.primary T.primary f
+    boxed : (l : Label) (X : Lang A) → ((q : Forest Label A) → X q → Typed kind T.primary (branch l q none)) → (f : Forest Label A) → Branch L.primary (Branch l X) f → Node L.primary T.primary f
     boxed l X h f (p, e, (q, d, x)) = let t = h q x in (p, e, (t.0, ap (without_trailing kind) d ∙ t.1, t.2))
 
     after_primary : (u v : Forest Label A) → Node L.primary T.primary u → Typed kind T.accesses v → Typed kind T.member (join u v)
     after_primary u v n s = (T.member_of n.2.0 s.0, ap (λ z. without_trailing kind (join z v)) n.1 ∙ ap (λ z. branch L.primary z (without_trailing kind v)) n.2.1 ∙ ap (branch L.primary (parts kind n.2.0)) s.1, (n.2.2, s.2))
 
-    path_primary : (f : Forest Label A) → Tree L.primary (G.Path kind) f → Node L.primary T.primary f
+    path_primary : (f : Forest Label A) → Branch L.primary (G.Path kind) f → Node L.primary T.primary f
     path_primary f (p, e, (q, d, x)) = let t = names kind q x in (p, e, (T.named t.0, ap (without_trailing kind) d ∙ ap (λ z. branch L.name z none) t.1, t.2))
 
     item_then : (u v : Forest Label A) → G.Primary kind room E u → Typed kind T.accesses v → Typed kind T.member (join u v)
     item_then u v (inl x) s = after_primary u v (literal L.boolean is_boolean refl boolean_label u x) s
     item_then u v (inr (inl x)) s = after_primary u v (literal L.number (is K.Number) refl number_label u x) s
     item_then u v (inr (inr (inl x))) s = after_primary u v (literal L.string (is K.Str) refl string_label u x) s
-    item_then u v (inr (inr (inr (inl x)))) s = after_primary u v (boxed L.parens (G.Nest kind room E K.LParen (E · G.One kind K.RParen)) (λ q y. parens q y.1) u x) s
-    item_then u v (inr (inr (inr (inr (inl x))))) s = after_primary u v (boxed L.list (G.Nest kind room E K.LBracket (Maybe (G.Items kind E) · G.One kind K.RBracket)) (λ q y. list q y.1) u x) s
-    item_then u v (inr (inr (inr (inr (inr (inl x)))))) s = after_primary u v (boxed L.fields (G.Nest kind room E K.LBrace (Maybe (G.Items kind (G.Init kind room E)) · G.One kind K.RBrace)) (λ q y. fields q y.1) u x) s
+    item_then u v (inr (inr (inr (inl x)))) s = after_primary u v (boxed L.parens (G.Deeper kind room E K.LParen (E ⋄ G.One kind K.RParen)) (λ q y. parens q y.1) u x) s
+    item_then u v (inr (inr (inr (inr (inl x))))) s = after_primary u v (boxed L.list (G.Deeper kind room E K.LBracket (Maybe (G.Items kind E) ⋄ G.One kind K.RBracket)) (λ q y. list q y.1) u x) s
+    item_then u v (inr (inr (inr (inr (inr (inl x)))))) s = after_primary u v (boxed L.fields (G.Deeper kind room E K.LBrace (Maybe (G.Items kind (G.Init kind room E)) ⋄ G.One kind K.RBrace)) (λ q y. fields q y.1) u x) s
     item_then u v (inr (inr (inr (inr (inr (inr (inl x))))))) s = after_primary u v (named is_variable refl u x) s
     item_then u v (inr (inr (inr (inr (inr (inr (inr (inl x)))))))) s = after_primary u v (entity u x) s
     item_then u v (inr (inr (inr (inr (inr (inr (inr (inr (g, h, e, x, (q, d, (o, y))))))))))) s =
         let r = after_primary g (branch L.access q v) (path_primary g x) (call_before q v y s) in
         (r.0, ap (λ z. without_trailing kind (join z v)) (e ∙ ap (join g) d) ∙ ap (without_trailing kind) (join_assoc g (branch L.access q none) v) ∙ r.1, r.2)
 
-    member : (f : Forest Label A) → (G.Primary kind room E · Many (G.Access kind room E)) f → Typed kind T.member f
+    member : (f : Forest Label A) → (G.Primary kind room E ⋄ Many (G.Access kind room E)) f → Typed kind T.member f
     member f (u, v, e, x, m) = let r = item_then u v x (accesses v m) in (r.0, ap (without_trailing kind) e ∙ r.1, r.2)
 
     -- signs before what has a typed unary
@@ -222,16 +222,16 @@ module _ {A : Type 0} (kind : A → Kind) where
     one_sign : (k : Kind) → IsTrue (within (is k) is_sign) → nat_eq (code k) (code K.Comma) ≡ false → Before (G.One kind k)
     one_sign k w n f g (a, e, h) t = (T.signed a t.0, ap (λ z. without_trailing kind (join z g)) e ∙ opening_kept kind a g (not_comma kind k a h n) ∙ ap (leaf a) t.1, (within_at (is k) is_sign w (kind a) h, t.2))
 
-    sign_then : (k : Kind) → IsTrue (within (is k) is_sign) → nat_eq (code k) (code K.Comma) ≡ false → (X : Lang A) → ((f g : Forest Label A) → X f → Typed kind T.unary g → Typed kind T.unary (join f g)) → (f g : Forest Label A) → (G.One kind k · Maybe X) f → Typed kind T.unary g → Typed kind T.unary (join f g)
+    sign_then : (k : Kind) → IsTrue (within (is k) is_sign) → nat_eq (code k) (code K.Comma) ≡ false → (X : Lang A) → ((f g : Forest Label A) → X f → Typed kind T.unary g → Typed kind T.unary (join f g)) → (f g : Forest Label A) → (G.One kind k ⋄ Maybe X) f → Typed kind T.unary g → Typed kind T.unary (join f g)
     sign_then k w n X h f g (u, v, e, x, inr y) t =
         let r = one_sign k w n u g x t in (r.0, ap (λ z. without_trailing kind (join z g)) (e ∙ ap (join u) y ∙ join_none u) ∙ r.1, r.2)
     sign_then k w n X h f g (u, v, e, x, inl y) t =
         let r = one_sign k w n u (join v g) x (h v g y t) in (r.0, ap (λ z. without_trailing kind (join z g)) e ∙ ap (without_trailing kind) (join_assoc u v g) ∙ r.1, r.2)
 
     signs : (k : Kind) → IsTrue (within (is k) is_sign) → nat_eq (code k) (code K.Comma) ≡ false → (f g : Forest Label A) → G.Signs kind k f → Typed kind T.unary g → Typed kind T.unary (join f g)
-    signs k w n = sign_then k w n (G.One kind k · Maybe (G.One kind k · Maybe (G.One kind k))) (sign_then k w n (G.One kind k · Maybe (G.One kind k)) (sign_then k w n (G.One kind k) (one_sign k w n)))
+    signs k w n = sign_then k w n (G.One kind k ⋄ Maybe (G.One kind k ⋄ Maybe (G.One kind k))) (sign_then k w n (G.One kind k ⋄ Maybe (G.One kind k)) (sign_then k w n (G.One kind k) (one_sign k w n)))
 
-    unary : (f : Forest Label A) → (Maybe (G.Signs kind K.Neg ∪ G.Signs kind K.Dash) · G.Member kind room E) f → Typed kind T.unary f
+    unary : (f : Forest Label A) → (Maybe (G.Signs kind K.Neg ∪ G.Signs kind K.Dash) ⋄ G.Member kind room E) f → Typed kind T.unary f
     unary f (u, v, e, s, (g, d, x)) = go s
       where
         base : Typed kind T.unary v
@@ -243,20 +243,20 @@ module _ {A : Type 0} (kind : A → Kind) where
         go (inr y) = (base.0, ap (without_trailing kind) (e ∙ ap (λ z. join z v) y) ∙ base.1, base.2)
 
     sum : (f : Forest Label A) → G.Add kind room E f → Node L.add T.add f
-    sum f (g, e, x) = (g, e, sums kind (Maybe (G.Signs kind K.Neg ∪ G.Signs kind K.Dash) · G.Member kind room E) unary g x)
+    sum f (g, e, x) = (g, e, sums kind (Maybe (G.Signs kind K.Neg ∪ G.Signs kind K.Dash) ⋄ G.Member kind room E) unary g x)
 
     has_fields : (f : Forest Label A) → Many (G.Field kind) f → Typed kind T.accesses f
     has_fields f (no_more i e) = (T.no_access, ap (without_trailing kind) e, tt)
     has_fields f (one_more i u v e x m) = let r = field_before u v x (has_fields v m) in (r.0, ap (without_trailing kind) e ∙ r.1, r.2)
 
-    has_operand : (f : Forest Label A) → (G.TextOperand kind ∪ G.HasField kind) f → Node L.add T.add f
-    has_operand f (inl x) = operand (Tree L.primary (Tree L.string (G.One kind K.Str))) (λ f x. alone f (literal L.string (is K.Str) refl string_label f x)) f x
-    has_operand f (inr x) = operand (Tree L.primary (Tree L.name (G.Ident kind)) · Many (G.Field kind)) fields_of f x
+    has_operand : (f : Forest Label A) → (G.StrOperand kind ∪ G.HasField kind) f → Node L.add T.add f
+    has_operand f (inl x) = operand (Branch L.primary (Branch L.string (G.One kind K.Str))) (λ f x. alone f (literal L.string (is K.Str) refl string_label f x)) f x
+    has_operand f (inr x) = operand (Branch L.primary (Branch L.name (G.Ident kind)) ⋄ Many (G.Field kind)) fields_of f x
       where
-        fields_of : (f : Forest Label A) → (Tree L.primary (Tree L.name (G.Ident kind)) · Many (G.Field kind)) f → Typed kind T.member f
+        fields_of : (f : Forest Label A) → (Branch L.primary (Branch L.name (G.Ident kind)) ⋄ Many (G.Field kind)) f → Typed kind T.member f
         fields_of f (u, v, e, x, m) = let r = after_primary u v (named is_ident refl u x) (has_fields v m) in (r.0, ap (without_trailing kind) e ∙ r.1, r.2)
 
-    like_operand : (f : Forest Label A) → G.TextOperand kind f → Node L.add T.add f
+    like_operand : (f : Forest Label A) → G.StrOperand kind f → Node L.add T.add f
     like_operand f x = has_operand f (inl x)
 
     binary : (u v : Forest Label A) (l : Label) (con : T.Tree A T.add → A → T.Tree A T.add → T.Tree A T.relation)
@@ -266,7 +266,7 @@ module _ {A : Type 0} (kind : A → Kind) where
     binary u v l con same fits n r =
         (con n.2.0 r.0 r.1, ap (λ z. without_trailing kind (join z v)) n.1 ∙ ap (λ z. branch L.add z (without_trailing kind v)) n.2.1 ∙ ap (branch L.add (parts kind n.2.0)) r.2 ∙ sym (same n.2.0 r.0 r.1), fits n.2.0 r.0 r.1 n.2.2 r.3)
 
-    is_then : (u v : Forest Label A) → Node L.add T.add u → Tree L.is_type (G.One kind K.Is · G.Path kind · Maybe (G.One kind K.In · G.Add kind room E)) v → Typed kind T.relation (join u v)
+    is_then : (u v : Forest Label A) → Node L.add T.add u → Branch L.is_type (G.One kind K.Is ⋄ G.Path kind ⋄ Maybe (G.One kind K.In ⋄ G.Add kind room E)) v → Typed kind T.relation (join u v)
     is_then u v n (g, e, (x, y, d, (a, b, o), (p, q, c, (i, j, w), inr z))) =
         let t = names kind i w in (
           T.is_type n.2.0 a t.0,
@@ -288,21 +288,21 @@ module _ {A : Type 0} (kind : A → Kind) where
         )
 
     abbrev Behind : Lang A
-    Behind = Tree L.compare (Of kind is_comparison · G.Add kind room E) ∪ Tree L.has_or_like (G.One kind K.Has · (G.TextOperand kind ∪ G.HasField kind)) ∪ Tree L.has_or_like (G.One kind K.Like · G.TextOperand kind)
-        ∪ Tree L.is_type (G.One kind K.Is · G.Path kind · Maybe (G.One kind K.In · G.Add kind room E))
+    Behind = Branch L.compare (Of kind is_comparison ⋄ G.Add kind room E) ∪ Branch L.has_or_like (G.One kind K.Has ⋄ (G.StrOperand kind ∪ G.HasField kind)) ∪ Branch L.has_or_like (G.One kind K.Like ⋄ G.StrOperand kind)
+        ∪ Branch L.is_type (G.One kind K.Is ⋄ G.Path kind ⋄ Maybe (G.One kind K.In ⋄ G.Add kind room E))
 
-    related : (f : Forest Label A) → (G.Add kind room E · Maybe Behind) f → Typed kind T.relation f
+    related : (f : Forest Label A) → (G.Add kind room E ⋄ Maybe Behind) f → Typed kind T.relation f
     related f (u, v, e, x, y) = let r = go v (sum u x) y in (r.0, ap (without_trailing kind) e ∙ r.1, r.2)
       where
         go : (v : Forest Label A) → Node L.add T.add u → Maybe Behind v → Typed kind T.relation (join u v)
         go v n (inl (inl y)) = binary u v L.compare T.compare (λ t a r. refl) (λ t a r h k. (h, k)) n (operator_kept (G.Add kind room E) sum is_comparison (G.Add kind room E) L.add L.compare v sum y)
-        go v n (inl (inr (inl y))) = binary u v L.has_or_like T.has_or_like (λ t a r. refl) (λ t a r h k. (h, k)) n (operator_kept (G.Add kind room E) sum (is K.Has) (G.TextOperand kind ∪ G.HasField kind) L.add L.has_or_like v has_operand y)
-        go v n (inl (inr (inr (inl y)))) = binary u v L.has_or_like T.has_or_like (λ t a r. refl) (λ t a r h k. (h, k)) n (operator_kept (G.Add kind room E) sum (is K.Like) (G.TextOperand kind) L.add L.has_or_like v like_operand y)
+        go v n (inl (inr (inl y))) = binary u v L.has_or_like T.has_or_like (λ t a r. refl) (λ t a r h k. (h, k)) n (operator_kept (G.Add kind room E) sum (is K.Has) (G.StrOperand kind ∪ G.HasField kind) L.add L.has_or_like v has_operand y)
+        go v n (inl (inr (inr (inl y)))) = binary u v L.has_or_like T.has_or_like (λ t a r. refl) (λ t a r h k. (h, k)) n (operator_kept (G.Add kind room E) sum (is K.Like) (G.StrOperand kind) L.add L.has_or_like v like_operand y)
         go v n (inl (inr (inr (inr y)))) = is_then u v n y
         go v n (inr z) = (T.single n.2.0, ap (without_trailing kind) (ap (λ q. join q v) n.1 ∙ ap (branch L.add n.0) z) ∙ ap (λ q. branch L.add q none) n.2.1, n.2.2)
 
     expression : (f : Forest Label A) → G.ExprIn kind room E f → Node L.expr T.expr f
-    expression f (g, e, inr (h, d, x)) = let t = ors (G.Add kind room E · Maybe Behind) related h x in (g, e, (T.plain_expr t.0, ap (without_trailing kind) d ∙ ap (λ z. branch L.or z none) t.1, t.2))
+    expression f (g, e, inr (h, d, x)) = let t = ors (G.Add kind room E ⋄ Maybe Behind) related h x in (g, e, (T.ors_expr t.0, ap (without_trailing kind) d ∙ ap (λ z. branch L.or z none) t.1, t.2))
     expression f (g, e, inl (o, (u, v, d, (a, b, h), (x, y, c, p, (i, j, k, (l, m, n), (q, r, s, w, (i2, j2, k2, (l2, m2, n2), p2))))))) =
         let e1 = typed_expr x p in
         let e2 = typed_expr q w in

@@ -6,12 +6,12 @@ use Rattle.cedar_grammar.specs.declared.kind.Kind.TheVariants as K
 use Rattle.cedar_grammar.specs.Kinds.{is, is_closing}
 use Rattle.cedar_grammar.specs.Trees.{Label, Forest, none, leaf, branch, join}
 use Rattle.cedar_grammar.specs.Trees as L
-use Rattle.cedar_grammar.specs.Languages.{◌·◌, ◌∪◌, Empty, Many, no_more, one_more, Maybe, Tree}
+use Rattle.cedar_grammar.specs.Languages.{◌⋄◌, ◌∪◌, Empty, Many, no_more, one_more, Maybe, Branch}
 use Rattle.cedar_grammar.specs.Grammar as G
 use Rattle.cedar_grammar.specs.TrailingCommas.{without_trailing}
 use Rattle.cedar_grammar.specs.TypedTrees as T
 use Rattle.cedar_grammar.specs.TypedTrees.{PartKind, Clause, parts, part_parts, policy_trees, set_tree}
-use Rattle.cedar_grammar.specs.Kinds.{is_word, is_effect, is_cond_word}
+use Rattle.cedar_grammar.specs.Kinds.{is_any_word, is_effect, is_cond_word}
 use Rattle.cedar_grammar.proofs.FittingLeaves.{PartFits, is_atom}
 use Rattle.std.specs.List.{AllByRecursion}
 use Rattle.cedar_grammar.proofs.KindSets.{within, within_at}
@@ -29,13 +29,13 @@ module _ {A : Type 0} (kind : A → Kind) where
   entity_operand : (f : Forest Label A) → G.Operand kind (G.Entity kind) f → Node kind L.add T.add f
   entity_operand = operand kind (G.Entity kind) (λ f x. alone kind f (entity kind f x))
 
-  slot : (s : Kind) → IsTrue (within (is s) is_atom) → (f : Forest Label A) → Tree L.primary (Tree L.slot (G.One kind s)) f → Node kind L.primary T.primary f
+  slot : (s : Kind) → IsTrue (within (is s) is_atom) → (f : Forest Label A) → Branch L.primary (Branch L.slot (G.One kind s)) f → Node kind L.primary T.primary f
   slot s w f (g, e, (h, d, (a, c, o))) = (g, e, (T.slot a, rw (d, c) (ap (λ z. branch L.slot z none) (lone kind a)), within_at (is s) is_atom w (kind a) o))
 
   entity_or : (s : Kind) → IsTrue (within (is s) is_atom) → (f : Forest Label A) → G.EntityOr kind s f → Node kind L.add T.add f
-  entity_or s w = operand kind (Tree L.primary (Tree L.slot (G.One kind s)) ∪ G.Entity kind) go
+  entity_or s w = operand kind (Branch L.primary (Branch L.slot (G.One kind s)) ∪ G.Entity kind) go
     where
-      go : (f : Forest Label A) → (Tree L.primary (Tree L.slot (G.One kind s)) ∪ G.Entity kind) f → Typed kind T.member f
+      go : (f : Forest Label A) → (Branch L.primary (Branch L.slot (G.One kind s)) ∪ G.Entity kind) f → Typed kind T.member f
       go f (inl x) = alone kind f (slot s w f x)
       go f (inr x) = alone kind f (entity kind f x)
 
@@ -55,17 +55,17 @@ module _ {A : Type 0} (kind : A → Kind) where
         p,
         e,
         (
-          T.plain_expr (T.ors_one (T.ands_one (T.single n.2.0))),
+          T.ors_expr (T.ors_one (T.ands_one (T.single n.2.0))),
           ap (without_trailing kind) (d ∙ ap (λ z. branch L.or z none) (c ∙ ap (λ z. branch L.and z none) (b ∙ ap (λ z. branch L.relation z none) n.1)))
               ∙ ap (λ z. branch L.or (branch L.and (branch L.relation (branch L.add z none) none) none) none) n.2.1,
           n.2.2,
         ),
       )
 
-  list_operand : (f : Forest Label A) → G.Operand kind (Tree L.primary (Tree L.list (G.One kind K.LBracket · Maybe (G.Items kind (G.EntityItem kind)) · G.One kind K.RBracket))) f → Node kind L.add T.add f
-  list_operand = operand kind (Tree L.primary (Tree L.list (G.One kind K.LBracket · Maybe (G.Items kind (G.EntityItem kind)) · G.One kind K.RBracket))) go
+  list_operand : (f : Forest Label A) → G.Operand kind (Branch L.primary (Branch L.list (G.One kind K.LBracket ⋄ Maybe (G.Items kind (G.EntityItem kind)) ⋄ G.One kind K.RBracket))) f → Node kind L.add T.add f
+  list_operand = operand kind (Branch L.primary (Branch L.list (G.One kind K.LBracket ⋄ Maybe (G.Items kind (G.EntityItem kind)) ⋄ G.One kind K.RBracket))) go
     where
-      go : (f : Forest Label A) → Tree L.primary (Tree L.list (G.One kind K.LBracket · Maybe (G.Items kind (G.EntityItem kind)) · G.One kind K.RBracket)) f → Typed kind T.member f
+      go : (f : Forest Label A) → Branch L.primary (Branch L.list (G.One kind K.LBracket ⋄ Maybe (G.Items kind (G.EntityItem kind)) ⋄ G.One kind K.RBracket)) f → Typed kind T.member f
       go f (p, e, (q, d, x)) = let t = list kind false (G.EntityItem kind) entity_item q x in alone kind f (p, e, (t.0, ap (without_trailing kind) d ∙ t.1, t.2))
 
   -- a word and what stands behind it
@@ -133,7 +133,7 @@ module _ {A : Type 0} (kind : A → Kind) where
       T.annotation_bare a k,
       ap (without_trailing kind) (one_then g u v a d b ∙ ap (leaf a) (word_then v w y i k c j m ∙ ap (branch L.ident (leaf k none)) z)) ∙ kept kind a L.ident (leaf k none) none
           ∙ ap (λ z. leaf a (branch L.ident z none)) (lone kind k),
-      (o, within_at is_word is_atom refl (kind k) n),
+      (o, within_at is_any_word is_atom refl (kind k) n),
     ),
   )
   annotation f (g, e, (u, v, d, (a, b, o), (w, y, c, (i, j, (k, m, n)), inl (p, q, r, (l, l', h), (p', q', r', (x, x', (s, s', h')), (t, t', h'')))))) =
@@ -147,7 +147,7 @@ module _ {A : Type 0} (kind : A → Kind) where
               ∙ ap (λ z. leaf a (branch L.ident z (without_trailing kind (leaf l (branch L.str (leaf s none) (leaf t none)))))) (lone kind k)
               ∙ ap (λ z. leaf a (branch L.ident (leaf k none) z)) (kept kind l L.str (leaf s none) (leaf t none)
               ∙ ap (λ z. leaf l (branch L.str z (without_trailing kind (leaf t none)))) (lone kind s) ∙ ap (λ z. leaf l (branch L.str (leaf s none) z)) (lone kind t)),
-          (o, within_at is_word is_atom refl (kind k) n, h, within_at (is K.Str) is_atom refl (kind s) h', h''),
+          (o, within_at is_any_word is_atom refl (kind k) n, h, within_at (is K.Str) is_atom refl (kind s) h', h''),
         ),
       )
 

@@ -9,10 +9,10 @@ use Rattle.cedar_tokens.specs.Units.{is_token}
 use Rattle.cedar_tokens.specs.Split.{SplitsInto}
 use Rattle.cedar_grammar.specs.declared.kind.Kind.{Kind}
 use Rattle.cedar_grammar.specs.TokenKinds.{kind_of}
-use Rattle.cedar_grammar.specs.HopelessPlaces.{Hopeless, Unfinished}
+use Rattle.cedar_grammar.specs.Reader.Hopeless.{Hopeless, Unfinished, IsRefused}
 use Rattle.cedar_grammar.specs.Grammar.{G}
 use Rattle.cedar_grammar.specs.Numbers.{is_too_large, IsFirstTooLarge}
-use Rattle.cedar_grammar.specs.Texts.{greatest_depth, tokens, Accepted, IsRefused}
+use Rattle.cedar_grammar.specs.Texts.{greatest_depth, only_tokens, Accepted}
 use Rattle.cedar_grammar.specs.Reader.Reading.{Answer, done, stuck}
 use Rattle.cedar_grammar.specs.Reader.Lines.{set_to}
 use Rattle.cedar_grammar.proofs.RuleMaps.{each, answer_of, set_agrees}
@@ -46,9 +46,9 @@ large_at (u ∷ us) = if is_too_large u then Some 0 else option_map (λ n. lengt
 
 abbrev pub of_answer : {A : Type 0} → List (List ℕ) → Answer A → Verdict
 of_answer units (done f []) = accepted
-of_answer units (done f (a ∷ r)) = refused false (start_after units (length (tokens units) - length (a ∷ r)))
-of_answer units (stuck b []) = refused false (start_after units (length (tokens units)))
-of_answer units (stuck b (a ∷ r)) = refused b (start_after units (length (tokens units) - length (a ∷ r)))
+of_answer units (done f (a ∷ r)) = refused false (start_after units (length (only_tokens units) - length (a ∷ r)))
+of_answer units (stuck b []) = refused false (start_after units (length (only_tokens units)))
+of_answer units (stuck b (a ∷ r)) = refused b (start_after units (length (only_tokens units) - length (a ∷ r)))
 
 abbrev pub of_numbers : Option ℕ → Verdict → Verdict
 of_numbers None v = v
@@ -56,7 +56,7 @@ of_numbers (Some at) v = too_large at
 
 -- what a text with these units is, at the depth d
 abbrev pub verdict : ℕ → List (List ℕ) → Verdict
-verdict d units = of_numbers (large_at units) (of_answer units (set_to (λ (k : Kind). k) d (map kind_of (tokens units))))
+verdict d units = of_numbers (large_at units) (of_answer units (set_to (λ (k : Kind). k) d (map kind_of (only_tokens units))))
 
 -- Each verdict is true.
 none_large : (units : List (List ℕ)) → list_any is_too_large units ≡ false → large_at units ≡ None
@@ -76,7 +76,7 @@ some_large (u ∷ us) n after e l = go (λ x. some_large us n after x l) (is_too
     go again true h x = absurd cc
     go again false h x = ap (option_map (λ k. length u + k)) (again x)
 
-start_is : (before : List (List ℕ)) (t : List ℕ) (after : List (List ℕ)) → is_token t ≡ true → start_after (before ++ (t ∷ after)) (length (tokens before)) ≡ sum_by length before
+start_is : (before : List (List ℕ)) (t : List ℕ) (after : List (List ℕ)) → is_token t ≡ true → start_after (before ++ (t ∷ after)) (length (only_tokens before)) ≡ sum_by length before
 start_is [] t after h = ap (λ b. if b then 0 else length t + start_after after zero) h
 start_is (u ∷ us) t after h = go (start_is us t after h) (is_token u) refl ∙ sym (sum_by-cons length u us)
   where
@@ -84,11 +84,11 @@ start_is (u ∷ us) t after h = go (start_is us t after h) (is_token u) refl ∙
     other zero k = ap (λ b. if b then 0 else length u + start_after (us ++ (t ∷ after)) zero) k
     other (suc n) k = ap (λ b. if b then length u + start_after (us ++ (t ∷ after)) n else length u + start_after (us ++ (t ∷ after)) (suc n)) k
 
-    go : start_after (us ++ (t ∷ after)) (length (tokens us)) ≡ sum_by length us → (b : Bool) → is_token u ≡ b → start_after (u ∷ (us ++ (t ∷ after))) (length (if b then u ∷ tokens us else tokens us)) ≡ length u + sum_by length us
-    go e true k = ap (λ b. if b then length u + start_after (us ++ (t ∷ after)) (length (tokens us)) else length u + start_after (us ++ (t ∷ after)) (suc (length (tokens us)))) k ∙ ap (λ n. length u + n) e
-    go e false k = other (length (tokens us)) k ∙ ap (λ n. length u + n) e
+    go : start_after (us ++ (t ∷ after)) (length (only_tokens us)) ≡ sum_by length us → (b : Bool) → is_token u ≡ b → start_after (u ∷ (us ++ (t ∷ after))) (length (if b then u ∷ only_tokens us else only_tokens us)) ≡ length u + sum_by length us
+    go e true k = ap (λ b. if b then length u + start_after (us ++ (t ∷ after)) (length (only_tokens us)) else length u + start_after (us ++ (t ∷ after)) (suc (length (only_tokens us)))) k ∙ ap (λ n. length u + n) e
+    go e false k = other (length (only_tokens us)) k ∙ ap (λ n. length u + n) e
 
-start_past : (units : List (List ℕ)) → start_after units (length (tokens units)) ≡ sum_by length units
+start_past : (units : List (List ℕ)) → start_after units (length (only_tokens units)) ≡ sum_by length units
 start_past [] = refl
 start_past (u ∷ us) = go (start_past us) (is_token u) refl ∙ sym (sum_by-cons length u us)
   where
@@ -96,12 +96,12 @@ start_past (u ∷ us) = go (start_past us) (is_token u) refl ∙ sym (sum_by-con
     other zero k = ap (λ b. if b then 0 else length u + start_after us zero) k
     other (suc n) k = ap (λ b. if b then length u + start_after us n else length u + start_after us (suc n)) k
 
-    go : start_after us (length (tokens us)) ≡ sum_by length us → (b : Bool) → is_token u ≡ b → start_after (u ∷ us) (length (if b then u ∷ tokens us else tokens us)) ≡ length u + sum_by length us
-    go e true k = ap (λ b. if b then length u + start_after us (length (tokens us)) else length u + start_after us (suc (length (tokens us)))) k ∙ ap (λ n. length u + n) e
-    go e false k = other (length (tokens us)) k ∙ ap (λ n. length u + n) e
+    go : start_after us (length (only_tokens us)) ≡ sum_by length us → (b : Bool) → is_token u ≡ b → start_after (u ∷ us) (length (if b then u ∷ only_tokens us else only_tokens us)) ≡ length u + sum_by length us
+    go e true k = ap (λ b. if b then length u + start_after us (length (only_tokens us)) else length u + start_after us (suc (length (only_tokens us)))) k ∙ ap (λ n. length u + n) e
+    go e false k = other (length (only_tokens us)) k ∙ ap (λ n. length u + n) e
 
 -- the units are as long as the text
-split_length : (units : List (List ℕ)) (text : List ℕ) → SplitsInto text units → length text ≡ sum_by length units
+pub split_length : (units : List (List ℕ)) (text : List ℕ) → SplitsInto text units → length text ≡ sum_by length units
 split_length [] text e = ap length e
 split_length (u ∷ us) text (f, s) =
     let rest = f.begins.0 in
@@ -115,24 +115,24 @@ each_length h (a ∷ ts) = ap suc (each_length h ts)
 
 same_verdict : {A B : Type 0} → (h : A → B) (units : List (List ℕ)) (x : Answer A) → of_answer units (answer_of h x) ≡ of_answer units x
 same_verdict h units (done f []) = refl
-same_verdict h units (done f (a ∷ r)) = ap (λ n. refused false (start_after units (length (tokens units) - suc n))) (each_length h r)
+same_verdict h units (done f (a ∷ r)) = ap (λ n. refused false (start_after units (length (only_tokens units) - suc n))) (each_length h r)
 same_verdict h units (stuck b []) = refl
-same_verdict h units (stuck b (a ∷ r)) = ap (λ n. refused b (start_after units (length (tokens units) - suc n))) (each_length h r)
+same_verdict h units (stuck b (a ∷ r)) = ap (λ n. refused b (start_after units (length (only_tokens units) - suc n))) (each_length h r)
 
 -- the reader at texts and at their kinds
-kinds_verdict : (d : ℕ) (units : List (List ℕ)) → of_answer units (set_to (λ (k : Kind). k) d (map kind_of (tokens units))) ≡ of_answer units (set_to kind_of d (tokens units))
-kinds_verdict d units = ap (λ z. of_answer units (set_to (λ (k : Kind). k) d z)) (sym (each_map kind_of (tokens units)))
-    ∙ ap (of_answer units) (set_agrees kind_of kind_of (λ k. k) (λ a. refl) d (tokens units)) ∙ same_verdict kind_of units (set_to kind_of d (tokens units))
+kinds_verdict : (d : ℕ) (units : List (List ℕ)) → of_answer units (set_to (λ (k : Kind). k) d (map kind_of (only_tokens units))) ≡ of_answer units (set_to kind_of d (only_tokens units))
+kinds_verdict d units = ap (λ z. of_answer units (set_to (λ (k : Kind). k) d z)) (sym (each_map kind_of (only_tokens units)))
+    ∙ ap (of_answer units) (set_agrees kind_of kind_of (λ k. k) (λ a. refl) d (only_tokens units)) ∙ same_verdict kind_of units (set_to kind_of d (only_tokens units))
 
 module _ (text : List ℕ) (units : List (List ℕ)) (s : SplitsInto text units) (d : ℕ) (deep : d ≡ greatest_depth) where
-  hopeless : list_any is_too_large units ≡ false → (front : List (List ℕ)) (t : List ℕ) (rest : List (List ℕ)) (b : Bool) → Hopeless kind_of d (tokens units) front t rest b
-      → IsRefused text (start_after units (length (tokens units) - length (t ∷ rest))) b
+  hopeless : list_any is_too_large units ≡ false → (front : List (List ℕ)) (t : List ℕ) (rest : List (List ℕ)) (b : Bool) → Hopeless kind_of d (only_tokens units) front t rest b
+      → IsRefused text (start_after units (length (only_tokens units) - length (t ∷ rest))) b
   hopeless fit front t rest b h =
       let c = unit_cut units front t rest h.split in
-      let count : length (tokens units) - length (t ∷ rest) ≡ length (tokens c.before) =
+      let count : length (only_tokens units) - length (t ∷ rest) ≡ length (only_tokens c.before) =
       (let i = ap length h.split ∙ length-append front (t ∷ rest) in let j = ap length c.front_is in omega (arith, i, j)) in
-      let place : start_after units (length (tokens units) - length (t ∷ rest)) ≡ sum_by length c.before =
-      ap (start_after units) count ∙ ap (λ z. start_after z (length (tokens c.before))) c.whole ∙ start_is c.before t c.after c.is_one in
+      let place : start_after units (length (only_tokens units) - length (t ∷ rest)) ≡ sum_by length c.before =
+      ap (start_after units) count ∙ ap (λ z. start_after z (length (only_tokens c.before))) c.whole ∙ start_is c.before t c.after c.is_one in
       inl (record {
         before = c.before;
         token = t;
@@ -141,21 +141,21 @@ module _ (text : List ℕ) (units : List (List ℕ)) (s : SplitsInto text units)
         fitting = sym (ap (list_any is_too_large) c.whole) ∙ fit;
         place = place;
         is_one = c.is_one;
-        hopeless = subst (λ z. Hopeless kind_of greatest_depth (tokens z) (tokens c.before) t (tokens c.after) b) c.whole
-            (subst (λ z. Hopeless kind_of z (tokens units) (tokens c.before) t (tokens c.after) b) deep
-            (subst (λ z. Hopeless kind_of d (tokens units) (tokens c.before) t z b) (sym c.rest_is) (subst (λ z. Hopeless kind_of d (tokens units) z t rest b) (sym c.front_is) h)));
+        hopeless = subst (λ z. Hopeless kind_of greatest_depth (only_tokens z) (only_tokens c.before) t (only_tokens c.after) b) c.whole
+            (subst (λ z. Hopeless kind_of z (only_tokens units) (only_tokens c.before) t (only_tokens c.after) b) deep
+            (subst (λ z. Hopeless kind_of d (only_tokens units) (only_tokens c.before) t z b) (sym c.rest_is) (subst (λ z. Hopeless kind_of d (only_tokens units) z t rest b) (sym c.front_is) h)));
       })
 
-  answered : list_any is_too_large units ≡ false → (x : Answer (List ℕ)) → set_to kind_of d (tokens units) ≡ x → Says kind_of d (tokens units) x → Holds text (of_answer units x)
-  answered fit (done f []) e g = (f, record { units = units; split = s; fitting = fit; grammar = subst (λ z. G kind_of z f (tokens units)) deep g })
+  answered : list_any is_too_large units ≡ false → (x : Answer (List ℕ)) → set_to kind_of d (only_tokens units) ≡ x → Says kind_of d (only_tokens units) x → Holds text (of_answer units x)
+  answered fit (done f []) e g = (f, record { units = units; split = s; fitting = fit; grammar = subst (λ z. G kind_of z f (only_tokens units)) deep g })
   answered fit (done f (a ∷ r)) e h = hopeless fit h.0 a r false h.1
-  answered fit (stuck b []) e h = inr (record { units = units; split = s; fitting = fit; unfinished = subst (λ z. Unfinished kind_of z (tokens units)) deep h }, start_past units ∙ sym (split_length units text s), refl)
+  answered fit (stuck b []) e h = inr (record { units = units; split = s; fitting = fit; unfinished = subst (λ z. Unfinished kind_of z (only_tokens units)) deep h }, start_past units ∙ sym (split_length units text s), refl)
   answered fit (stuck b (a ∷ r)) e h = hopeless fit h.0 a r b h.1
 
-  numbered : (list_any is_too_large units ≡ false) ⊎ Large units → Holds text (of_numbers (large_at units) (of_answer units (set_to kind_of d (tokens units))))
-  numbered (inl fit) = subst (λ z. Holds text (of_numbers z (of_answer units (set_to kind_of d (tokens units))))) (sym (none_large units fit))
-      (answered fit (set_to kind_of d (tokens units)) refl (says kind_of samples d (tokens units) (set_to kind_of d (tokens units)) refl))
-  numbered (inr (f, n, r, e, x, l)) = subst (λ z. Holds text (of_numbers z (of_answer units (set_to kind_of d (tokens units))))) (sym (ap large_at e ∙ some_large f n r x l))
+  numbered : (list_any is_too_large units ≡ false) ⊎ Large units → Holds text (of_numbers (large_at units) (of_answer units (set_to kind_of d (only_tokens units))))
+  numbered (inl fit) = subst (λ z. Holds text (of_numbers z (of_answer units (set_to kind_of d (only_tokens units))))) (sym (none_large units fit))
+      (answered fit (set_to kind_of d (only_tokens units)) refl (says kind_of samples d (only_tokens units) (set_to kind_of d (only_tokens units)) refl))
+  numbered (inr (f, n, r, e, x, l)) = subst (λ z. Holds text (of_numbers z (of_answer units (set_to kind_of d (only_tokens units))))) (sym (ap large_at e ∙ some_large f n r x l))
       (record { before = f; number = n; after = r; split = subst (λ z. SplitsInto text z) e s; place = refl; large = l; first = x })
 
   verdict_is_true : Holds text (verdict d units)

@@ -3,9 +3,9 @@
 -- A token is a leaf; every other part is a tree of its label. A path that is called is a name and then an access.
 use Rattle.std.specs.Prelude.{◌≡◌, ℕ, zero, suc, Bool, true, false, ◌||◌, IsTrue, List}
 use Rattle.cedar_grammar.specs.declared.kind.Kind.{Kind}
-use Rattle.cedar_grammar.specs.Kinds.{is, is_word, is_ident, is_comparison, is_boolean, is_variable, is_effect, is_cond_word}
+use Rattle.cedar_grammar.specs.Kinds.{is, is_any_word, is_ident, is_comparison, is_boolean, is_variable, is_effect, is_cond_word}
 use Rattle.cedar_grammar.specs.Trees.{Label, Forest, yield}
-use Rattle.cedar_grammar.specs.Languages.{Lang, ◌·◌, ◌∪◌, Many, Maybe, Tree, Never, Of}
+use Rattle.cedar_grammar.specs.Languages.{Lang, ◌⋄◌, ◌∪◌, Many, Maybe, Branch, Never, Of}
 
 module _ {A : Type 0} (kind : A → Kind) where
   -- a token of that kind
@@ -14,40 +14,40 @@ module _ {A : Type 0} (kind : A → Kind) where
 
   -- a word whose kind is in the set
   abbrev pub Word : (Kind → Bool) → Lang A
-  Word p = Tree Label.ident (Of kind p)
+  Word p = Branch Label.ident (Of kind p)
 
   -- IDENT
   abbrev pub Ident : Lang A
   Ident = Word is_ident
 
   -- STR
-  abbrev pub Text : Lang A
-  Text = Tree Label.str (One Kind.Str)
+  abbrev pub STR : Lang A
+  STR = Branch Label.str (One Kind.Str)
 
   -- X {',' X} [',']
   abbrev pub Items : Lang A → Lang A
-  Items X = X · Many (One Kind.Comma · X) · Maybe (One Kind.Comma)
+  Items X = X ⋄ Many (One Kind.Comma ⋄ X) ⋄ Maybe (One Kind.Comma)
 
   -- Path = IDENT {'::' IDENT}
   abbrev pub Path : Lang A
-  Path = Tree Label.name (Ident · Many (One Kind.DoubleColon · Ident))
+  Path = Branch Label.name (Ident ⋄ Many (One Kind.DoubleColon ⋄ Ident))
 
   -- Entity = Path '::' STR
   abbrev pub Entity : Lang A
-  Entity = Tree Label.primary (Tree Label.ref (Path · One Kind.DoubleColon · Text))
+  Entity = Branch Label.primary (Branch Label.ref (Path ⋄ One Kind.DoubleColon ⋄ STR))
 
   -- an operand that is X alone, without operators and signs
   abbrev pub Operand : Lang A → Lang A
-  Operand X = Tree Label.add (Tree Label.mult (Tree Label.unary (Tree Label.member X)))
+  Operand X = Branch Label.add (Branch Label.mult (Branch Label.unary (Branch Label.member X)))
 
   -- Entity | '?principal', or with '?resource'
   abbrev pub EntityOr : Kind → Lang A
-  EntityOr slot = Operand (Tree Label.primary (Tree Label.slot (One slot)) ∪ Entity)
+  EntityOr slot = Operand (Branch Label.primary (Branch Label.slot (One slot)) ∪ Entity)
 
   -- variable [ '==' PE | 'is' Path ['in' PE] | 'in' PE ]
   abbrev pub Scoped : Kind → Kind → Lang A
-  Scoped variable slot = Tree Label.variable (Word (is variable)
-      · Maybe (One Kind.Equal · EntityOr slot ∪ One Kind.Is · Path · Maybe (One Kind.In · EntityOr slot) ∪ One Kind.In · EntityOr slot))
+  Scoped variable slot = Branch Label.variable (Word (is variable)
+      ⋄ Maybe (One Kind.Equal ⋄ EntityOr slot ∪ One Kind.Is ⋄ Path ⋄ Maybe (One Kind.In ⋄ EntityOr slot) ∪ One Kind.In ⋄ EntityOr slot))
 
   -- Principal = 'principal' [ '==' PE | 'is' Path ['in' PE] | 'in' PE ]      PE = Entity | '?principal'
   abbrev pub Principal : Lang A
@@ -59,38 +59,38 @@ module _ {A : Type 0} (kind : A → Kind) where
 
   -- an entity of an action's list, as an expression
   abbrev pub EntityItem : Lang A
-  EntityItem = Tree Label.expr (Tree Label.or (Tree Label.and (Tree Label.relation (Operand Entity))))
+  EntityItem = Branch Label.expr (Branch Label.or (Branch Label.and (Branch Label.relation (Operand Entity))))
 
   -- Action = 'action' [ '==' Entity | 'in' (Entity | '[' [Entity {',' Entity} [',']] ']') ]
   abbrev pub Action : Lang A
-  Action = Tree Label.variable (Word (is Kind.Action) · Maybe (One Kind.Equal · Operand Entity
-      ∪ One Kind.In · (Operand (Tree Label.primary (Tree Label.list (One Kind.LBracket · Maybe (Items EntityItem) · One Kind.RBracket))) ∪ Operand Entity)))
+  Action = Branch Label.variable (Word (is Kind.Action) ⋄ Maybe (One Kind.Equal ⋄ Operand Entity
+      ∪ One Kind.In ⋄ (Operand (Branch Label.primary (Branch Label.list (One Kind.LBracket ⋄ Maybe (Items EntityItem) ⋄ One Kind.RBracket))) ∪ Operand Entity)))
 
   -- Annotation = '@' anyword ['(' STR ')']
   abbrev pub Annotation : Lang A
-  Annotation = Tree Label.annotation (One Kind.At · Word is_word · Maybe (One Kind.LParen · Text · One Kind.RParen))
+  Annotation = Branch Label.annotation (One Kind.At ⋄ Word is_any_word ⋄ Maybe (One Kind.LParen ⋄ STR ⋄ One Kind.RParen))
 
   -- one to four of these signs
   abbrev pub Signs : Kind → Lang A
-  Signs k = One k · Maybe (One k · Maybe (One k · Maybe (One k)))
+  Signs k = One k ⋄ Maybe (One k ⋄ Maybe (One k ⋄ Maybe (One k)))
 
   -- '.' IDENT
   abbrev pub Field : Lang A
-  Field = Tree Label.access (One Kind.Dot · Ident)
+  Field = Branch Label.access (One Kind.Dot ⋄ Ident)
 
   -- IDENT {'.' IDENT}
   abbrev pub HasField : Lang A
-  HasField = Operand (Tree Label.primary (Tree Label.name Ident) · Many Field)
+  HasField = Operand (Branch Label.primary (Branch Label.name Ident) ⋄ Many Field)
 
   -- STR as an operand
-  abbrev pub TextOperand : Lang A
-  TextOperand = Operand (Tree Label.primary (Tree Label.string (One Kind.Str)))
+  abbrev pub StrOperand : Lang A
+  StrOperand = Operand (Branch Label.primary (Branch Label.string (One Kind.Str)))
 
   -- Expressions: room says whether an if or a bracket may stand here, and Inner is what may stand inside it.
   module _ (room : Bool) (Inner : Lang A) where
     -- an if or an opening bracket and what follows it: each costs one nesting
-    abbrev pub Nest : Kind → Lang A → Lang A
-    Nest opening X f = IsTrue room × (One opening · X) f
+    abbrev pub Deeper : Kind → Lang A → Lang A
+    Deeper opening X f = IsTrue room × (One opening ⋄ X) f
 
     -- Exprs = Expr {',' Expr} [',']
     abbrev pub Exprs : Lang A
@@ -98,62 +98,62 @@ module _ {A : Type 0} (kind : A → Kind) where
 
     -- '(' [Exprs] ')' behind a path or a field
     abbrev pub Call : Lang A
-    Call = Tree Label.access (Nest Kind.LParen (Maybe Exprs · One Kind.RParen))
+    Call = Branch Label.access (Deeper Kind.LParen (Maybe Exprs ⋄ One Kind.RParen))
 
     -- Init = (IDENT | STR) ':' Expr
     abbrev pub Init : Lang A
-    Init = Tree Label.rec_init ((Tree Label.primary (Tree Label.name Ident) ∪ Tree Label.primary (Tree Label.string (One Kind.Str))) · One Kind.Colon · Inner)
+    Init = Branch Label.rec_init ((Branch Label.primary (Branch Label.name Ident) ∪ Branch Label.primary (Branch Label.string (One Kind.Str))) ⋄ One Kind.Colon ⋄ Inner)
 
     -- Primary = 'true' | 'false' | NUMBER | STR | '(' Expr ')' | '[' [Exprs] ']' | '{' [Init {',' Init} [',']] '}'
     --         | 'principal' | 'action' | 'resource' | 'context' | Entity | Path '(' [Exprs] ')'
     abbrev pub Primary : Lang A
-    Primary = Tree Label.primary (Tree Label.boolean (Of kind is_boolean))
-        ∪ Tree Label.primary (Tree Label.number (One Kind.Number))
-        ∪ Tree Label.primary (Tree Label.string (One Kind.Str))
-        ∪ Tree Label.primary (Tree Label.parens (Nest Kind.LParen (Inner · One Kind.RParen)))
-        ∪ Tree Label.primary (Tree Label.list (Nest Kind.LBracket (Maybe Exprs · One Kind.RBracket)))
-        ∪ Tree Label.primary (Tree Label.fields (Nest Kind.LBrace (Maybe (Items Init) · One Kind.RBrace)))
-        ∪ Tree Label.primary (Tree Label.name (Word is_variable)) ∪ Entity ∪ Tree Label.primary Path · Call
+    Primary = Branch Label.primary (Branch Label.boolean (Of kind is_boolean))
+        ∪ Branch Label.primary (Branch Label.number (One Kind.Number))
+        ∪ Branch Label.primary (Branch Label.string (One Kind.Str))
+        ∪ Branch Label.primary (Branch Label.parens (Deeper Kind.LParen (Inner ⋄ One Kind.RParen)))
+        ∪ Branch Label.primary (Branch Label.list (Deeper Kind.LBracket (Maybe Exprs ⋄ One Kind.RBracket)))
+        ∪ Branch Label.primary (Branch Label.fields (Deeper Kind.LBrace (Maybe (Items Init) ⋄ One Kind.RBrace)))
+        ∪ Branch Label.primary (Branch Label.name (Word is_variable)) ∪ Entity ∪ Branch Label.primary Path ⋄ Call
 
     -- Access = '.' IDENT ['(' [Exprs] ')'] | '[' STR ']'
     abbrev pub Access : Lang A
-    Access = Field · Maybe Call ∪ Tree Label.access (One Kind.LBracket · Text · One Kind.RBracket)
+    Access = Field ⋄ Maybe Call ∪ Branch Label.access (One Kind.LBracket ⋄ STR ⋄ One Kind.RBracket)
 
     -- Member = Primary {Access}
     abbrev pub Member : Lang A
-    Member = Tree Label.member (Primary · Many Access)
+    Member = Branch Label.member (Primary ⋄ Many Access)
 
     -- Unary = [one to four '!', or one to four '-'] Member
     abbrev pub Unary : Lang A
-    Unary = Tree Label.unary (Maybe (Signs Kind.Neg ∪ Signs Kind.Dash) · Member)
+    Unary = Branch Label.unary (Maybe (Signs Kind.Neg ∪ Signs Kind.Dash) ⋄ Member)
 
     -- Mult = Unary {'*' Unary}
     abbrev pub Mult : Lang A
-    Mult = Tree Label.mult (Unary · Many (One Kind.Mul · Unary))
+    Mult = Branch Label.mult (Unary ⋄ Many (One Kind.Mul ⋄ Unary))
 
     -- Add = Mult {('+'|'-') Mult}
     abbrev pub Add : Lang A
-    Add = Tree Label.add (Mult · Many (Of kind (λ k. is Kind.Add k || is Kind.Dash k) · Mult))
+    Add = Branch Label.add (Mult ⋄ Many (Of kind (λ k. is Kind.Add k || is Kind.Dash k) ⋄ Mult))
 
     -- Relation = Add [relop Add] | Add 'has' (STR | IDENT {'.' IDENT}) | Add 'like' STR | Add 'is' Path ['in' Add]
     -- relop    = '<' | '<=' | '>' | '>=' | '!=' | '==' | 'in'
     abbrev pub Relation : Lang A
-    Relation = Tree Label.relation (Add · Maybe (Tree Label.compare (Of kind is_comparison · Add)
-        ∪ Tree Label.has_or_like (One Kind.Has · (TextOperand ∪ HasField))
-        ∪ Tree Label.has_or_like (One Kind.Like · TextOperand)
-        ∪ Tree Label.is_type (One Kind.Is · Path · Maybe (One Kind.In · Add))))
+    Relation = Branch Label.relation (Add ⋄ Maybe (Branch Label.compare (Of kind is_comparison ⋄ Add)
+        ∪ Branch Label.has_or_like (One Kind.Has ⋄ (StrOperand ∪ HasField))
+        ∪ Branch Label.has_or_like (One Kind.Like ⋄ StrOperand)
+        ∪ Branch Label.is_type (One Kind.Is ⋄ Path ⋄ Maybe (One Kind.In ⋄ Add))))
 
     -- And = Relation {'&&' Relation}
     abbrev pub And : Lang A
-    And = Tree Label.and (Relation · Many (One Kind.And · Relation))
+    And = Branch Label.and (Relation ⋄ Many (One Kind.And ⋄ Relation))
 
     -- Or = And {'||' And}
     abbrev pub Or : Lang A
-    Or = Tree Label.or (And · Many (One Kind.Or · And))
+    Or = Branch Label.or (And ⋄ Many (One Kind.Or ⋄ And))
 
     -- Expr = 'if' Expr 'then' Expr 'else' Expr | Or
     abbrev pub ExprIn : Lang A
-    ExprIn = Tree Label.expr (Nest Kind.If (Inner · One Kind.Then · Inner · One Kind.Else · Inner) ∪ Or)
+    ExprIn = Branch Label.expr (Deeper Kind.If (Inner ⋄ One Kind.Then ⋄ Inner ⋄ One Kind.Else ⋄ Inner) ∪ Or)
 
   -- expressions in which at most d ifs and brackets stand inside each other
   abbrev pub Expr : ℕ → Lang A
@@ -162,17 +162,17 @@ module _ {A : Type 0} (kind : A → Kind) where
 
   -- Cond = ('when'|'unless') '{' Expr '}'
   abbrev pub Cond : ℕ → Lang A
-  Cond d = Tree Label.condition (Word is_cond_word · One Kind.LBrace · Expr d · One Kind.RBrace)
+  Cond d = Branch Label.condition (Word is_cond_word ⋄ One Kind.LBrace ⋄ Expr d ⋄ One Kind.RBrace)
 
   -- Policy = {Annotation} ('permit'|'forbid') '(' Principal ',' Action ',' Resource [','] ')' {Cond} ';'
   abbrev pub Policy : ℕ → Lang A
-  Policy d = Tree Label.policy (Many Annotation · Word is_effect
-      · One Kind.LParen · Principal · One Kind.Comma · Action · One Kind.Comma · Resource · Maybe (One Kind.Comma) · One Kind.RParen
-      · Many (Cond d) · One Kind.SemiColon)
+  Policy d = Branch Label.policy (Many Annotation ⋄ Word is_effect
+      ⋄ One Kind.LParen ⋄ Principal ⋄ One Kind.Comma ⋄ Action ⋄ One Kind.Comma ⋄ Resource ⋄ Maybe (One Kind.Comma) ⋄ One Kind.RParen
+      ⋄ Many (Cond d) ⋄ One Kind.SemiColon)
 
   -- PolicySet = {Policy}
   abbrev pub PolicySet : ℕ → Lang A
-  PolicySet d = Tree Label.policies (Many (Policy d))
+  PolicySet d = Branch Label.policies (Many (Policy d))
 
   -- the tree stands for the tokens, nested at most d deep
   pub record G (d : ℕ) (tree : Forest Label A) (tokens : List A) : Type 0 where

@@ -83,13 +83,13 @@ abbrev pub is_ident : Kind → Bool
 is_ident x = is_variable x || is_effect x || is_cond_word x || is Identifier x
 
 -- a keyword or an identifier
-abbrev pub is_word : Kind → Bool
-is_word x = is_ident x || is_boolean x || is If x || is Then x || is Else x || is In x || is Is x || is Like x || is Has x
+abbrev pub is_any_word : Kind → Bool
+is_any_word x = is_ident x || is_boolean x || is If x || is Then x || is Else x || is In x || is Is x || is Like x || is Has x
 
 -- the kinds of these words
 abbrev pub set_of : Words → Kind → Bool
 set_of Words.Identifier = is_ident
-set_of Words.Any = is_word
+set_of Words.Any = is_any_word
 set_of Words.Effect = is_effect
 set_of Words.Condition = is_cond_word
 

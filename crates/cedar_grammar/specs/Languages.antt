@@ -6,11 +6,11 @@ use Rattle.cedar_grammar.specs.Trees.{Label, Forest, none, leaf, branch, join}
 abbrev pub Lang : Type 0 → Type 1
 Lang A = Forest Label A → Type 0
 
-infixr 24 ◌·◌
+infixr 24 ◌⋄◌
 infixr 22 ◌∪◌
 -- X Y: one after the other
-abbrev pub ◌·◌ : {A : Type 0} → Lang A → Lang A → Lang A
-(X · Y) f = (g : Forest Label _) × (h : Forest Label _) × (f ≡ join g h) × X g × Y h
+abbrev pub ◌⋄◌ : {A : Type 0} → Lang A → Lang A → Lang A
+(X ⋄ Y) f = (g : Forest Label _) × (h : Forest Label _) × (f ≡ join g h) × X g × Y h
 
 -- X | Y
 abbrev pub ◌∪◌ : {A : Type 0} → Lang A → Lang A → Lang A
@@ -29,8 +29,8 @@ abbrev pub Maybe : {A : Type 0} → Lang A → Lang A
 Maybe X = X ∪ Empty
 
 -- a tree of that label with parts of X
-abbrev pub Tree : {A : Type 0} → Label → Lang A → Lang A
-Tree l X f = (g : Forest Label _) × (f ≡ branch l g none) × X g
+abbrev pub Branch : {A : Type 0} → Label → Lang A → Lang A
+Branch l X f = (g : Forest Label _) × (f ≡ branch l g none) × X g
 
 abbrev pub Never : {A : Type 0} → Lang A
 Never f = ⊥

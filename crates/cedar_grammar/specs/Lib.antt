@@ -3,7 +3,7 @@ pub mod TokenKinds
 pub mod Trees
 pub mod Languages
 pub mod Grammar
-pub mod HopelessPlaces
+pub mod Beginnings
 pub mod Numbers
 pub mod Texts
 pub mod TrailingCommas

@@ -4,7 +4,7 @@ use Rattle.cedar_tokens.specs.Places.{token_spans}
 use Rattle.cedar_tokens.specs.declared.token.Span.{Span}
 use Rattle.cedar_grammar.specs.declared.kind.Kind.{Kind}
 use Rattle.cedar_grammar.specs.TokenKinds.{kind_of}
-use Rattle.cedar_grammar.specs.Texts.{tokens}
+use Rattle.cedar_grammar.specs.Texts.{only_tokens}
 
 -- a token's text and its place
 pub record Placed : Type 0 where
@@ -17,7 +17,7 @@ with_places ts ss = []
 
 -- the tokens of a text that has these units, with their places
 abbrev pub placed : List (List ℕ) → List Placed
-placed units = with_places (tokens units) (token_spans 0 units)
+placed units = with_places (only_tokens units) (token_spans 0 units)
 
 abbrev pub kind_of_placed : Placed → Kind
 kind_of_placed t = kind_of t.text

@@ -4,3 +4,4 @@ pub mod Sets
 pub mod Regroup
 pub mod Rules
 pub mod Lines
+pub mod Hopeless

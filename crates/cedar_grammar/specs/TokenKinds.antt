@@ -5,60 +5,23 @@ use Rattle.std.specs.Char.{is_ascii_digit}
 use Rattle.cedar_grammar.specs.declared.kind.Kind.{Kind}
 use Rattle.cedar_tokens.specs.Bytes.{quote}
 
--- a text and the kind of the token that it is
-pub record Fixed : Type 0 where
-  pub text : List ℕ
-  pub kind : Kind
-
--- the keywords, slots and punctuators
-abbrev pub fixed_tokens : List Fixed
+-- the keywords, slots and punctuators, each with its kind
+abbrev pub fixed_tokens : List (List ℕ × Kind)
 fixed_tokens =
-    (record { text = codes "true"; kind = Kind.True })
-    ∷ (record { text = codes "false"; kind = Kind.False })
-    ∷ (record { text = codes "if"; kind = Kind.If })
-    ∷ (record { text = codes "then"; kind = Kind.Then })
-    ∷ (record { text = codes "else"; kind = Kind.Else })
-    ∷ (record { text = codes "in"; kind = Kind.In })
-    ∷ (record { text = codes "is"; kind = Kind.Is })
-    ∷ (record { text = codes "like"; kind = Kind.Like })
-    ∷ (record { text = codes "has"; kind = Kind.Has })
-    ∷ (record { text = codes "permit"; kind = Kind.Permit })
-    ∷ (record { text = codes "forbid"; kind = Kind.Forbid })
-    ∷ (record { text = codes "when"; kind = Kind.When })
-    ∷ (record { text = codes "unless"; kind = Kind.Unless })
-    ∷ (record { text = codes "principal"; kind = Kind.Principal })
-    ∷ (record { text = codes "action"; kind = Kind.Action })
-    ∷ (record { text = codes "resource"; kind = Kind.Resource })
-    ∷ (record { text = codes "context"; kind = Kind.Context })
-    ∷ (record { text = codes "?principal"; kind = Kind.PrincipalSlot })
-    ∷ (record { text = codes "?resource"; kind = Kind.ResourceSlot })
-    ∷ (record { text = codes "@"; kind = Kind.At })
-    ∷ (record { text = codes "."; kind = Kind.Dot })
-    ∷ (record { text = codes ","; kind = Kind.Comma })
-    ∷ (record { text = codes ";"; kind = Kind.SemiColon })
-    ∷ (record { text = codes ":"; kind = Kind.Colon })
-    ∷ (record { text = codes "::"; kind = Kind.DoubleColon })
-    ∷ (record { text = codes "("; kind = Kind.LParen })
-    ∷ (record { text = codes ")"; kind = Kind.RParen })
-    ∷ (record { text = codes "{"; kind = Kind.LBrace })
-    ∷ (record { text = codes "}"; kind = Kind.RBrace })
-    ∷ (record { text = codes "["; kind = Kind.LBracket })
-    ∷ (record { text = codes "]"; kind = Kind.RBracket })
-    ∷ (record { text = codes "=="; kind = Kind.Equal })
-    ∷ (record { text = codes "!="; kind = Kind.NotEqual })
-    ∷ (record { text = codes "<"; kind = Kind.Lt })
-    ∷ (record { text = codes "<="; kind = Kind.Le })
-    ∷ (record { text = codes ">"; kind = Kind.Gt })
-    ∷ (record { text = codes ">="; kind = Kind.Ge })
-    ∷ (record { text = codes "||"; kind = Kind.Or })
-    ∷ (record { text = codes "&&"; kind = Kind.And })
-    ∷ (record { text = codes "+"; kind = Kind.Add })
-    ∷ (record { text = codes "-"; kind = Kind.Dash })
-    ∷ (record { text = codes "*"; kind = Kind.Mul })
-    ∷ (record { text = codes "/"; kind = Kind.Div })
-    ∷ (record { text = codes "%"; kind = Kind.Modulo })
-    ∷ (record { text = codes "!"; kind = Kind.Neg })
-    ∷ []
+    (codes "true", Kind.True) ∷ (codes "false", Kind.False) ∷ (codes "if", Kind.If) ∷ (codes "then", Kind.Then) ∷ (codes "else", Kind.Else)
+    ∷ (codes "in", Kind.In) ∷ (codes "is", Kind.Is) ∷ (codes "like", Kind.Like) ∷ (codes "has", Kind.Has)
+    ∷ (codes "permit", Kind.Permit) ∷ (codes "forbid", Kind.Forbid) ∷ (codes "when", Kind.When) ∷ (codes "unless", Kind.Unless)
+    ∷ (codes "principal", Kind.Principal) ∷ (codes "action", Kind.Action) ∷ (codes "resource", Kind.Resource) ∷ (codes "context", Kind.Context)
+    ∷ (codes "?principal", Kind.PrincipalSlot) ∷ (codes "?resource", Kind.ResourceSlot)
+    ∷ (codes "@", Kind.At) ∷ (codes ".", Kind.Dot) ∷ (codes ",", Kind.Comma) ∷ (codes ";", Kind.SemiColon) ∷ (codes ":", Kind.Colon)
+    ∷ (codes "::", Kind.DoubleColon)
+    ∷ (codes "(", Kind.LParen) ∷ (codes ")", Kind.RParen) ∷ (codes "{", Kind.LBrace) ∷ (codes "}", Kind.RBrace) ∷ (codes "[", Kind.LBracket)
+    ∷ (codes "]", Kind.RBracket)
+    ∷ (codes "==", Kind.Equal) ∷ (codes "!=", Kind.NotEqual) ∷ (codes "<", Kind.Lt) ∷ (codes "<=", Kind.Le) ∷ (codes ">", Kind.Gt)
+    ∷ (codes ">=", Kind.Ge)
+    ∷ (codes "||", Kind.Or) ∷ (codes "&&", Kind.And)
+    ∷ (codes "+", Kind.Add) ∷ (codes "-", Kind.Dash) ∷ (codes "*", Kind.Mul) ∷ (codes "/", Kind.Div) ∷ (codes "%", Kind.Modulo)
+    ∷ (codes "!", Kind.Neg) ∷ []
 
 -- of the other tokens a string begins with a quote, a number with a digit, and an identifier with neither
 abbrev pub other_kind : List ℕ → Kind
@@ -66,9 +29,9 @@ other_kind [] = Kind.Identifier
 other_kind (b ∷ bs) = if b == quote then Kind.Str else (if is_ascii_digit b then Kind.Number else Kind.Identifier)
 
 -- the kind of the first token of the list that has this text
-abbrev pub kind_among : List Fixed → List ℕ → Kind
+abbrev pub kind_among : List (List ℕ × Kind) → List ℕ → Kind
 kind_among [] text = other_kind text
-kind_among (f ∷ fs) text = if bytes_eq f.text text then f.kind else kind_among fs text
+kind_among (f ∷ fs) text = if bytes_eq f.0 text then f.1 else kind_among fs text
 
 abbrev pub kind_of : List ℕ → Kind
 kind_of text = kind_among fixed_tokens text

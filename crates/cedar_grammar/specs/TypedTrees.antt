@@ -50,7 +50,7 @@ pub data Tree (A : Type 0) : NodeKind → Type 0 where
   ands_more : Tree A relation → A → Tree A ands → Tree A ands
   ors_one : Tree A ands → Tree A ors
   ors_more : Tree A ands → A → Tree A ors → Tree A ors
-  plain_expr : Tree A ors → Tree A expr
+  ors_expr : Tree A ors → Tree A expr
   if_expr : A → Tree A expr → A → Tree A expr → A → Tree A expr → Tree A expr
 
 -- the parts of a policy
@@ -117,7 +117,7 @@ parts kind (ands_one r) = branch Label.relation (parts kind r) none
 parts kind (ands_more r o m) = branch Label.relation (parts kind r) (leaf o (parts kind m))
 parts kind (ors_one a) = branch Label.and (parts kind a) none
 parts kind (ors_more a o m) = branch Label.and (parts kind a) (leaf o (parts kind m))
-parts kind (plain_expr o) = branch Label.or (parts kind o) none
+parts kind (ors_expr o) = branch Label.or (parts kind o) none
 parts kind (if_expr i c t a f b) = leaf i (branch Label.expr (parts kind c) (leaf t (branch Label.expr (parts kind a) (leaf f (branch Label.expr (parts kind b) none)))))
 
 -- a token that is a node of its own
@@ -153,57 +153,57 @@ abbrev pub set_tree : {A : Type 0} → (A → Kind) → List (Clause A policy) �
 set_tree kind ps = branch Label.policies (policy_trees kind ps) none
 
 -- the leaves in order
-abbrev pub yield : {A : Type 0} {k : NodeKind} → Tree A k → List A
-yield (name_one x) = x ∷ []
-yield (name_more x c r) = x ∷ c ∷ yield r
-yield (ref_of n c s) = yield n ++ c ∷ s ∷ []
-yield (args_one e) = yield e
-yield (args_more e c r) = yield e ++ c ∷ yield r
-yield (init_of k c v) = yield k ++ c ∷ yield v
-yield (inits_one e) = yield e
-yield (inits_more e c r) = yield e ++ c ∷ yield r
-yield (literal x) = x ∷ []
-yield (slot x) = x ∷ []
-yield (reference r) = yield r
-yield (named n) = yield n
-yield (parens l e r) = l ∷ yield e ++ r ∷ []
-yield (list_empty l r) = l ∷ r ∷ []
-yield (list_of l a r) = l ∷ yield a ++ r ∷ []
-yield (record_empty l r) = l ∷ r ∷ []
-yield (record_of l a r) = l ∷ yield a ++ r ∷ []
-yield no_access = []
-yield (field d x m) = d ∷ x ∷ yield m
-yield (call_empty l r m) = l ∷ r ∷ yield m
-yield (call l a r m) = l ∷ yield a ++ r ∷ yield m
-yield (index l x r m) = l ∷ x ∷ r ∷ yield m
-yield (member_of p m) = yield p ++ yield m
-yield (unsigned m) = yield m
-yield (signed s u) = s ∷ yield u
-yield (products_one u) = yield u
-yield (products_more u o r) = yield u ++ o ∷ yield r
-yield (mult_of p) = yield p
-yield (sums_one m) = yield m
-yield (sums_more m o r) = yield m ++ o ∷ yield r
-yield (add_of s) = yield s
-yield (single a) = yield a
-yield (compare a o b) = yield a ++ o ∷ yield b
-yield (has_or_like a o b) = yield a ++ o ∷ yield b
-yield (is_type a o n) = yield a ++ o ∷ yield n
-yield (is_in a o n p b) = yield a ++ (o ∷ (yield n ++ (p ∷ yield b)))
-yield (ands_one r) = yield r
-yield (ands_more r o m) = yield r ++ o ∷ yield m
-yield (ors_one a) = yield a
-yield (ors_more a o m) = yield a ++ o ∷ yield m
-yield (plain_expr o) = yield o
-yield (if_expr i c t a f b) = i ∷ (yield c ++ (t ∷ (yield a ++ (f ∷ yield b))))
+abbrev pub tree_yield : {A : Type 0} {k : NodeKind} → Tree A k → List A
+tree_yield (name_one x) = x ∷ []
+tree_yield (name_more x c r) = x ∷ c ∷ tree_yield r
+tree_yield (ref_of n c s) = tree_yield n ++ c ∷ s ∷ []
+tree_yield (args_one e) = tree_yield e
+tree_yield (args_more e c r) = tree_yield e ++ c ∷ tree_yield r
+tree_yield (init_of k c v) = tree_yield k ++ c ∷ tree_yield v
+tree_yield (inits_one e) = tree_yield e
+tree_yield (inits_more e c r) = tree_yield e ++ c ∷ tree_yield r
+tree_yield (literal x) = x ∷ []
+tree_yield (slot x) = x ∷ []
+tree_yield (reference r) = tree_yield r
+tree_yield (named n) = tree_yield n
+tree_yield (parens l e r) = l ∷ tree_yield e ++ r ∷ []
+tree_yield (list_empty l r) = l ∷ r ∷ []
+tree_yield (list_of l a r) = l ∷ tree_yield a ++ r ∷ []
+tree_yield (record_empty l r) = l ∷ r ∷ []
+tree_yield (record_of l a r) = l ∷ tree_yield a ++ r ∷ []
+tree_yield no_access = []
+tree_yield (field d x m) = d ∷ x ∷ tree_yield m
+tree_yield (call_empty l r m) = l ∷ r ∷ tree_yield m
+tree_yield (call l a r m) = l ∷ tree_yield a ++ r ∷ tree_yield m
+tree_yield (index l x r m) = l ∷ x ∷ r ∷ tree_yield m
+tree_yield (member_of p m) = tree_yield p ++ tree_yield m
+tree_yield (unsigned m) = tree_yield m
+tree_yield (signed s u) = s ∷ tree_yield u
+tree_yield (products_one u) = tree_yield u
+tree_yield (products_more u o r) = tree_yield u ++ o ∷ tree_yield r
+tree_yield (mult_of p) = tree_yield p
+tree_yield (sums_one m) = tree_yield m
+tree_yield (sums_more m o r) = tree_yield m ++ o ∷ tree_yield r
+tree_yield (add_of s) = tree_yield s
+tree_yield (single a) = tree_yield a
+tree_yield (compare a o b) = tree_yield a ++ o ∷ tree_yield b
+tree_yield (has_or_like a o b) = tree_yield a ++ o ∷ tree_yield b
+tree_yield (is_type a o n) = tree_yield a ++ o ∷ tree_yield n
+tree_yield (is_in a o n p b) = tree_yield a ++ (o ∷ (tree_yield n ++ (p ∷ tree_yield b)))
+tree_yield (ands_one r) = tree_yield r
+tree_yield (ands_more r o m) = tree_yield r ++ o ∷ tree_yield m
+tree_yield (ors_one a) = tree_yield a
+tree_yield (ors_more a o m) = tree_yield a ++ o ∷ tree_yield m
+tree_yield (ors_expr o) = tree_yield o
+tree_yield (if_expr i c t a f b) = i ∷ (tree_yield c ++ (t ∷ (tree_yield a ++ (f ∷ tree_yield b))))
 
 -- the same of the parts of a policy
 abbrev pub part_yield : {A : Type 0} {k : PartKind} → Clause A k → List A
 part_yield (variable_bare v) = v ∷ []
-part_yield (variable_is v i n) = v ∷ i ∷ yield n
-part_yield (variable_op v o a) = v ∷ o ∷ yield a
-part_yield (variable_is_op v i n o a) = v ∷ i ∷ yield n ++ o ∷ yield a
-part_yield (cond_of k l e r) = k ∷ l ∷ yield e ++ r ∷ []
+part_yield (variable_is v i n) = v ∷ i ∷ tree_yield n
+part_yield (variable_op v o a) = v ∷ o ∷ tree_yield a
+part_yield (variable_is_op v i n o a) = v ∷ i ∷ tree_yield n ++ o ∷ tree_yield a
+part_yield (cond_of k l e r) = k ∷ l ∷ tree_yield e ++ r ∷ []
 part_yield no_cond = []
 part_yield (conds_more c m) = part_yield c ++ part_yield m
 part_yield (annotation_bare a k) = a ∷ k ∷ []
@@ -254,7 +254,7 @@ tree_map f (ands_one r) = ands_one (tree_map f r)
 tree_map f (ands_more r o m) = ands_more (tree_map f r) (f o) (tree_map f m)
 tree_map f (ors_one a) = ors_one (tree_map f a)
 tree_map f (ors_more a o m) = ors_more (tree_map f a) (f o) (tree_map f m)
-tree_map f (plain_expr o) = plain_expr (tree_map f o)
+tree_map f (ors_expr o) = ors_expr (tree_map f o)
 tree_map f (if_expr i c t a g b) = if_expr (f i) (tree_map f c) (f t) (tree_map f a) (f g) (tree_map f b)
 
 -- the tree with its first leaf changed by f
@@ -299,5 +299,5 @@ map_first f (ands_one r) = ands_one (map_first f r)
 map_first f (ands_more r o m) = ands_more (map_first f r) o m
 map_first f (ors_one a) = ors_one (map_first f a)
 map_first f (ors_more a o m) = ors_more (map_first f a) o m
-map_first f (plain_expr o) = plain_expr (map_first f o)
+map_first f (ors_expr o) = ors_expr (map_first f o)
 map_first f (if_expr i c t a g b) = if_expr (f i) c t a g b

@@ -1,6 +1,6 @@
 //! The kinds of tokens, and sets of them.
 ghost use Rattle.std.specs.Prelude.{◌≡◌, length, [], ◌∷◌, IfSome, IfNone};
-ghost use Rattle.cedar_grammar.specs.Kinds.{is_word, is_ident, is_variable, is_effect, is_cond_word, set_of};
+ghost use Rattle.cedar_grammar.specs.Kinds.{is_any_word, is_ident, is_variable, is_effect, is_cond_word, set_of};
 ghost use Rattle.cedar_grammar.specs.Reader.Rules.{expr_first};
 ghost use Rattle.cedar_grammar.specs.TokenKinds.{kind_of, other_kind};
 ghost use Rattle.cedar_tokens.specs.Inside.Scanners.{IsNotFixed, HasMoreBytes};
@@ -74,7 +74,7 @@ pub enum Words {
 impl Kind {
     /// Whether this is the kind of a word.
     pub fn is_word(self) -> bool
-        ensures { result ≡ is_word self }
+        ensures { result ≡ is_any_word self }
     {
         self.is_identifier()
             || matches!(

@@ -1,7 +1,7 @@
 -- Laws of the computed layout: of documents one after the other, and of numbers that are capped.
 use Rattle.std.proofs.Common.{◌≡◌, ℕ, ◌+◌, ◌^◌, ◌<◌, Bool, true, false, not, ◌||◌, ◌&&◌, nat_le, List, [], ◌∷◌, ◌++◌, refl, sym, ap, ◌∙◌, arith, append_assoc}
 use Rattle.std.proofs.lemmas.Bool.Decides.{nat_tests}
-use Rattle.cedar_layout.specs.Layout.{Doc, nil, text_then, line_then, line_or_nil_then, hard_then, nest_then, group_then, ◌·◌, Atom, word, space_or_break, nothing_or_break, must_break, atoms, columns, flat_columns, has_hard, Piece, written, space, nothing, broken, indented, column_after}
+use Rattle.cedar_layout.specs.Layout.{Doc, nil, text_then, line_then, line_or_nil_then, hard_then, nest_then, group_then, ◌·◌, Atom, word, space_or_break, nothing_or_break, must_break, atoms, columns, flat_columns, has_hard, Piece, written, flat_space, flat_nothing, broken, indented, column_after}
 use Rattle.cedar_layout.specs.Inside.Computed.{tail_then, fits, laid, capped}
 use Rattle.cedar_layout.proofs.Values.{atoms-dot}
 
@@ -18,8 +18,8 @@ tail_then-dot a b t = ap (λ xs. tail_then xs t) (atoms-dot a b) ∙ tail_then-a
 pub column_after-append : (n : ℕ) (ps qs : List Piece) → column_after n (ps ++ qs) ≡ column_after (column_after n ps) qs
 column_after-append n [] qs = refl
 column_after-append n (written s ∷ ps) qs = column_after-append (n + columns s) ps qs
-column_after-append n (space ∷ ps) qs = column_after-append (n + 1) ps qs
-column_after-append n (nothing ∷ ps) qs = column_after-append n ps qs
+column_after-append n (flat_space ∷ ps) qs = column_after-append (n + 1) ps qs
+column_after-append n (flat_nothing ∷ ps) qs = column_after-append n ps qs
 column_after-append n (broken i ∷ ps) qs = column_after-append i ps qs
 
 capped-plus : (a n m : ℕ) → capped n ≡ capped m → capped (a + n) ≡ capped (a + m)
@@ -31,8 +31,8 @@ capped-add_both n m a e = omega arith
 pub column_after-capped : (n m : ℕ) (ps : List Piece) → capped n ≡ capped m → capped (column_after n ps) ≡ capped (column_after m ps)
 column_after-capped n m [] e = e
 column_after-capped n m (written s ∷ ps) e = column_after-capped (n + columns s) (m + columns s) ps (capped-add_both n m (columns s) e)
-column_after-capped n m (space ∷ ps) e = column_after-capped (n + 1) (m + 1) ps (capped-add_both n m 1 e)
-column_after-capped n m (nothing ∷ ps) e = column_after-capped n m ps e
+column_after-capped n m (flat_space ∷ ps) e = column_after-capped (n + 1) (m + 1) ps (capped-add_both n m 1 e)
+column_after-capped n m (flat_nothing ∷ ps) e = column_after-capped n m ps e
 column_after-capped n m (broken i ∷ ps) e = refl
 
 nat_le-capped : (w x n m t u : ℕ) → w < 2 ^ 64 → capped n ≡ capped m → capped t ≡ capped u → nat_le (n + x + t) w ≡ nat_le (m + x + u) w
@@ -56,9 +56,9 @@ around ps rs x col g e =
 pub laid-dot : (w : ℕ) (a b : Doc) (f : Bool) (i col t : ℕ) → AfterIt w a b f i col t
 laid-dot w nil b f i col t = refl
 laid-dot w (text_then s r) b f i col t = ap (λ ps. written s ∷ ps) (laid-dot w r b f i (col + columns s) t)
-laid-dot w (line_then r) b true i col t = ap (λ ps. space ∷ ps) (laid-dot w r b true i (col + 1) t)
+laid-dot w (line_then r) b true i col t = ap (λ ps. flat_space ∷ ps) (laid-dot w r b true i (col + 1) t)
 laid-dot w (line_then r) b false i col t = ap (λ ps. broken i ∷ ps) (laid-dot w r b false i i t)
-laid-dot w (line_or_nil_then r) b true i col t = ap (λ ps. nothing ∷ ps) (laid-dot w r b true i col t)
+laid-dot w (line_or_nil_then r) b true i col t = ap (λ ps. flat_nothing ∷ ps) (laid-dot w r b true i col t)
 laid-dot w (line_or_nil_then r) b false i col t = ap (λ ps. broken i ∷ ps) (laid-dot w r b false i i t)
 laid-dot w (hard_then r) b f i col t = ap (λ ps. broken i ∷ ps) (laid-dot w r b f i i t)
 laid-dot w (nest_then n d r) b f i col t =
@@ -91,9 +91,9 @@ fits-capped w xs n m t u h e k = ap (λ b. not (has_hard xs) && b) (nat_le-cappe
 pub laid-capped : (w : ℕ) (d : Doc) (f : Bool) (i n m t u : ℕ) → w < 2 ^ 64 → capped n ≡ capped m → capped t ≡ capped u → laid w d f i n t ≡ laid w d f i m u
 laid-capped w nil f i n m t u h e k = refl
 laid-capped w (text_then s r) f i n m t u h e k = ap (λ ps. written s ∷ ps) (laid-capped w r f i (n + columns s) (m + columns s) t u h (capped-add_both n m (columns s) e) k)
-laid-capped w (line_then r) true i n m t u h e k = ap (λ ps. space ∷ ps) (laid-capped w r true i (n + 1) (m + 1) t u h (capped-add_both n m 1 e) k)
+laid-capped w (line_then r) true i n m t u h e k = ap (λ ps. flat_space ∷ ps) (laid-capped w r true i (n + 1) (m + 1) t u h (capped-add_both n m 1 e) k)
 laid-capped w (line_then r) false i n m t u h e k = ap (λ ps. broken i ∷ ps) (laid-capped w r false i i i t u h refl k)
-laid-capped w (line_or_nil_then r) true i n m t u h e k = ap (λ ps. nothing ∷ ps) (laid-capped w r true i n m t u h e k)
+laid-capped w (line_or_nil_then r) true i n m t u h e k = ap (λ ps. flat_nothing ∷ ps) (laid-capped w r true i n m t u h e k)
 laid-capped w (line_or_nil_then r) false i n m t u h e k = ap (λ ps. broken i ∷ ps) (laid-capped w r false i i i t u h refl k)
 laid-capped w (hard_then r) f i n m t u h e k = ap (λ ps. broken i ∷ ps) (laid-capped w r f i i i t u h refl k)
 laid-capped w (nest_then z d r) f i n m t u h e k =

@@ -6,7 +6,7 @@ use Rattle.std.proofs.lemmas.List.{take_more}
 use Rattle.std.proofs.lemmas.List.Concat.{flat_map-append}
 use Rattle.cedar_layout.specs.declared.layout.Document.{Document}
 use Rattle.cedar_layout.specs.declared.layout.measure.Note.{Note}
-use Rattle.cedar_layout.specs.Layout.{Doc, nil, ◌·◌, text, line, line_or_nil, hard, nest, group, atoms, flat_columns, has_hard, Piece, written, space, nothing, broken, indented, column_after, print}
+use Rattle.cedar_layout.specs.Layout.{Doc, nil, ◌·◌, text, line, line_or_nil, hard, nest, group, atoms, flat_columns, has_hard, Piece, written, flat_space, flat_nothing, broken, indented, column_after, print}
 use Rattle.cedar_layout.specs.Value.{doc_of, docs_of}
 use Rattle.cedar_layout.specs.Inside.Computed.{tail_then, fits, laid, capped}
 use Rattle.cedar_layout.specs.Inside.Measuring.{noted, all_notes}
@@ -166,7 +166,7 @@ prints_text q s e = record { no_notes = λ t. ap (λ d. all_notes d t) e; pieces
 pub prints_hard : (q : Todo) → q.doc ≡ hard → PrintsAs q (broken q.indent ∷ [])
 prints_hard q e = record { no_notes = λ t. ap (λ d. all_notes d t) e; pieces = λ w n t. ap (λ d. laid w d q.flat q.indent n t) e }
 
-pub prints_space : (q : Todo) → q.doc ≡ line → q.flat ≡ true → PrintsAs q (space ∷ [])
+pub prints_space : (q : Todo) → q.doc ≡ line → q.flat ≡ true → PrintsAs q (flat_space ∷ [])
 prints_space q e f = record {
   no_notes = λ t. ap (λ d. all_notes d t) e;
   pieces = λ w n t. ap (λ d. laid w d q.flat q.indent n t) e ∙ ap (λ b. laid w line b q.indent n t) f;
@@ -178,7 +178,7 @@ prints_break q e f = record {
   pieces = λ w n t. ap (λ d. laid w d q.flat q.indent n t) e ∙ ap (λ b. laid w line b q.indent n t) f;
 }
 
-pub prints_nothing : (q : Todo) → q.doc ≡ line_or_nil → q.flat ≡ true → PrintsAs q (nothing ∷ [])
+pub prints_nothing : (q : Todo) → q.doc ≡ line_or_nil → q.flat ≡ true → PrintsAs q (flat_nothing ∷ [])
 prints_nothing q e f = record {
   no_notes = λ t. ap (λ d. all_notes d t) e;
   pieces = λ w n t. ap (λ d. laid w d q.flat q.indent n t) e ∙ ap (λ b. laid w line_or_nil b q.indent n t) f;

@@ -2,7 +2,7 @@
 use Rattle.std.proofs.Common.{◌≡◌, ℕ, ◌+◌, ◌≤◌, Bool, true, false, not, ◌&&◌, ◌||◌, nat_le, IsTrue, IsFalse, ◌↔◌, ◌⊎◌, inl, inr, ⊎_elim, cond, List, [], ◌∷◌, ◌++◌, refl, sym, ap, subst, ◌∙◌}
 use Rattle.std.specs.List.{AllByRecursion, flat_map}
 use Rattle.std.proofs.lemmas.Bool.{false≢true, leb-true, le-leb}
-use Rattle.cedar_layout.specs.Layout.{Doc, nil, text_then, line_then, line_or_nil_then, hard_then, nest_then, group_then, Atom, word, space_or_break, nothing_or_break, must_break, atoms, columns, flat_columns, has_hard, Choice, Piece, written, space, nothing, broken, print, indented, pieces, column_after, Place, places, tail, columns_of_all, Fits, FollowsRule, IsLayoutAt, IsTheLayoutAt}
+use Rattle.cedar_layout.specs.Layout.{Doc, nil, text_then, line_then, line_or_nil_then, hard_then, nest_then, group_then, Atom, word, space_or_break, nothing_or_break, must_break, atoms, columns, flat_columns, has_hard, Choice, Piece, written, flat_space, flat_nothing, broken, print, indented, pieces, column_after, Place, group_places, tail, columns_of_all, Fits, FollowsRule, IsLayoutAt, IsTheLayoutAt}
 use Rattle.cedar_layout.specs.Inside.Computed.{tail_then, fits, laid}
 
 -- ---- tails
@@ -51,17 +51,17 @@ marked false t F k = (λ e. inr (k.0 e), ⊎_elim (λ e. absurd (false≢true e)
 join_step : (ps qs ss : List Piece) (g : List Piece → List Piece) → ps ≡ qs → ss ≡ g ps → ps ++ ss ≡ qs ++ g qs
 join_step ps qs ss g e h = cc
 
-pub pieces_are_laid : (w : ℕ) (d : Doc) (c : Choice d) (f : Bool) (i col : ℕ) (after : List Atom) → AllByRecursion (FollowsRule w) (places d c f i col after) → pieces d c f i ≡ laid w d f i col (columns_of_all (tail after))
+pub pieces_are_laid : (w : ℕ) (d : Doc) (c : Choice d) (f : Bool) (i col : ℕ) (after : List Atom) → AllByRecursion (FollowsRule w) (group_places d c f i col after) → pieces d c f i ≡ laid w d f i col (columns_of_all (tail after))
 pieces_are_laid w nil c f i col after h = refl
 pieces_are_laid w (text_then s r) c f i col after h = ap (λ ps. written s ∷ ps) (pieces_are_laid w r c f i (col + columns s) after h)
-pieces_are_laid w (line_then r) c f i col after h = ap (λ ps. cond f (space) (broken i) ∷ ps) (pieces_are_laid w r c f i (cond f (col + 1) i) after h)
-pieces_are_laid w (line_or_nil_then r) c f i col after h = ap (λ ps. cond f (nothing) (broken i) ∷ ps) (pieces_are_laid w r c f i (cond f col i) after h)
+pieces_are_laid w (line_then r) c f i col after h = ap (λ ps. cond f (flat_space) (broken i) ∷ ps) (pieces_are_laid w r c f i (cond f (col + 1) i) after h)
+pieces_are_laid w (line_or_nil_then r) c f i col after h = ap (λ ps. cond f (flat_nothing) (broken i) ∷ ps) (pieces_are_laid w r c f i (cond f col i) after h)
 pieces_are_laid w (hard_then r) c f i col after h = ap (λ ps. broken i ∷ ps) (pieces_are_laid w r c f i i after h)
 pieces_are_laid w (nest_then n d r) c f i col after h =
     let t = columns_of_all (tail after) in
     let P = FollowsRule w in
-    let xs = places d c.0 f (indented i n) col (atoms r ++ after) in
-    let ys = places r c.1 f i (column_after col (pieces d c.0 f (indented i n))) after in
+    let xs = group_places d c.0 f (indented i n) col (atoms r ++ after) in
+    let ys = group_places r c.1 f i (column_after col (pieces d c.0 f (indented i n))) after in
     let hd = pieces_are_laid w d c.0 f (indented i n) col (atoms r ++ after) (All-left P xs ys h) in
     let hr = pieces_are_laid w r c.1 f i (column_after col (pieces d c.0 f (indented i n))) after (All-right P xs ys h) in
     join_step _ _ _ (λ ps. laid w r f i (column_after col ps) t) (subst (λ u. pieces d c.0 f (indented i n) ≡ laid w d f (indented i n) col u) (columns_of_tail-append (atoms r) after) hd) hr
@@ -69,8 +69,8 @@ pieces_are_laid w (group_then d r) c f i col after h =
     let t = columns_of_all (tail after) in
     let P = FollowsRule w in
     let b = f || c.0 in
-    let xs = places d c.1 b i col (atoms r ++ after) in
-    let ys = places r c.2 f i (column_after col (pieces d c.1 b i)) after in
+    let xs = group_places d c.1 b i col (atoms r ++ after) in
+    let ys = group_places r c.2 f i (column_after col (pieces d c.1 b i)) after in
     let p : Place = record { inside_flat = f; column = col; content = atoms d; after = atoms r ++ after; is_flat = c.0 } in
     let e = columns_of_tail-append (atoms r) after in
     let hd = pieces_are_laid w d c.1 b i col (atoms r ++ after) (All-left P xs ys h.1) in
@@ -79,7 +79,7 @@ pieces_are_laid w (group_then d r) c f i col after h =
     let hd1 = subst (λ v. pieces d c.1 b i ≡ laid w d v i col (columns_of_all (tail (atoms r ++ after)))) same hd in
     join_step _ _ _ (λ ps. laid w r f i (column_after col ps) t) (subst (λ u. pieces d c.1 b i ≡ laid w d (f || fits w (atoms d) col u) i col u) e hd1) hr
 
-pub rule_is_met : (w : ℕ) (d : Doc) (f : Bool) (i col : ℕ) (after : List Atom) → (c : Choice d) × AllByRecursion (FollowsRule w) (places d c f i col after)
+pub rule_is_met : (w : ℕ) (d : Doc) (f : Bool) (i col : ℕ) (after : List Atom) → (c : Choice d) × AllByRecursion (FollowsRule w) (group_places d c f i col after)
 rule_is_met w nil f i col after = (tt, tt)
 rule_is_met w (text_then s r) f i col after = rule_is_met w r f i (col + columns s) after
 rule_is_met w (line_then r) f i col after = rule_is_met w r f i (cond f (col + 1) i) after
@@ -88,13 +88,13 @@ rule_is_met w (hard_then r) f i col after = rule_is_met w r f i i after
 rule_is_met w (nest_then n d r) f i col after =
     let C = rule_is_met w d f (indented i n) col (atoms r ++ after) in
     let E = rule_is_met w r f i (column_after col (pieces d C.0 f (indented i n))) after in
-    ((C.0, E.0), All-append (FollowsRule w) (places d C.0 f (indented i n) col (atoms r ++ after)) _ C.1 E.1)
+    ((C.0, E.0), All-append (FollowsRule w) (group_places d C.0 f (indented i n) col (atoms r ++ after)) _ C.1 E.1)
 rule_is_met w (group_then d r) f i col after =
     let m = f || fits w (atoms d) col (columns_of_all (tail (atoms r ++ after))) in
     let p : Place = record { inside_flat = f; column = col; content = atoms d; after = atoms r ++ after; is_flat = m } in
     let C = rule_is_met w d (f || m) i col (atoms r ++ after) in
     let E = rule_is_met w r f i (column_after col (pieces d C.0 (f || m) i)) after in
-    ((m, C.0, E.0), (marked f (fits w (atoms d) col (columns_of_all (tail (atoms r ++ after)))) (Fits w p) (fits_test w p), All-append (FollowsRule w) (places d C.0 (f || m) i col (atoms r ++ after)) _ C.1 E.1))
+    ((m, C.0, E.0), (marked f (fits w (atoms d) col (columns_of_all (tail (atoms r ++ after)))) (Fits w p) (fits_test w p), All-append (FollowsRule w) (group_places d C.0 (f || m) i col (atoms r ++ after)) _ C.1 E.1))
 
 -- the text of the layout, computed
 pub laid_is_layout : (w : ℕ) (d : Doc) → IsLayoutAt w d (flat_map print (laid w d false 0 0 0))

@@ -15,7 +15,7 @@ use Rattle.cedar_tokens.proofs.Prefixes.{or_cases, or_right, and_parts, begins_f
 use Rattle.cedar_tokens.proofs.Heads.{class, class-blank, word, number, string, slot, punctuator, token_of}
 use Rattle.cedar_tokens.proofs.FirstUnit.{comment_parts, only_blank}
 use Rattle.cedar_tokens.proofs.Longest.{is_token-string}
-use Rattle.cedar_layout.specs.Cleaning.{IsString, IsKept, last_or, piece_lines}
+use Rattle.cedar_layout.specs.Cleaning.{IsString, IsKept, last_byte_or, piece_lines}
 use Rattle.cedar_layout.specs.Inside.Seeking.{IsFirstLine, IsSought}
 use Rattle.cedar_layout.specs.declared.utils.cleaning.Sought.{Sought}
 use Rattle.cedar_layout.specs.declared.utils.cleaning.Sought.TheVariants.{Comment as SoughtComment, String as SoughtString, Either}
@@ -127,7 +127,7 @@ kept_comment text (Some n) a f = (
 
 -- ---- lines
 
-pub last_found : (xs : List ℕ) (c x i : ℕ) → i + 1 ≡ length xs → Some x ≡ slice_get xs i → last_or c xs ≡ x
+pub last_found : (xs : List ℕ) (c x i : ℕ) → i + 1 ≡ length xs → Some x ≡ slice_get xs i → last_byte_or c xs ≡ x
 last_found [] c x i l e = absurd (omega arith)
 last_found (b ∷ []) c x zero l e = cc
 last_found (b ∷ []) c x (suc i) l e = absurd (omega arith)
@@ -197,6 +197,6 @@ none_all sought text from i n h k f = go (split k)
     go (inl a) = n k f a
     go (inr a) = none_past sought text k (omega arith)
 
-pub last_of : (xs : List ℕ) (c x : ℕ) → Some x ≡ slice_get xs (length xs - 1) → last_or c xs ≡ x
+pub last_of : (xs : List ℕ) (c x : ℕ) → Some x ≡ slice_get xs (length xs - 1) → last_byte_or c xs ≡ x
 last_of [] c x e = absurd cc
 last_of (b ∷ bs) c x e = last_found (b ∷ bs) c x (length (b ∷ bs) - 1) (omega arith) e

@@ -6,11 +6,11 @@ use Rattle.std.specs.Char.{is_whitespace}
 use Rattle.cedar_tokens.specs.Units.{is_string, is_comment, IsLongest, BeginsNone}
 use Rattle.cedar_tokens.specs.Listing.{with_first}
 use Rattle.cedar_tokens.specs.declared.token.Span.{Span}
-use Rattle.cedar_tokens.specs.Bytes.{line_feed, space}
+use Rattle.cedar_tokens.specs.Bytes.{line_feed, space_character}
 
-abbrev pub last_or : ℕ → List ℕ → ℕ
-last_or c [] = c
-last_or c (d ∷ ds) = last_or d ds
+abbrev pub last_byte_or : ℕ → List ℕ → ℕ
+last_byte_or c [] = c
+last_byte_or c (d ∷ ds) = last_byte_or d ds
 
 -- the lines of a piece, each up to and with its `\n`; what stands behind the last `\n` is the last line
 abbrev pub piece_lines : List ℕ → List (List ℕ)
@@ -19,7 +19,7 @@ piece_lines (b ∷ bs) = if b == line_feed then (line_feed ∷ []) ∷ piece_lin
 
 -- it ends in a line feed and has blanks alone
 abbrev pub is_blank_line : List ℕ → Bool
-is_blank_line l = last_or space l == line_feed && list_all is_whitespace (chars l)
+is_blank_line l = last_byte_or space_character l == line_feed && list_all is_whitespace (chars l)
 
 abbrev pub without_blank_lines : List (List ℕ) → List ℕ
 without_blank_lines ls = concat (filter (λ l. not (is_blank_line l)) ls)

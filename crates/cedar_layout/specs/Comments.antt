@@ -4,7 +4,7 @@ use Rattle.cedar_layout.specs.Layout.{Doc, nil, text, hard, nest, ◌·◌}
 use Rattle.cedar_tokens.specs.Bytes as byte
 
 abbrev pub space : Doc
-space = text (byte.space ∷ [])
+space = text (byte.space_character ∷ [])
 
 -- each line, and a break after it
 abbrev pub broken_lines : List (List ℕ) → Doc

@@ -92,15 +92,15 @@ Choice (group_then d r) = Bool × Choice d × Choice r
 -- What a layout writes: a text, the space of a flat `Line`, the nothing of a flat `LineOrNil`, or a break.
 pub data Piece : Type 0 where
   written : List ℕ → Piece
-  space : Piece
-  nothing : Piece
+  flat_space : Piece
+  flat_nothing : Piece
   broken : ℕ → Piece
 
 abbrev pub print : Piece → List ℕ
 print (written s) = s
-print space = byte.space ∷ []
-print nothing = []
-print (broken i) = byte.line_feed ∷ replicate i byte.space
+print flat_space = byte.space_character ∷ []
+print flat_nothing = []
+print (broken i) = byte.line_feed ∷ replicate i byte.space_character
 
 -- an indentation and a nesting: it stops at 0 below and at the greatest `usize` above
 abbrev pub indented : ℕ → ℤ → ℕ
@@ -111,8 +111,8 @@ indented i (negsuc n) = i - suc n
 abbrev pub pieces : (d : Doc) → Choice d → Bool → ℕ → List Piece
 pieces nil c flat i = []
 pieces (text_then s r) c flat i = written s ∷ pieces r c flat i
-pieces (line_then r) c flat i = (if flat then space else broken i) ∷ pieces r c flat i
-pieces (line_or_nil_then r) c flat i = (if flat then nothing else broken i) ∷ pieces r c flat i
+pieces (line_then r) c flat i = (if flat then flat_space else broken i) ∷ pieces r c flat i
+pieces (line_or_nil_then r) c flat i = (if flat then flat_nothing else broken i) ∷ pieces r c flat i
 pieces (hard_then r) c flat i = broken i ∷ pieces r c flat i
 pieces (nest_then n d r) c flat i = pieces d c.0 flat (indented i n) ++ pieces r c.1 flat i
 pieces (group_then d r) c flat i = pieces d c.1 (flat || c.0) i ++ pieces r c.2 flat i
@@ -127,8 +127,8 @@ text_of_choice d c = flat_map print (pieces d c false 0)
 abbrev pub column_after : ℕ → List Piece → ℕ
 column_after col [] = col
 column_after col (written s ∷ ps) = column_after (col + columns s) ps
-column_after col (space ∷ ps) = column_after (col + 1) ps
-column_after col (nothing ∷ ps) = column_after col ps
+column_after col (flat_space ∷ ps) = column_after (col + 1) ps
+column_after col (flat_nothing ∷ ps) = column_after col ps
 column_after col (broken i ∷ ps) = column_after i ps
 
 -- Where a group stands in a layout: whether inside a flat group, its column, its content, what follows it in the whole
@@ -141,19 +141,19 @@ pub record Place : Type 0 where
   pub is_flat : Bool
 
 -- the places of all groups of a document, under a choice
-abbrev pub places : (d : Doc) → Choice d → Bool → ℕ → ℕ → List Atom → List Place
-places nil c flat i col after = []
-places (text_then s r) c flat i col after = places r c flat i (col + columns s) after
-places (line_then r) c flat i col after = places r c flat i (if flat then col + 1 else i) after
-places (line_or_nil_then r) c flat i col after = places r c flat i (if flat then col else i) after
-places (hard_then r) c flat i col after = places r c flat i i after
-places (nest_then n d r) c flat i col after =
-    places d c.0 flat (indented i n) col (atoms r ++ after)
-    ++ places r c.1 flat i (column_after col (pieces d c.0 flat (indented i n))) after
-places (group_then d r) c flat i col after =
+abbrev pub group_places : (d : Doc) → Choice d → Bool → ℕ → ℕ → List Atom → List Place
+group_places nil c flat i col after = []
+group_places (text_then s r) c flat i col after = group_places r c flat i (col + columns s) after
+group_places (line_then r) c flat i col after = group_places r c flat i (if flat then col + 1 else i) after
+group_places (line_or_nil_then r) c flat i col after = group_places r c flat i (if flat then col else i) after
+group_places (hard_then r) c flat i col after = group_places r c flat i i after
+group_places (nest_then n d r) c flat i col after =
+    group_places d c.0 flat (indented i n) col (atoms r ++ after)
+    ++ group_places r c.1 flat i (column_after col (pieces d c.0 flat (indented i n))) after
+group_places (group_then d r) c flat i col after =
     record { inside_flat = flat; column = col; content = atoms d; after = atoms r ++ after; is_flat = c.0 }
-    ∷ (places d c.1 (flat || c.0) i col (atoms r ++ after)
-    ++ places r c.2 flat i (column_after col (pieces d c.1 (flat || c.0) i)) after)
+    ∷ (group_places d c.1 (flat || c.0) i col (atoms r ++ after)
+    ++ group_places r c.2 flat i (column_after col (pieces d c.1 (flat || c.0) i)) after)
 
 -- the texts up to the first `Line`, `LineOrNil` or `Hard`
 abbrev pub tail : List Atom → List (List ℕ)
@@ -180,7 +180,7 @@ FollowsRule w p = IsTrue p.is_flat ↔ (IsTrue p.inside_flat ⊎ Fits w p)
 
 -- the choice follows the rule at each group, where the layout begins in column 0 with indentation 0
 abbrev pub IsChoiceAt : ℕ → (d : Doc) → Choice d → Type 0
-IsChoiceAt w d c = AllByRecursion (FollowsRule w) (places d c false 0 0 [])
+IsChoiceAt w d c = AllByRecursion (FollowsRule w) (group_places d c false 0 0 [])
 
 -- t is the layout of d at the width w
 abbrev pub IsLayoutAt : ℕ → Doc → List ℕ → Type 0
@@ -195,8 +195,8 @@ IsTheLayoutAt w d t = IsLayoutAt w d t × ((u : List ℕ) → IsLayoutAt w d u �
 -- a piece is what a layout can make of an atom
 abbrev pub IsMadeOf : Piece → Atom → Type 0
 IsMadeOf (written u) (word s) = u ≡ s
-IsMadeOf space space_or_break = ⊤
-IsMadeOf nothing nothing_or_break = ⊤
+IsMadeOf flat_space space_or_break = ⊤
+IsMadeOf flat_nothing nothing_or_break = ⊤
 IsMadeOf (broken i) space_or_break = ⊤
 IsMadeOf (broken i) nothing_or_break = ⊤
 IsMadeOf (broken i) must_break = ⊤

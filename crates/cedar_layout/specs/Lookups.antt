@@ -22,7 +22,7 @@ comment_parts c = record { leading = leading_lines c; trailing = trailing_text c
 abbrev pub no_comment : Parts
 no_comment = record { leading = []; trailing = [] }
 
--- a token with its comment's texts; two tokens are equal exactly if these are
+-- a token with its comment's texts; two tokens of which these are the same are equal
 pub record Shown : Type 0 where
   pub token : Token
   pub comment : Parts

@@ -6,9 +6,10 @@ use Rattle.std.specs.Str.{trim}
 use Rattle.std.proofs.Math.Seq.{take-append_seam}
 use Rattle.cedar_tokens.specs.Units.{IsUnit, is_token, slots, punctuators}
 use Rattle.cedar_tokens.specs.Split.{Scans, SplitsInto}
-use Rattle.cedar_tokens.specs.Listing.{Decorated, Listing, IsListing, Gaps, gaps, decorate, listing, comments, before_newline, after_newline}
+use Rattle.cedar_tokens.specs.Listing.{Decorated, Listing, IsListing, Gaps, gaps, decorate, listing, comments}
+use Rattle.cedar_tokens.specs.Inside.Newlines.{before_newline, after_newline}
 use Rattle.cedar_tokens.specs.PlainList.{is_comma, is_closing_bracket, is_trailing_comma, touches, with_trailing_of, with_lines_of, plain_from, plain_list}
-use Rattle.cedar_grammar.specs.Texts.{tokens}
+use Rattle.cedar_grammar.specs.Texts.{only_tokens}
 use Rattle.cedar_tokens.proofs.Prefixes.{longest_unique, and_parts}
 use Rattle.cedar_tokens.proofs.CommentLines.{comments_nil}
 use Rattle.cedar_tokens.proofs.PlainSteps.{plain_other}
@@ -289,16 +290,16 @@ plain_empty (c ∷ (b ∷ ts)) h = go (is_trailing_comma c b) h
 -- ---- units without tokens
 
 -- units without tokens, one by one
-pub tokenless : (us : List (List ℕ)) → tokens us ≡ [] → AllByRecursion (λ u. is_token u ≡ false) us
+pub tokenless : (us : List (List ℕ)) → only_tokens us ≡ [] → AllByRecursion (λ u. is_token u ≡ false) us
 tokenless [] h = tt
 tokenless (u ∷ us) h = go (is_token u) refl h (tokenless us)
   where
-    go : (t : Bool) → is_token u ≡ t → cond t (u ∷ tokens us) (tokens us) ≡ [] → (tokens us ≡ [] → AllByRecursion (λ v. is_token v ≡ false) us) → (is_token u ≡ false) × AllByRecursion (λ v. is_token v ≡ false) us
+    go : (t : Bool) → is_token u ≡ t → cond t (u ∷ only_tokens us) (only_tokens us) ≡ [] → (only_tokens us ≡ [] → AllByRecursion (λ v. is_token v ≡ false) us) → (is_token u ≡ false) × AllByRecursion (λ v. is_token v ≡ false) us
     go true e k ih = absurd cc
     go false e k ih = (e, ih k)
 
 -- the list of a text without tokens has its comments alone
-pub comments_alone : (text : List ℕ) (us : List (List ℕ)) → SplitsInto text us → tokens us ≡ [] → IsListing text (record { tokens = []; closing = comments text })
+pub comments_alone : (text : List ℕ) (us : List (List ℕ)) → SplitsInto text us → only_tokens us ≡ [] → IsListing text (record { tokens = []; closing = comments text })
 unfolding listing gaps decorate
 comments_alone text us s h =
     let c : concat us ≡ text = sym (scans_concat us text [] s ∙ append-nil (concat us)) in

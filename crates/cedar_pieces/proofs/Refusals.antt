@@ -11,13 +11,15 @@ use Rattle.std.proofs.lemmas.Slice.Eq.{bytes_eq-Decides}
 use Rattle.cedar_tokens.specs.Units.{is_token, slots, punctuators, keywords}
 use Rattle.cedar_tokens.specs.Split.{SplitsInto}
 use Rattle.cedar_tokens.proofs.Scanning.{split_unique}
+use Rattle.cedar_grammar.specs.declared.kind.Kind.{Kind}
 use Rattle.cedar_grammar.specs.declared.kind.Kind.TheVariants as K
 use Rattle.cedar_grammar.specs.Kinds.{is}
 use Rattle.cedar_grammar.specs.Grammar.{G}
-use Rattle.cedar_grammar.specs.HopelessPlaces.{Begins}
+use Rattle.cedar_grammar.specs.Beginnings.{Begins}
 use Rattle.cedar_grammar.specs.Numbers.{is_too_large}
-use Rattle.cedar_grammar.specs.TokenKinds.{Fixed, fixed_tokens, other_kind, kind_among, kind_of}
-use Rattle.cedar_grammar.specs.Texts.{greatest_depth, tokens, Accepted, IsHopeless, IsRefused}
+use Rattle.cedar_grammar.specs.TokenKinds.{fixed_tokens, other_kind, kind_among, kind_of}
+use Rattle.cedar_grammar.specs.Texts.{greatest_depth, only_tokens, Accepted}
+use Rattle.cedar_grammar.specs.Reader.Hopeless.{IsHopeless, IsRefused}
 use Rattle.cedar_grammar.specs.Trees.{Label, Forest}
 use Rattle.cedar_grammar.proofs.KindSets.{and_left, and_right, or_left, or_right, not_true}
 use Rattle.cedar_grammar.proofs.TreeLaws.{deeper}
@@ -32,28 +34,28 @@ semicolon_token : is_token (codes ";") ≡ true
 unfolding slots punctuators keywords
 semicolon_token = refl
 
-tokens_join : (us vs : List (List ℕ)) → tokens (us ++ vs) ≡ tokens us ++ tokens vs
+tokens_join : (us vs : List (List ℕ)) → only_tokens (us ++ vs) ≡ only_tokens us ++ only_tokens vs
 tokens_join us vs = filter-append is_token us vs
 
-tokens_one : (u : List ℕ) (us : List (List ℕ)) → is_token u ≡ true → tokens (u ∷ us) ≡ u ∷ tokens us
+tokens_one : (u : List ℕ) (us : List (List ℕ)) → is_token u ≡ true → only_tokens (u ∷ us) ≡ u ∷ only_tokens us
 tokens_one u us h = rw h refl
 
-tokens_cut : (us : List (List ℕ)) (t : List ℕ) (vs : List (List ℕ)) → is_token t ≡ true → tokens (us ++ (t ∷ vs)) ≡ tokens us ++ (t ∷ tokens vs)
-tokens_cut us t vs h = tokens_join us (t ∷ vs) ∙ ap (λ z. tokens us ++ z) (tokens_one t vs h)
+tokens_cut : (us : List (List ℕ)) (t : List ℕ) (vs : List (List ℕ)) → is_token t ≡ true → only_tokens (us ++ (t ∷ vs)) ≡ only_tokens us ++ (t ∷ only_tokens vs)
+tokens_cut us t vs h = tokens_join us (t ∷ vs) ∙ ap (λ z. only_tokens us ++ z) (tokens_one t vs h)
 
 -- units that are no tokens have none
-pub no_tokens : (us : List (List ℕ)) → list_any is_token us ≡ false → tokens us ≡ []
+pub no_tokens : (us : List (List ℕ)) → list_any is_token us ≡ false → only_tokens us ≡ []
 no_tokens [] h = refl
 no_tokens (u ∷ us) h = rw (or_left (is_token u) (list_any is_token us) h) (no_tokens us (or_right (is_token u) (list_any is_token us) h))
 
 -- a piece's last token is its `;`
-pub piece_tokens : (text : List ℕ) (n : ℕ) (p : IsPiece text n) → tokens (p.before ++ (codes ";" ∷ p.line)) ≡ tokens p.before ++ (codes ";" ∷ [])
-piece_tokens text n p = tokens_cut p.before (codes ";") p.line semicolon_token ∙ ap (λ z. tokens p.before ++ (codes ";" ∷ z)) (no_tokens p.line p.behind.no_token)
+pub piece_tokens : (text : List ℕ) (n : ℕ) (p : IsPiece text n) → only_tokens (p.before ++ (codes ";" ∷ p.line)) ≡ only_tokens p.before ++ (codes ";" ∷ [])
+piece_tokens text n p = tokens_cut p.before (codes ";") p.line semicolon_token ∙ ap (λ z. only_tokens p.before ++ (codes ";" ∷ z)) (no_tokens p.line p.behind.no_token)
 
 -- A token other than `;` has another kind.
-abbrev alone : List Fixed → Bool
+abbrev alone : List (List ℕ × Kind) → Bool
 alone [] = true
-alone (f ∷ fs) = (is_semicolon f.text || not (is K.SemiColon f.kind)) && alone fs
+alone (f ∷ fs) = (is_semicolon f.0 || not (is K.SemiColon f.1)) && alone fs
 
 second : (a b : Bool) → IsTrue (a || b) → a ≡ false → IsTrue b
 second true b h e = absurd cc
@@ -68,27 +70,27 @@ other_differs (b ∷ bs) = go (b == 34) (is_ascii_digit b)
     go false true = refl
     go false false = refl
 
-kind_differs : (fs : List Fixed) (text : List ℕ) → IsTrue (alone fs) → is_semicolon text ≡ false → is K.SemiColon (kind_among fs text) ≡ false
+kind_differs : (fs : List (List ℕ × Kind)) (text : List ℕ) → IsTrue (alone fs) → is_semicolon text ≡ false → is K.SemiColon (kind_among fs text) ≡ false
 kind_differs [] text a h = other_differs text
-kind_differs (f ∷ fs) text a h = go (kind_differs fs text (and_right (is_semicolon f.text || not (is K.SemiColon f.kind)) (alone fs) a) h) (bytes_eq f.text text) refl
+kind_differs (f ∷ fs) text a h = go (kind_differs fs text (and_right (is_semicolon f.0 || not (is K.SemiColon f.1)) (alone fs) a) h) (bytes_eq f.0 text) refl
   where
-    go : is K.SemiColon (kind_among fs text) ≡ false → (b : Bool) → bytes_eq f.text text ≡ b → is K.SemiColon (if b then f.kind else kind_among fs text) ≡ false
+    go : is K.SemiColon (kind_among fs text) ≡ false → (b : Bool) → bytes_eq f.0 text ≡ b → is K.SemiColon (if b then f.1 else kind_among fs text) ≡ false
     go again false e = again
-    go again true e = not_true (is K.SemiColon f.kind)
-        (second (is_semicolon f.text) (not (is K.SemiColon f.kind)) (and_left (is_semicolon f.text || not (is K.SemiColon f.kind)) (alone fs) a) (ap is_semicolon ((bytes_eq-Decides f.text text).0 e) ∙ h))
+    go again true e = not_true (is K.SemiColon f.1)
+        (second (is_semicolon f.0) (not (is K.SemiColon f.1)) (and_left (is_semicolon f.0 || not (is K.SemiColon f.1)) (alone fs) a) (ap is_semicolon ((bytes_eq-Decides f.0 text).0 e) ∙ h))
 
 or_none : (a b : Bool) → a ≡ false → b ≡ false → (a || b) ≡ false
 or_none a b h k = rw h k
 
 -- units without a `;` have no token of that kind
-pub no_kind : (us : List (List ℕ)) → list_any is_semicolon us ≡ false → list_any (λ t. is K.SemiColon (kind_of t)) (tokens us) ≡ false
+pub no_kind : (us : List (List ℕ)) → list_any is_semicolon us ≡ false → list_any (λ t. is K.SemiColon (kind_of t)) (only_tokens us) ≡ false
 no_kind [] h = refl
 no_kind (u ∷ us) h =
     go (kind_differs fixed_tokens u refl (or_left (is_semicolon u) (list_any is_semicolon us) h)) (no_kind us (or_right (is_semicolon u) (list_any is_semicolon us) h)) (is_token u)
   where
-    go : is K.SemiColon (kind_of u) ≡ false → list_any (λ t. is K.SemiColon (kind_of t)) (tokens us) ≡ false → (b : Bool)
-        → list_any (λ t. is K.SemiColon (kind_of t)) (if b then u ∷ tokens us else tokens us) ≡ false
-    go x y true = or_none (is K.SemiColon (kind_of u)) (list_any (λ t. is K.SemiColon (kind_of t)) (tokens us)) x y
+    go : is K.SemiColon (kind_of u) ≡ false → list_any (λ t. is K.SemiColon (kind_of t)) (only_tokens us) ≡ false → (b : Bool)
+        → list_any (λ t. is K.SemiColon (kind_of t)) (if b then u ∷ only_tokens us else only_tokens us) ≡ false
+    go x y true = or_none (is K.SemiColon (kind_of u)) (list_any (λ t. is K.SemiColon (kind_of t)) (only_tokens us)) x y
     go x y false = y
 
 -- Numbers of units.
@@ -106,10 +108,10 @@ parts_fit text n us p s h =
     ((units_of p, q.2, f.0), (q.0, q.3, f.1))
 
 -- an accepted text without a `;` has no tokens
-pub rest_is_empty : (text : List ℕ) → HasNoPiece text → Accepted text → (us : List (List ℕ)) × SplitsInto text us × (tokens us ≡ []) × (list_any is_too_large us ≡ false)
+pub rest_is_empty : (text : List ℕ) → HasNoPiece text → Accepted text → (us : List (List ℕ)) × SplitsInto text us × (only_tokens us ≡ []) × (list_any is_too_large us ≡ false)
 rest_is_empty text h (tree, a) =
     let r = scanned_front h.units a.units text h.rest h.scans a.split in
-    (a.units, a.split, no_semicolon kind_of greatest_depth tree (tokens a.units) (no_kind a.units (ap (λ z. list_any is_semicolon z) (r.1 ∙ same r.0 r.2) ∙ h.none)) a.grammar, a.fitting)
+    (a.units, a.split, no_semicolon kind_of greatest_depth tree (only_tokens a.units) (no_kind a.units (ap (λ z. list_any is_semicolon z) (r.1 ∙ same r.0 r.2) ∙ h.none)) a.grammar, a.fitting)
   where
     same : (ws : List (List ℕ)) → SplitsInto h.rest ws → h.units ++ ws ≡ h.units
     same [] s = append-nil h.units
@@ -140,7 +142,7 @@ abbrev Through : List (List ℕ) → List ℕ → Bool → Type 0
 Through front token deep = Begins kind_of greatest_depth front × (¬ (Begins kind_of greatest_depth (front ++ (token ∷ [])))) × (IsTrue deep ↔ ((e : ℕ) × Begins kind_of e (front ++ (token ∷ []))))
 
 hopeless_at : (text : List ℕ) (before : List (List ℕ)) (token : List ℕ) (after : List (List ℕ)) (at : ℕ) (deep : Bool) → SplitsInto text (before ++ (token ∷ after)) → list_any is_too_large (before ++ (token ∷ after)) ≡ false
-    → at ≡ sum_by length before → is_token token ≡ true → Through (tokens before) token deep → IsHopeless text at deep
+    → at ≡ sum_by length before → is_token token ≡ true → Through (only_tokens before) token deep → IsHopeless text at deep
 hopeless_at text before token after at deep s f p o t = record {
   before = before;
   token = token;
@@ -166,9 +168,9 @@ piece_refused text n at deep us p s fit r = go r
         inl (hopeless_at text h.before h.token (h.after ++ q.0) at deep (subst (λ z. SplitsInto text z) whole s) (sym (ap (λ z. list_any is_too_large z) whole) ∙ fit) h.place h.is_one
         (h.hopeless.before, h.hopeless.through, h.hopeless.kind_is))
     go (inr (h, e, d)) =
-        let same : tokens h.units ≡ tokens p.before ++ (codes ";" ∷ []) = ap tokens (split_unique (take n text) h.units (units_of p) h.split q.2) ∙ piece_tokens text n p in
+        let same : only_tokens h.units ≡ only_tokens p.before ++ (codes ";" ∷ []) = ap only_tokens (split_unique (take n text) h.units (units_of p) h.split q.2) ∙ piece_tokens text n p in
         let b = h.unfinished.before in
-        let x = parts (tokens p.before) greatest_depth b.tree b.rest (subst (λ z. G kind_of greatest_depth b.tree (z ++ b.rest)) same b.grammar) in
+        let x = parts (only_tokens p.before) greatest_depth b.tree b.rest (subst (λ z. G kind_of greatest_depth b.tree (z ++ b.rest)) same b.grammar) in
         absurd (h.unfinished.not_whole x.0.0 (subst (λ z. G kind_of greatest_depth x.0.0 z) (sym same) x.0.1))
 
 -- behind an accepted piece a refusal of the rest is one of the text, its place moved by the piece
@@ -180,13 +182,13 @@ rest_refused text n at deep us p s fit (tree, a) r = go r
     q = piece_units text n us p s
 
     front : List (List ℕ)
-    front = tokens p.before
+    front = only_tokens p.before
 
     accepted : G kind_of greatest_depth tree (front ++ (codes ";" ∷ []))
-    accepted = subst (λ z. G kind_of greatest_depth tree z) (ap tokens (split_unique (take n text) a.units (units_of p) a.split q.2) ∙ piece_tokens text n p) a.grammar
+    accepted = subst (λ z. G kind_of greatest_depth tree z) (ap only_tokens (split_unique (take n text) a.units (units_of p) a.split q.2) ∙ piece_tokens text n p) a.grammar
 
-    tokens_are : (vs : List (List ℕ)) → tokens (units_of p ++ vs) ≡ (front ++ (codes ";" ∷ [])) ++ tokens vs
-    tokens_are vs = tokens_join (units_of p) vs ∙ ap (λ z. z ++ tokens vs) (piece_tokens text n p)
+    tokens_are : (vs : List (List ℕ)) → only_tokens (units_of p ++ vs) ≡ (front ++ (codes ";" ∷ [])) ++ only_tokens vs
+    tokens_are vs = tokens_join (units_of p) vs ∙ ap (λ z. z ++ only_tokens vs) (piece_tokens text n p)
 
     onto_deeper : (e : ℕ) (ts : List (List ℕ)) → Begins kind_of e ts → (d : ℕ) × Begins kind_of d ((front ++ (codes ";" ∷ [])) ++ ts)
     onto_deeper e ts b = (
@@ -203,14 +205,14 @@ rest_refused text n at deep us p s fit (tree, a) r = go r
         ap length (scans_concat (units_of p) text (drop n text) p.scans) ∙ length-append (concat (units_of p)) (drop n text)
         ∙ ap (λ k. k + length (drop n text)) (concat_length (units_of p) ∙ sym p.place)
 
-    through : (hb : List (List ℕ)) (ht : List ℕ) (t : List (List ℕ)) → t ≡ (front ++ (codes ";" ∷ [])) ++ tokens hb → Through (tokens hb) ht deep → Through t ht deep
+    through : (hb : List (List ℕ)) (ht : List ℕ) (t : List (List ℕ)) → t ≡ (front ++ (codes ";" ∷ [])) ++ only_tokens hb → Through (only_tokens hb) ht deep → Through t ht deep
     through hb ht t e h =
-        let same : t ++ (ht ∷ []) ≡ (front ++ (codes ";" ∷ [])) ++ (tokens hb ++ (ht ∷ [])) = ap (λ z. z ++ (ht ∷ [])) e ∙ append_assoc (front ++ (codes ";" ∷ [])) (tokens hb) (ht ∷ []) in (
-          subst (λ z. Begins kind_of greatest_depth z) (sym e) (onto front greatest_depth tree (tokens hb) accepted h.0),
-          λ b. h.1 (behind front greatest_depth (tokens hb ++ (ht ∷ [])) (subst (λ z. Begins kind_of greatest_depth z) same b)),
+        let same : t ++ (ht ∷ []) ≡ (front ++ (codes ";" ∷ [])) ++ (only_tokens hb ++ (ht ∷ [])) = ap (λ z. z ++ (ht ∷ [])) e ∙ append_assoc (front ++ (codes ";" ∷ [])) (only_tokens hb) (ht ∷ []) in (
+          subst (λ z. Begins kind_of greatest_depth z) (sym e) (onto front greatest_depth tree (only_tokens hb) accepted h.0),
+          λ b. h.1 (behind front greatest_depth (only_tokens hb ++ (ht ∷ [])) (subst (λ z. Begins kind_of greatest_depth z) same b)),
           (
-            λ i. let x = h.2.0 i in let y = onto_deeper x.0 (tokens hb ++ (ht ∷ [])) x.1 in (y.0, subst (λ z. Begins kind_of y.0 z) (sym same) y.1),
-            λ x. h.2.1 (x.0, behind front x.0 (tokens hb ++ (ht ∷ [])) (subst (λ z. Begins kind_of x.0 z) same x.1)),
+            λ i. let x = h.2.0 i in let y = onto_deeper x.0 (only_tokens hb ++ (ht ∷ [])) x.1 in (y.0, subst (λ z. Begins kind_of y.0 z) (sym same) y.1),
+            λ x. h.2.1 (x.0, behind front x.0 (only_tokens hb ++ (ht ∷ [])) (subst (λ z. Begins kind_of x.0 z) same x.1)),
           ),
         )
 
@@ -221,17 +223,17 @@ rest_refused text n at deep us p s fit (tree, a) r = go r
         let place : n + at ≡ sum_by length (units_of p ++ h.before) =
         ap (λ k. k + at) p.place ∙ ap (λ k. sum_by length (units_of p) + k) h.place ∙ sym (sum_by-append length (units_of p) h.before) in
         inl (hopeless_at text (units_of p ++ h.before) h.token h.after (n + at) deep (subst (λ z. SplitsInto text z) whole s) (sym (ap (λ z. list_any is_too_large z) whole) ∙ fit) place h.is_one
-        (through h.before h.token (tokens (units_of p ++ h.before)) (tokens_are h.before) (h.hopeless.before, h.hopeless.through, h.hopeless.kind_is)))
+        (through h.before h.token (only_tokens (units_of p ++ h.before)) (tokens_are h.before) (h.hopeless.before, h.hopeless.through, h.hopeless.kind_is)))
     go (inr (h, e, d)) =
-        let same : tokens us ≡ (front ++ (codes ";" ∷ [])) ++ tokens h.units = ap tokens q.1 ∙ tokens_are q.0 ∙ ap (λ z. (front ++ (codes ";" ∷ [])) ++ tokens z) (split_unique (drop n text) q.0 h.units q.3 h.split) in
+        let same : only_tokens us ≡ (front ++ (codes ";" ∷ [])) ++ only_tokens h.units = ap only_tokens q.1 ∙ tokens_are q.0 ∙ ap (λ z. (front ++ (codes ";" ∷ [])) ++ only_tokens z) (split_unique (drop n text) q.0 h.units q.3 h.split) in
         inr (
           record {
             units = us;
             split = s;
             fitting = fit;
             unfinished = record {
-              before = subst (λ z. Begins kind_of greatest_depth z) (sym same) (onto front greatest_depth tree (tokens h.units) accepted h.unfinished.before);
-              not_whole = λ f g. let x = parts front greatest_depth f (tokens h.units) (subst (λ z. G kind_of greatest_depth f z) same g) in h.unfinished.not_whole x.1.0 x.1.1;
+              before = subst (λ z. Begins kind_of greatest_depth z) (sym same) (onto front greatest_depth tree (only_tokens h.units) accepted h.unfinished.before);
+              not_whole = λ f g. let x = parts front greatest_depth f (only_tokens h.units) (subst (λ z. G kind_of greatest_depth f z) same g) in h.unfinished.not_whole x.1.0 x.1.1;
             };
           },
           ap (λ k. n + k) e ∙ sym length_is,

@@ -12,9 +12,10 @@ use Rattle.cedar_tokens.proofs.Scanning.{listing_unique}
 use Rattle.cedar_grammar.specs.Texts.{Accepted}
 use Rattle.cedar_grammar.proofs.ListingTexts.{listing_texts}
 use Rattle.cedar_grammar.proofs.Relabelling.{map_map}
-use Rattle.cedar_tree.specs.Refusals.{Refuses}
+use Rattle.cedar_tree.specs.Refusals.{OutOfMemoryOr, Refuses}
 use Rattle.cedar_tree.specs.declared.error.FormatError.{FormatError}
 use Rattle.cedar_leaf_documents.specs.Kept.{KeepsTokens}
+use Rattle.cedar_leaf_documents.proofs.Keeping.{kept_bare}
 use Rattle.cedar_same_tokens.specs.SameTokens.{HasTheTokens, value_of}
 use Rattle.cedar_canonical.specs.Canonical.{IsOutputOf, OutputHasTheList, OutputIsAccepted}
 use Rattle.cedar_policy_formatter.specs.Texts.{plain_values}
@@ -27,7 +28,7 @@ bare_values : (ws : List WrappedToken) → map value_of ws ≡ map (λ (b : Toke
 bare_values ws = sym (map_map (λ (b : Token × Span). token_value (token_text b.0)) bare ws)
 
 kept_values : (old new : List WrappedToken) → KeepsTokens old new → map value_of old ≡ map value_of new
-kept_values old new k = bare_values old ∙ ap (map (λ (b : Token × Span). token_value (token_text b.0))) (sym k) ∙ sym (bare_values new)
+kept_values old new k = bare_values old ∙ ap (map (λ (b : Token × Span). token_value (token_text b.0))) (sym (kept_bare old new k)) ∙ sym (bare_values new)
 
 -- the values of a stream without trailing commas are those of the plain list
 stream_values : (text : List ℕ) (ws : List WrappedToken) (closing : List (List ℕ)) (l : Listing) → IsListing text l → IsPlainStream text ws closing → plain_values l ≡ map value_of ws
@@ -40,9 +41,9 @@ stream_values text ws closing l is_l s =
 
 -- the output has the tokens of the text's stream
 pub has_them : OutputHasTheList → OutputIsAccepted → (w : ℕ) (i : ℤ) (x y : List ℕ) (old new : List WrappedToken) (closing : List (List ℕ))
-    → IsUtf8 x → Accepted x → IsOutputOf w i x y → IsPlainStream x old closing → KeepsTokens old new → HasTheTokens y new
-has_them has_list is_accepted w i x y old new closing utf8 a o s k =
-    let b = (is_accepted w i x y utf8 a o).1 in
+    → IsUtf8 x → IsOutputOf w i x y → IsPlainStream x old closing → KeepsTokens old new → HasTheTokens y new
+has_them has_list is_accepted w i x y old new closing utf8 o s k =
+    let b = (is_accepted w i x y utf8 o).1 in
     let m = listing b.units in
     let is_m : IsListing y m = record { units = b.units; split = b.split; value = refl } in
     record {
@@ -54,9 +55,9 @@ has_them has_list is_accepted w i x y old new closing utf8 a o s k =
     }
 
 -- what is answered where an accepted text is laid out
-pub laid_out_answers : {A : Type 0} (P : A → Type 0) (x : List ℕ) (r : Result A FormatError) → Accepted x → MatchResult r P IsMemory → MatchResult r (λ _. Accepted x) (Refuses x)
+pub laid_out_answers : {A : Type 0} (P : A → Type 0) (x : List ℕ) (r : Result A FormatError) → Accepted x → MatchResult r P IsMemory → MatchResult r (λ _. Accepted x) (OutOfMemoryOr (Refuses x))
 laid_out_answers P x (Ok out) a m = a
-laid_out_answers P x (Err e) a m = subst (λ z. Refuses x z) (sym m) tt
+laid_out_answers P x (Err e) a m = subst (OutOfMemoryOr (Refuses x)) (sym m) tt
 
 pub laid_out_bytes : {A : Type 0} (P : A → Type 0) (r : Result A FormatError) → MatchResult r P IsMemory → IfOk r P
 laid_out_bytes P (Ok out) m = m

@@ -1,5 +1,5 @@
 -- An output is a text of its text's policies: their nodes with the spans that they have in the output are its tree.
-use Rattle.std.proofs.Common.{◌≡◌, ℕ, ℤ, Bool, true, false, List, [], ◌∷◌, map, refl, ap, sym, ◌∙◌, subst, append-nil}
+use Rattle.std.proofs.Common.{◌≡◌, ℕ, Bool, true, false, List, [], ◌∷◌, map, refl, ap, sym, ◌∙◌, subst, append-nil}
 use Rattle.std.specs.Prelude.{if◌then◌else◌, Option, Some, None}
 use Rattle.cedar_tokens.specs.Listing.{Decorated, Listing, IsListing, listing, token_value}
 use Rattle.cedar_tokens.specs.PlainList.{plain_list}
@@ -8,7 +8,7 @@ use Rattle.cedar_tokens.proofs.Scanning.{listing_unique}
 use Rattle.cedar_grammar.specs.Trees.{Label, Forest, none, leaf, branch, yield}
 use Rattle.cedar_grammar.specs.Grammar.{G}
 use Rattle.cedar_grammar.specs.TokenKinds.{kind_of}
-use Rattle.cedar_grammar.specs.Texts.{Accepted, greatest_depth, tokens}
+use Rattle.cedar_grammar.specs.Texts.{Accepted, greatest_depth, only_tokens}
 use Rattle.cedar_grammar.specs.Placed.{Placed, placed, kind_of_placed}
 use Rattle.cedar_grammar.specs.TrailingCommas.{plain, without_trailing}
 use Rattle.cedar_grammar.specs.Reader.Reading.{Answer, done, stuck}
@@ -22,12 +22,11 @@ use Rattle.cedar_grammar.proofs.Relabelling.{relabelled, relabel_yield, plain_ea
 use Rattle.cedar_grammar.proofs.ListingTexts.{listing_texts}
 use Rattle.cedar_tree.specs.Erased.{Erased, without_spans}
 use Rattle.cedar_tree.specs.NodeTrees.{IsTreeOf, is_node, span_of, spanned}
-use Rattle.cedar_tree.specs.Laws.{NodesHaveThePlainTexts, TreeIsOfAccepted}
-use Rattle.std.specs.Str.{IsUtf8}
-use Rattle.cedar_canonical.specs.Canonical.{IsOutputOf, OutputHasTheList, OutputIsAccepted}
+use Rattle.cedar_tree.specs.Laws.{NodesHaveThePlainTexts}
+use Rattle.cedar_canonical.specs.Canonical.{OutputHasTheList, OutputIsAccepted}
 use Rattle.cedar_canonical.proofs.Grammatical.{value_kind}
-use Rattle.cedar_policy_formatter.specs.Texts.{HasNodes, KeepsPolicies, KeptPoliciesHaveTheSameTokens, plain_values}
-use Rattle.cedar_policy_formatter.specs.OutputPolicies.{OutputsKeepThePolicies}
+use Rattle.cedar_policy_formatter.specs.Texts.{HasNodes, KeptPoliciesHaveTheSameTokens, plain_values}
+use Rattle.cedar_policy_formatter.specs.OutputPolicies.{OutputsKeepThePolicies, OutputsKeepTheTrees}
 use Rattle.cedar_policy_formatter.proofs.SamePolicies.{value_of, spanless, same_values, same_policies}
 use Rattle.cedar_tree.proofs.NodeLaws.{placed_texts}
 use Rattle.cedar_tree.proofs.Respanned.{Alike, no_trees, a_leaf, a_node, a_variant, respanned}
@@ -83,7 +82,7 @@ spanned_alike (branch l f h) (branch m g k) e =
 
 -- ---- the tree of an accepted text with places
 
-placed_tree : (units : List (List ℕ)) (f : Forest Label (List ℕ)) → G kind_of greatest_depth f (tokens units) → (g : Forest Label Placed) × G kind_of_placed greatest_depth g (placed units)
+placed_tree : (units : List (List ℕ)) (f : Forest Label (List ℕ)) → G kind_of greatest_depth f (only_tokens units) → (g : Forest Label Placed) × G kind_of_placed greatest_depth g (placed units)
 placed_tree units f a = go (set_to kind_of_placed greatest_depth (placed units)) refl (sym agrees ∙ read)
   where
     read : set_to kind_of greatest_depth (each text_of (placed units)) ≡ done f []
@@ -112,9 +111,9 @@ values_tree units f a =
 
 -- ---- the law
 
-pub outputs_keep_the_policies : TreeIsOfAccepted → NodesHaveThePlainTexts → OutputIsAccepted → OutputHasTheList → OutputsKeepThePolicies
-outputs_keep_the_policies is_accepted texts accepted has_list w i x y p u o t =
-    let a = accepted w i x y u (is_accepted x p t) o in
+pub outputs_keep_the_policies : NodesHaveThePlainTexts → OutputIsAccepted → OutputHasTheList → OutputsKeepThePolicies
+outputs_keep_the_policies texts accepted has_list w i x y p u o t =
+    let a = accepted w i x y u o in
     let units = (a.1).units in
     let f = placed_tree units a.0 (a.1).grammar in
     let fx = without_trailing kind_of_placed t.tree in
@@ -151,10 +150,10 @@ values_are text f l x is_list =
     ap plain_values (listing_unique text l (listing x.units) is_list lx) ∙ sym (values_tree x.units x.tree x.grammar).leaves
 
 -- an output has the policies of its text
-pub output_keeps_policies : OutputIsAccepted → OutputHasTheList → (w : ℕ) (i : ℤ) (x y : List ℕ) → IsUtf8 x → Accepted x → IsOutputOf w i x y → KeepsPolicies x y
-output_keeps_policies accepted has_list w i x y u a o =
-    let f = nodes_of_accepted x a in
-    let g = nodes_of_accepted y (accepted w i x y u a o) in
+pub outputs_keep_the_trees : OutputIsAccepted → OutputHasTheList → OutputsKeepTheTrees
+outputs_keep_the_trees accepted has_list w i x y u o =
+    let f = nodes_of_accepted x o.accepted in
+    let g = nodes_of_accepted y (accepted w i x y u o) in
     let ly : IsListing y (listing g.1.units) = record { units = g.1.units; split = g.1.split; value = refl } in
     let lx : IsListing x (listing f.1.units) = record { units = f.1.units; split = f.1.split; value = refl } in
     let same : plain_values (listing f.1.units) ≡ plain_values (listing g.1.units) =

@@ -4,6 +4,7 @@ use Rattle.std.specs.Prelude.{IsSomeAnd}
 use Rattle.std.specs.List.{flat_map}
 use Rattle.std.proofs.lemmas.List.{append_assoc, map-append}
 use Rattle.cedar_grammar.specs.Trees.{Label}
+use Rattle.cedar_grammar.specs.Texts.{Accepted}
 use Rattle.cedar_grammar.specs.TypedTrees.{Clause, policy, part_parts, part_yield, policy_trees}
 use Rattle.cedar_layout.specs.Cleaning.{IsCleaned}
 use Rattle.cedar_layout.specs.Layout.{IsTheLayoutAt}
@@ -16,10 +17,11 @@ use Rattle.cedar_tree.specs.declared.tree.Policy.{Policy}
 use Rattle.cedar_canonical.specs.Leaves.{part_map}
 use Rattle.cedar_leaf_documents.specs.NodeDocuments.{IsAt, as_leaf, kind_of_shown, nodes_of}
 use Rattle.cedar_policy_documents.specs.PartDocuments.{IsPartOf, part_document}
-use Rattle.cedar_canonical.specs.Output.{PolicyTexts, join}
+use Rattle.cedar_canonical.specs.Output.{PolicyTexts, paragraphs}
 use Rattle.cedar_leaf_documents.proofs.Opened.{opened, part_at}
 use Rattle.cedar_canonical.specs.Output.{closing_text}
 use Rattle.cedar_canonical.specs.Canonical.{IsOutputOf}
+use Rattle.cedar_canonical.proofs.Grammatical.{grammar_of}
 use Rattle.cedar_documents.proofs.StreamTrees.{policies_over}
 use Rattle.cedar_grammar.proofs.Relabelling.{map_map}
 use Rattle.cedar_layout.specs.Lookups.{shown}
@@ -43,9 +45,9 @@ cleaned_layout w i p d empty rendered text out e b (t, l, r) f k = (t, subst (λ
 -- ---- one policy after the other
 
 -- one more text behind others, of which there are some
-join_more : (t u : List ℕ) (ts : List (List ℕ)) → join ((t ∷ ts) ++ (u ∷ [])) ≡ join (t ∷ ts) ++ (10 ∷ (10 ∷ u))
+join_more : (t u : List ℕ) (ts : List (List ℕ)) → paragraphs ((t ∷ ts) ++ (u ∷ [])) ≡ paragraphs (t ∷ ts) ++ (10 ∷ (10 ∷ u))
 join_more t u [] = refl
-join_more t u (x ∷ xs) = ap (λ z. t ++ (10 ∷ (10 ∷ z))) (join_more x u xs) ∙ sym (append_assoc t (10 ∷ (10 ∷ join (x ∷ xs))) (10 ∷ (10 ∷ u)))
+join_more t u (x ∷ xs) = ap (λ z. t ++ (10 ∷ (10 ∷ z))) (join_more x u xs) ∙ sym (append_assoc t (10 ∷ (10 ∷ paragraphs (x ∷ xs))) (10 ∷ (10 ∷ u)))
 
 texts_more : (w : ℕ) (i : ℤ) (ps : List (Clause Shown policy)) (ts : List (List ℕ)) (p : Clause Shown policy) (t : List ℕ) → PolicyTexts (IsTheLayoutAt w) i (map (part_map as_leaf) ps) ts → IsPolicyText w i p t
     → PolicyTexts (IsTheLayoutAt w) i (map (part_map as_leaf) (ps ++ (p ∷ []))) (ts ++ (t ∷ []))
@@ -71,18 +73,18 @@ pub record JoinedSoFar (w : ℕ) (i : ℤ) (all : List (Clause Shown policy)) (r
   pub state : now ≡ map emptied (flat_map part_yield done) ++ flat_map part_yield left
   pub texts : List (List ℕ)
   pub cleaned : PolicyTexts (IsTheLayoutAt w) i (map (part_map as_leaf) done) texts
-  pub written : out ≡ join texts
+  pub written : out ≡ paragraphs texts
   pub is_first : IsNone texts first
 
 module _ (w : ℕ) (i : ℤ) (all : List (Clause Shown policy)) where
   pub joined_begun : (rest : List (Node Policy)) (now : List Shown) (out : List ℕ) → out ≡ [] → erased.policy_trees rest ≡ nodes_of (policy_trees kind_of_shown all) → now ≡ flat_map part_yield all → JoinedSoFar w i all rest now out true
   joined_begun rest now out e n s = record { done = []; left = all; parts = refl; nodes = n; state = s; texts = []; cleaned = tt; written = e; is_first = refl }
 
-  written_more : (texts : List (List ℕ)) (first : Bool) (out parted t : List ℕ) → IsNone texts first → out ≡ join texts → IsParted first out parted → parted ++ t ≡ join (texts ++ (t ∷ []))
+  written_more : (texts : List (List ℕ)) (first : Bool) (out parted t : List ℕ) → IsNone texts first → out ≡ paragraphs texts → IsParted first out parted → parted ++ t ≡ paragraphs (texts ++ (t ∷ []))
   written_more [] true out parted t f e h = ap (λ z. z ++ t) (h ∙ e)
   written_more [] false out parted t f e h = absurd cc
   written_more (x ∷ xs) true out parted t f e h = absurd cc
-  written_more (x ∷ xs) false out parted t f e h = ap (λ z. z ++ t) (h ∙ ap (λ z. z ++ (10 ∷ (10 ∷ []))) e) ∙ append_assoc (join (x ∷ xs)) (10 ∷ (10 ∷ [])) t ∙ sym (join_more x t xs)
+  written_more (x ∷ xs) false out parted t f e h = ap (λ z. z ++ t) (h ∙ ap (λ z. z ++ (10 ∷ (10 ∷ []))) e) ∙ append_assoc (paragraphs (x ∷ xs)) (10 ∷ (10 ∷ [])) t ∙ sym (join_more x t xs)
 
   some_texts : (texts : List (List ℕ)) (t : List ℕ) → IsNone (texts ++ (t ∷ [])) false
   some_texts [] t = refl
@@ -131,17 +133,17 @@ module _ (w : ℕ) (i : ℤ) (all : List (Clause Shown policy)) where
 
 -- ---- the whole text
 
-pub output_of : (w : ℕ) (i : ℤ) (text : List ℕ) (p : Policies) (tokens : List WrappedToken) (closing : List (List ℕ)) (joined out : List ℕ) → IsUtf8 text → IsTreeOf text p → IsPlainStream text tokens closing
+pub output_of : (w : ℕ) (i : ℤ) (text : List ℕ) (p : Policies) (tokens : List WrappedToken) (closing : List (List ℕ)) (joined out : List ℕ) → IsUtf8 text → Accepted text → IsTreeOf text p → IsPlainStream text tokens closing
     → ((ps : List (Clause Shown policy)) → erased.policy_trees p.policies.items ≡ nodes_of (policy_trees kind_of_shown ps) → map shown tokens ≡ flat_map part_yield ps → AreJoined w i ps joined)
     → out ≡ joined ++ (10 ∷ closing_text closing) → IsOutputOf w i text out
-output_of w i text p tokens closing joined out utf8 t s h e =
+output_of w i text p tokens closing joined out utf8 accepted t s h e =
     let o = policies_over text p s.list s.all tokens utf8 t s.is_list s.listed s.spans s.plain s.kept in
     let j = h o.policies o.nodes (sym o.leaves) in
     record {
+      accepted = accepted;
       list = s.list;
       is_list = s.is_list;
       policies = map (part_map as_leaf) o.policies;
-      trees = o.trees;
-      leaves = o.tokens ∙ map_map as_leaf shown tokens ∙ s.plain ∙ ap plain_list (sym s.listed);
-      output = record { texts = j.0; cleaned = j.1; written = e ∙ ap (λ z. z ++ (10 ∷ closing_text closing)) j.2 ∙ ap (λ z. join j.0 ++ (10 ∷ closing_text z)) (sym s.closed) };
+      grammar = grammar_of (map (part_map as_leaf) o.policies) (plain_list s.list.tokens) o.trees (o.tokens ∙ map_map as_leaf shown tokens ∙ s.plain ∙ ap plain_list (sym s.listed));
+      output = record { texts = j.0; cleaned = j.1; written = e ∙ ap (λ z. z ++ (10 ∷ closing_text closing)) j.2 ∙ ap (λ z. paragraphs j.0 ++ (10 ∷ closing_text z)) (sym s.closed) };
     }

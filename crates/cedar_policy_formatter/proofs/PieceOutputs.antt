@@ -17,7 +17,7 @@ use Rattle.cedar_grammar.specs.Trees as F
 use Rattle.cedar_grammar.specs.Languages.{Many, no_more, one_more}
 use Rattle.cedar_grammar.specs.Grammar.{Policy}
 use Rattle.cedar_grammar.specs.Laws.{kind_of_decorated}
-use Rattle.cedar_grammar.specs.Texts.{greatest_depth, tokens}
+use Rattle.cedar_grammar.specs.Texts.{Accepted, greatest_depth, only_tokens}
 use Rattle.cedar_grammar.specs.TrailingCommas.{without_trailing}
 use Rattle.cedar_grammar.specs.TypedTrees.{Clause, policy, policy_trees, set_tree, part_parts, part_yield, policy_of, no_annotation, annotations_more, annotation_bare, annotation_value}
 use Rattle.cedar_grammar.proofs.FittingLeaves.{is_atom, PartFits}
@@ -25,10 +25,11 @@ use Rattle.cedar_grammar.proofs.ReadingLaws.{join_assoc}
 use Rattle.cedar_grammar.proofs.TextKinds.{closing_agrees}
 use Rattle.cedar_grammar.proofs.TreeLaws.{typed_tree_is_unique, typed_leaves_agree}
 use Rattle.cedar_grammar.proofs.TypedPolicies.{typed_set}
-use Rattle.cedar_canonical.specs.Output.{join, closing_text, PolicyTexts, tokens_of}
+use Rattle.cedar_canonical.specs.Output.{paragraphs, closing_text, PolicyTexts, tokens_of}
 use Rattle.cedar_canonical.specs.GrammarTrees.{IsTree}
 use Rattle.cedar_canonical.specs.Canonical.{IsOutputOf}
 use Rattle.cedar_canonical.proofs.FittingTrees.{AllTokens}
+use Rattle.cedar_canonical.proofs.Grammatical.{trees_of, leaves_of, grammar_of}
 use Rattle.cedar_pieces.specs.Pieces.{IsPiece}
 use Rattle.cedar_pieces.proofs.Lists.{lists_follow, piece_ends, begins_trailing, plain_follow, plain_begins, plain_empty, comments_alone}
 
@@ -148,17 +149,17 @@ no_texts : (laid : Doc → List ℕ → Type 0) (i : ℤ) (ps : List (Clause Dec
 no_texts laid i [] a = refl
 no_texts laid i (p ∷ ps) a = absurd a
 
-join_more : (ts us : List (List ℕ)) → (ts ≡ [] → ⊥) → (us ≡ [] → ⊥) → join (ts ++ us) ≡ join ts ++ (10 ∷ (10 ∷ join us))
+join_more : (ts us : List (List ℕ)) → (ts ≡ [] → ⊥) → (us ≡ [] → ⊥) → paragraphs (ts ++ us) ≡ paragraphs ts ++ (10 ∷ (10 ∷ paragraphs us))
 join_more [] us a b = absurd (a refl)
 join_more (t ∷ []) [] a b = absurd (b refl)
 join_more (t ∷ []) (u ∷ us) a b = refl
-join_more (t ∷ (s ∷ ts)) us a b = ap (λ z. t ++ (10 ∷ (10 ∷ z))) (join_more (s ∷ ts) us (λ e. absurd cc) b) ∙ sym (append_assoc t (10 ∷ (10 ∷ join (s ∷ ts))) (10 ∷ (10 ∷ join us)))
+join_more (t ∷ (s ∷ ts)) us a b = ap (λ z. t ++ (10 ∷ (10 ∷ z))) (join_more (s ∷ ts) us (λ e. absurd cc) b) ∙ sym (append_assoc t (10 ∷ (10 ∷ paragraphs (s ∷ ts))) (10 ∷ (10 ∷ paragraphs us)))
 
 -- an output of a list that has tokens has a text
 has_text : (w : ℕ) (i : ℤ) (x y : List ℕ) (o : IsOutputOf w i x y) → (o.list.tokens ≡ [] → ⊥) → o.output.texts ≡ [] → ⊥
 has_text w i x y o h e =
     let p : o.policies ≡ [] = no_texts (IsTheLayoutAt w) i o.policies (subst (λ z. PolicyTexts (IsTheLayoutAt w) i o.policies z) e o.output.cleaned) in
-    h (plain_empty o.list.tokens (sym o.leaves ∙ ap tokens_of p))
+    h (plain_empty o.list.tokens (sym (leaves_of o) ∙ ap tokens_of p))
 
 -- ---- outputs
 
@@ -167,24 +168,25 @@ has_last [] t h = absurd cc
 has_last (x ∷ ts) t h = absurd cc
 
 -- behind a piece's output stands that of the rest, if that has tokens, with an empty line between
-pub outputs_follow : (w : ℕ) (i : ℤ) (text : List ℕ) (n : ℕ) (y z : List ℕ) → IsPiece text n → IsOutputOf w i (take n text) y → (b : IsOutputOf w i (drop n text) z) → (b.list.tokens ≡ [] → ⊥) → IsOutputOf w i text (y ++ (10 ∷ z))
-outputs_follow w i text n y z p a b more =
+pub outputs_follow : (w : ℕ) (i : ℤ) (text : List ℕ) (n : ℕ) (y z : List ℕ) → Accepted text → IsPiece text n → IsOutputOf w i (take n text) y → (b : IsOutputOf w i (drop n text) z) → (b.list.tokens ≡ [] → ⊥) → IsOutputOf w i text (y ++ (10 ∷ z))
+outputs_follow w i text n y z c p a b more =
     let e = piece_ends text n a.list p a.is_list in
     let s = e.1.2 in
     let parts : plain_list (a.list.tokens ++ b.list.tokens) ≡ plain_list a.list.tokens ++ plain_list b.list.tokens =
-    subst (λ l. plain_list (l ++ b.list.tokens) ≡ plain_list l ++ plain_list b.list.tokens) (sym s) (plain_follow e.1.0 e.1.1 b.list.tokens e.1.3 (first_stays b.policies b.list.tokens b.trees b.leaves)) in
+    subst (λ l. plain_list (l ++ b.list.tokens) ≡ plain_list l ++ plain_list b.list.tokens) (sym s) (plain_follow e.1.0 e.1.1 b.list.tokens e.1.3 (first_stays b.policies b.list.tokens (trees_of b) (leaves_of b))) in
     let some : a.list.tokens ≡ [] → ⊥ = λ h. has_last e.1.0 e.1.1 (sym s ∙ h) in
-    let front : y ≡ join a.output.texts ++ (10 ∷ []) = a.output.written ∙ ap (λ c. join a.output.texts ++ (10 ∷ closing_text c)) e.0 in
-    let back : y ++ (10 ∷ z) ≡ join (a.output.texts ++ b.output.texts) ++ (10 ∷ closing_text b.list.closing) =
-    ap (λ v. v ++ (10 ∷ z)) front ∙ (append_assoc (join a.output.texts) (10 ∷ []) (10 ∷ z) ∙ (ap (λ v. join a.output.texts ++ (10 ∷ (10 ∷ v))) b.output.written
-    ∙ (sym (append_assoc (join a.output.texts) (10 ∷ (10 ∷ join b.output.texts)) (10 ∷ closing_text b.list.closing))
+    let front : y ≡ paragraphs a.output.texts ++ (10 ∷ []) = a.output.written ∙ ap (λ c. paragraphs a.output.texts ++ (10 ∷ closing_text c)) e.0 in
+    let back : y ++ (10 ∷ z) ≡ paragraphs (a.output.texts ++ b.output.texts) ++ (10 ∷ closing_text b.list.closing) =
+    ap (λ v. v ++ (10 ∷ z)) front ∙ (append_assoc (paragraphs a.output.texts) (10 ∷ []) (10 ∷ z) ∙ (ap (λ v. paragraphs a.output.texts ++ (10 ∷ (10 ∷ v))) b.output.written
+    ∙ (sym (append_assoc (paragraphs a.output.texts) (10 ∷ (10 ∷ paragraphs b.output.texts)) (10 ∷ closing_text b.list.closing))
     ∙ ap (λ v. v ++ (10 ∷ closing_text b.list.closing)) (sym (join_more a.output.texts b.output.texts (has_text w i (take n text) y a some) (has_text w i (drop n text) z b more)))))) in
     record {
+      accepted = c;
       list = record { tokens = a.list.tokens ++ b.list.tokens; closing = b.list.closing };
       is_list = lists_follow text n a.list b.list p a.is_list b.is_list;
       policies = a.policies ++ b.policies;
-      trees = trees_join a.policies b.policies a.trees b.trees;
-      leaves = tokens_join a.policies b.policies ∙ (ap (λ l. l ++ tokens_of b.policies) a.leaves ∙ (ap (λ l. plain_list a.list.tokens ++ l) b.leaves ∙ sym parts));
+      grammar = grammar_of (a.policies ++ b.policies) (plain_list (a.list.tokens ++ b.list.tokens)) (trees_join a.policies b.policies (trees_of a) (trees_of b))
+          (tokens_join a.policies b.policies ∙ (ap (λ l. l ++ tokens_of b.policies) (leaves_of a) ∙ (ap (λ l. plain_list a.list.tokens ++ l) (leaves_of b) ∙ sym parts)));
       output = record {
         texts = a.output.texts ++ b.output.texts;
         cleaned = texts_join (IsTheLayoutAt w) i a.policies b.policies a.output.texts b.output.texts a.output.cleaned b.output.cleaned;
@@ -193,39 +195,35 @@ outputs_follow w i text n y z p a b more =
     }
 
 -- the output of a text of two pieces: an empty line stands between their outputs' policies
-pub outputs_join : (w : ℕ) (i : ℤ) (text : List ℕ) (n : ℕ) (y z : List ℕ) → IsPiece text n → ((m : ℕ) × IsPiece (drop n text) m × (m ≡ length (drop n text))) → IsOutputOf w i (take n text) y → IsOutputOf w i (drop n text) z → IsOutputOf w i text (y ++ (10 ∷ z))
-outputs_join w i text n y z p (m, q, e) a b =
+pub outputs_join : (w : ℕ) (i : ℤ) (text : List ℕ) (n : ℕ) (y z : List ℕ) → Accepted text → IsPiece text n → ((m : ℕ) × IsPiece (drop n text) m × (m ≡ length (drop n text))) → IsOutputOf w i (take n text) y → IsOutputOf w i (drop n text) z → IsOutputOf w i text (y ++ (10 ∷ z))
+outputs_join w i text n y z c p (m, q, e) a b =
     let whole : take m (drop n text) ≡ drop n text = take_all m (drop n text) (omega (arith, e)) in
     let l = piece_ends (drop n text) m b.list q (subst (λ x. IsListing x b.list) (sym whole) b.is_list) in
-    outputs_follow w i text n y z p a b (λ h. has_last l.1.0 l.1.1 (sym l.1.2 ∙ h))
+    outputs_follow w i text n y z c p a b (λ h. has_last l.1.0 l.1.1 (sym l.1.2 ∙ h))
 
 -- where no token stands behind the piece, its closing comments do
-pub outputs_close : (w : ℕ) (i : ℤ) (text : List ℕ) (n : ℕ) (us : List (List ℕ)) (y : List ℕ) → IsPiece text n → SplitsInto (drop n text) us → tokens us ≡ [] → IsOutputOf w i (take n text) y → IsOutputOf w i text (y ++ closing_text (comments (drop n text)))
-outputs_close w i text n us y p s h a =
+pub outputs_close : (w : ℕ) (i : ℤ) (text : List ℕ) (n : ℕ) (us : List (List ℕ)) (y : List ℕ) → Accepted text → IsPiece text n → SplitsInto (drop n text) us → only_tokens us ≡ [] → IsOutputOf w i (take n text) y → IsOutputOf w i text (y ++ closing_text (comments (drop n text)))
+outputs_close w i text n us y c p s h a =
     let cs = comments (drop n text) in
     let e = piece_ends text n a.list p a.is_list in
     let l = lists_follow text n a.list (record { tokens = []; closing = cs }) p a.is_list (comments_alone (drop n text) us s h) in
-    let front : y ≡ join a.output.texts ++ (10 ∷ []) = a.output.written ∙ ap (λ c. join a.output.texts ++ (10 ∷ closing_text c)) e.0 in
+    let front : y ≡ paragraphs a.output.texts ++ (10 ∷ []) = a.output.written ∙ ap (λ c. paragraphs a.output.texts ++ (10 ∷ closing_text c)) e.0 in
     record {
+      accepted = c;
       list = record { tokens = a.list.tokens; closing = cs };
       is_list = subst (λ ts. IsListing text (record { tokens = ts; closing = cs })) (append-nil a.list.tokens) l;
       policies = a.policies;
-      trees = a.trees;
-      leaves = a.leaves;
-      output = record { texts = a.output.texts; cleaned = a.output.cleaned; written = ap (λ v. v ++ closing_text cs) front ∙ append_assoc (join a.output.texts) (10 ∷ []) (closing_text cs) };
+      grammar = a.grammar;
+      output = record { texts = a.output.texts; cleaned = a.output.cleaned; written = ap (λ v. v ++ closing_text cs) front ∙ append_assoc (paragraphs a.output.texts) (10 ∷ []) (closing_text cs) };
     }
 
--- no policies are a tree
-no_tree : IsTree []
-no_tree = record { tokens = tt; grammar = record { shape = (none, refl, no_more none refl); leaves = refl }; plain = refl }
-
 -- a text without tokens has only closing comments
-pub closing_output : (w : ℕ) (i : ℤ) (text : List ℕ) (us : List (List ℕ)) → SplitsInto text us → tokens us ≡ [] → IsOutputOf w i text (10 ∷ closing_text (comments text))
-closing_output w i text us s h = record {
+pub closing_output : (w : ℕ) (i : ℤ) (text : List ℕ) (us : List (List ℕ)) → Accepted text → SplitsInto text us → only_tokens us ≡ [] → IsOutputOf w i text (10 ∷ closing_text (comments text))
+closing_output w i text us c s h = record {
+  accepted = c;
   list = record { tokens = []; closing = comments text };
   is_list = comments_alone text us s h;
   policies = [];
-  trees = no_tree;
-  leaves = refl;
+  grammar = record { shape = (none, refl, no_more none refl); leaves = refl };
   output = record { texts = []; cleaned = tt; written = refl };
 }

@@ -9,9 +9,10 @@ use Rattle.cedar_tokens.specs.Split.{SplitsInto}
 use Rattle.cedar_tokens.specs.Listing.{comments}
 use Rattle.cedar_tokens.proofs.Scanning.{fault_prevents, split_unique}
 use Rattle.cedar_grammar.specs.Numbers.{is_too_large}
-use Rattle.cedar_grammar.specs.Texts.{Accepted, IsRefused}
+use Rattle.cedar_grammar.specs.Texts.{Accepted, LeavesGrammar}
+use Rattle.cedar_grammar.proofs.Leaving.{leaves_grammar, is_refused}
 use Rattle.cedar_grammar.proofs.TextLaws.{fit_part}
-use Rattle.cedar_tree.specs.Refusals.{Refuses}
+use Rattle.cedar_tree.specs.Refusals.{OutOfMemoryOr, Refuses}
 use Rattle.cedar_tree.specs.declared.error.FormatError.{FormatError}
 use Rattle.cedar_tree.specs.declared.error.FormatError.TheVariants.{UnknownCharacter, UnfinishedString, NumberTooLarge, Grammar, TooDeep, NoDocument, Unsound, OutOfMemory}
 use Rattle.cedar_canonical.specs.Canonical.{IsOutputOf}
@@ -67,7 +68,7 @@ module _ (w : ℕ) (i : ℤ) (text : List ℕ) where
         omega (arith, b),
         piece_more text at n p q,
         accepted,
-        subst (λ x. IsOutputOf w i t x) (sym joined) (outputs_join w i t at out z s whole (subst (λ x. IsOutputOf w i x out) (sym front) o) (subst (λ x. IsOutputOf w i x z) (sym back) r)),
+        subst (λ x. IsOutputOf w i t x) (sym joined) (outputs_join w i t at out z accepted s whole (subst (λ x. IsOutputOf w i x out) (sym front) o) (subst (λ x. IsOutputOf w i x z) (sym back) r)),
       )
 
   -- what stands behind the last piece
@@ -76,16 +77,18 @@ module _ (w : ℕ) (i : ℤ) (text : List ℕ) where
   laid_ends at out new u (inl (b, e)) n a h =
       let r = rest_is_empty text (subst (λ k. HasNoPiece (drop k text)) b n) (subst (λ k. Accepted (drop k text)) b a) in
       let first : new ≡ 10 ∷ closing_text (comments text) = h ∙ (ap (λ k. out ++ behind_feed (k == 0) (closing_text (comments (drop k text)))) b ∙ ap (λ x. x ++ (10 ∷ closing_text (comments text))) e) in
-      (accepted_empty text r.0 r.1 r.2 r.3, subst (λ x. IsOutputOf w i text x) (sym first) (closing_output w i text r.0 r.1 r.2))
+      let accepted = accepted_empty text r.0 r.1 r.2 r.3 in
+      (accepted, subst (λ x. IsOutputOf w i text x) (sym first) (closing_output w i text r.0 accepted r.1 r.2))
   laid_ends at out new u (inr (b, p, c, o)) n a h =
       let r = rest_is_empty (drop at text) n a in
       let more : new ≡ out ++ closing_text (comments (drop at text)) = h ∙ ap (λ k. out ++ behind_feed k (closing_text (comments (drop at text)))) (no_first at b) in
-      (accepted_join text at p c a, subst (λ x. IsOutputOf w i text x) (sym more) (outputs_close w i text at r.0 out p r.1 r.2 o))
+      let accepted = accepted_join text at p c a in
+      (accepted, subst (λ x. IsOutputOf w i text x) (sym more) (outputs_close w i text at r.0 out accepted p r.1 r.2 o))
 
 -- ---- what is refused
 
 -- where a text splits and its numbers fit, only the grammar refuses it
-only_grammar : (x y : List ℕ) (k : ℕ) (vs : List (List ℕ)) → SplitsInto x vs → list_any is_too_large vs ≡ false → ((p : ℕ) (deep : Bool) → IsRefused x p deep → IsRefused y (k + p) deep) → (e : FormatError) → Refuses x e → Refuses y (moved k e)
+only_grammar : (x y : List ℕ) (k : ℕ) (vs : List (List ℕ)) → SplitsInto x vs → list_any is_too_large vs ≡ false → ((p : ℕ) (deep : Bool) → LeavesGrammar x p deep → LeavesGrammar y (k + p) deep) → (e : FormatError) → OutOfMemoryOr (Refuses x) e → OutOfMemoryOr (Refuses y) (moved k e)
 only_grammar x y k vs s f h (UnknownCharacter p) r = absurd (fault_prevents x p r.0 (vs, s))
 only_grammar x y k vs s f h (UnfinishedString p) r = absurd (fault_prevents x p r.0 (vs, s))
 only_grammar x y k vs s f h (NumberTooLarge p) r = absurd (fit_part r.before r.number r.after (ap (list_any is_too_large) (split_unique x (r.before ++ (r.number ∷ r.after)) vs r.split s) ∙ f) r.large)
@@ -101,28 +104,29 @@ module _ (w : ℕ) (i : ℤ) (text : List ℕ) (u : HasTokens text) (at : ℕ) (
   rest_fits (inl (b, e)) = subst (λ k. (vs : List (List ℕ)) × SplitsInto (drop k text) vs × (list_any is_too_large vs ≡ false)) (sym b) (u.units, u.split, u.fitting)
   rest_fits (inr (b, p, a, o)) = (parts_fit text at u.units p u.split u.fitting).1
 
-  rest_moves : LaidOut w i text at out → (p : ℕ) (deep : Bool) → IsRefused (drop at text) p deep → IsRefused text (at + p) deep
+  rest_moves : LaidOut w i text at out → (p : ℕ) (deep : Bool) → LeavesGrammar (drop at text) p deep → LeavesGrammar text (at + p) deep
   rest_moves (inl (b, e)) p deep r =
-      let z : IsRefused text p deep = subst (λ k. IsRefused (drop k text) p deep) b r in
+      let z : LeavesGrammar text p deep = subst (λ k. LeavesGrammar (drop k text) p deep) b r in
       let same : p ≡ at + p = omega (arith, b) in
-      subst (λ k. IsRefused text k deep) same z
-  rest_moves (inr (b, q, a, o)) p deep r = rest_refused text at p deep u.units q u.split u.fitting a r
+      subst (λ k. LeavesGrammar text k deep) same z
+  rest_moves (inr (b, q, a, o)) p deep r =
+      leaves_grammar text (at + p) deep (rest_refused text at p deep u.units q u.split u.fitting a (is_refused (drop at text) p deep r))
 
-  pub rest_fails : LaidOut w i text at out → (e : FormatError) → Refuses (drop at text) e → Refuses text (moved at e)
+  pub rest_fails : LaidOut w i text at out → (e : FormatError) → OutOfMemoryOr (Refuses (drop at text)) e → OutOfMemoryOr (Refuses text) (moved at e)
   rest_fails l e r = let f = rest_fits l in only_grammar (drop at text) text at f.0 f.1 f.2 (rest_moves l) e r
 
-  pub piece_fails : (n : ℕ) → LaidOut w i text at out → IsPiece (drop at text) n → (e : FormatError) → Refuses (take n (drop at text)) e → Refuses text (moved at e)
+  pub piece_fails : (n : ℕ) → LaidOut w i text at out → IsPiece (drop at text) n → (e : FormatError) → OutOfMemoryOr (Refuses (take n (drop at text))) e → OutOfMemoryOr (Refuses text) (moved at e)
   piece_fails n l q e r =
       let f = rest_fits l in
       let g = (parts_fit (drop at text) n f.0 q f.1 f.2).0 in
-      only_grammar (take n (drop at text)) text at g.0 g.1 g.2 (λ p deep h. rest_moves l p deep (piece_refused (drop at text) n p deep f.0 q f.1 f.2 h)) e r
+      only_grammar (take n (drop at text)) text at g.0 g.1 g.2 (λ p deep h. rest_moves l p deep
+      (leaves_grammar (drop at text) p deep (piece_refused (drop at text) n p deep f.0 q f.1 f.2 (is_refused (take n (drop at text)) p deep h)))) e r
 
 -- a text is refused within it or at its end
-refused_within : (x : List ℕ) (p : ℕ) (deep : Bool) → IsRefused x p deep → p ≤ length x
-refused_within x p deep (inl h) = omega (arith, h.place, units_length (h.before ++ (h.token ∷ h.after)) x h.split, sum_by-append length h.before (h.token ∷ h.after))
-refused_within x p deep (inr (h, e, k)) = omega (arith, e)
+refused_within : (x : List ℕ) (p : ℕ) (deep : Bool) → LeavesGrammar x p deep → p ≤ length x
+refused_within x p deep h = omega (arith, h.place, units_length (h.before ++ h.after) x h.split, sum_by-append length h.before h.after)
 
-pub placed_within : (x : List ℕ) (m : ℕ) (e : FormatError) → length x ≡ m → Refuses x e → IsPlacedWithin m e
+pub placed_within : (x : List ℕ) (m : ℕ) (e : FormatError) → length x ≡ m → OutOfMemoryOr (Refuses x) e → IsPlacedWithin m e
 placed_within x m (UnknownCharacter p) l r = tt
 placed_within x m (UnfinishedString p) l r = tt
 placed_within x m (NumberTooLarge p) l r = tt

@@ -4,8 +4,12 @@ use Rattle.std.specs.Str.{IsUtf8}
 use Rattle.cedar_tree.specs.declared.tree.Policies.{Policies}
 use Rattle.cedar_tree.specs.NodeTrees.{IsTreeOf}
 use Rattle.cedar_canonical.specs.Canonical.{IsOutputOf}
-use Rattle.cedar_policy_formatter.specs.Texts.{IsTextOf}
+use Rattle.cedar_policy_formatter.specs.Texts.{IsTextOf, KeepsPolicies}
 
 -- an output of a text is a text of its policies: it is accepted, and its tree of nodes is the text's but for spans
 abbrev pub OutputsKeepThePolicies : Type 0
 OutputsKeepThePolicies = (w : ℕ) (i : ℤ) (x y : List ℕ) (p : Policies) → IsUtf8 x → IsOutputOf w i x y → IsTreeOf x p → IsTextOf y p
+
+-- an output and its text are accepted, and their trees of nodes are equal but for spans
+abbrev pub OutputsKeepTheTrees : Type 0
+OutputsKeepTheTrees = (w : ℕ) (i : ℤ) (x y : List ℕ) → IsUtf8 x → IsOutputOf w i x y → KeepsPolicies x y

@@ -1,15 +1,14 @@
 -- What a run reads, writes and answers.
-use Rattle.std.specs.Prelude.{◌↔◌, ◌⊎◌, ℕ, ℤ, List, Bool, IsTrue, Option, Result, Ok, Err, ⊤}
+use Rattle.std.specs.Prelude.{◌↔◌, ℕ, ℤ, List, Bool, IsTrue, Option, Result, Ok, Err, ⊤}
 use Rattle.std.specs.Str.{IsUtf8}
 use Rattle.std.specs.Io.KnownBytes.{Appends, Keeps}
 use Rattle.cedar_streams.specs.Texts.{GivesAll, GivesText, AppendsPart}
 use Rattle.cedar_streams.specs.declared.reading.ReadFault.{ReadFault}
 use Rattle.cedar_streams.specs.declared.reading.ReadFault.TheVariants as without
 use Rattle.cedar_grammar.specs.Texts.{Accepted}
-use Rattle.cedar_tree.specs.Refusals.{Refuses}
+use Rattle.cedar_tree.specs.Refusals.{OutOfMemoryOr, Refuses}
 use Rattle.cedar_tree.specs.declared.error.FormatError.TheVariants.{OutOfMemory}
 use Rattle.cedar_canonical.specs.Canonical.{IsOutputOf}
-use Rattle.cedar_policy_formatter.specs.Refused.{IsMemory}
 use Rattle.cedar_policy_formatter.specs.declared.fmt.stream.RunFault.{RunFault}
 use Rattle.cedar_policy_formatter.specs.declared.fmt.stream.RunFault.TheVariants.{Read, NotUtf8, Format, Write}
 
@@ -23,7 +22,7 @@ run_fault without.OutOfMemory = Format OutOfMemory
 abbrev pub FailsToRead : Option (List ℕ) → Option (List ℕ) → RunFault → Type 0
 FailsToRead old new Read = ⊤
 FailsToRead old new NotUtf8 = (x : List ℕ) × GivesAll old new x × ¬ (IsUtf8 x)
-FailsToRead old new (Format e) = IsMemory e ⊎ ((x : List ℕ) × GivesText old new x × Refuses x e)
+FailsToRead old new (Format e) = OutOfMemoryOr (λ e. (x : List ℕ) × GivesText old new x × Refuses x e) e
 FailsToRead old new Write = ⊥
 
 -- y is the output of an accepted text, which was read to its end

@@ -18,8 +18,8 @@ ghost use Rattle.cedar_policy_formatter.specs.Inside.Written.{IsPolicyText, AreJ
 ghost use Rattle.cedar_leaf_documents.specs.Kept.{KeepsTokens};
 ghost use Rattle.cedar_policy_formatter.specs.Refused.{IsMemory, RefusesOne};
 ghost use Rattle.cedar_policy_formatter.specs.Inside.Moved.{IsPlacedWithin, moved};
-ghost use Rattle.cedar_tree.specs.Refusals.{Refuses};
-ghost use Rattle.cedar_policy_formatter.specs.Texts.{IsTextOf, KeepsPolicies, FailsCheck};
+ghost use Rattle.cedar_tree.specs.Refusals.{OutOfMemoryOr, Refuses};
+ghost use Rattle.cedar_policy_formatter.specs.Texts.{IsTextOf, FailsCheck};
 
 use cedar_cst::cst::laws::{accepted_is_not_refused, tree_is_of_accepted};
 use cedar_cst::cst::{FormatError, Node, Policies, Policy, parse_at_once, same_tree};
@@ -28,7 +28,8 @@ use cedar_documents::doc::Doc;
 pub use cedar_documents::laws::{
     accepted_texts_have_trees, cleaning_is_unique, cleaning_keeps_the_list, cleaning_takes_blanks,
     every_layout_reads_back, every_list_is_good, last_width_decides, lists_join,
-    outputs_are_canonical, outputs_are_determined, own_tokens_are_met, policies_stand_alone,
+    outputs_are_canonical, outputs_are_determined, outputs_have_the_trees, own_tokens_are_met,
+    policies_stand_alone,
 };
 use cedar_layout::layout::render;
 use cedar_layout::utils::remove_empty_lines;
@@ -56,8 +57,7 @@ pub fn policies_str_to_pretty(
     ps: &str,
     config: &Config,
 ) -> Result<String, FormatError>
-    ensures answer { MatchResult result (λ _. Accepted ps.now) (Refuses ps.now) }
-    ensures kept { IfOk result (λ out. KeepsPolicies ps.now (string_bytes out)) }
+    ensures answer { MatchResult result (λ _. Accepted ps.now) (OutOfMemoryOr (Refuses ps.now)) }
     ensures output { IfOk result (λ out. IsOutputOf config.now.line_width config.now.indent_width ps.now (string_bytes out)) }
 {
     tree_is_of_accepted();
@@ -84,7 +84,7 @@ pub fn policies_str_to_pretty(
 
 // The policies `ps`, laid out: all of them at once.
 fn format_piece(alloc: Global, ps: &str, config: &Config) -> Result<String, FormatError>
-    ensures answer { MatchResult result (λ _. Accepted ps.now) (Refuses ps.now) }
+    ensures answer { MatchResult result (λ _. Accepted ps.now) (OutOfMemoryOr (Refuses ps.now)) }
     ensures output { IfOk result (λ out. IsOutputOf config.now.line_width config.now.indent_width ps.now (string_bytes out)) }
 {
     tree_is_of_accepted();
@@ -137,7 +137,7 @@ pub fn soundness_check(alloc: Global, ps: &str, tree: &Policies<'_>) -> Result<(
 /// Whether `ps` is as `policies_str_to_pretty` lays it out: it is its own output. Every accepted text gets an answer, if
 /// memory suffices; every other is refused as there.
 pub fn is_formatted(alloc: Global, ps: &str, config: &Config) -> Result<bool, FormatError>
-    ensures answer { MatchResult result (λ _. Accepted ps.now) (Refuses ps.now) }
+    ensures answer { MatchResult result (λ _. Accepted ps.now) (OutOfMemoryOr (Refuses ps.now)) }
     ensures output { IfOk result (λ r. IsTrue r ↔ IsOutputOf config.now.line_width config.now.indent_width ps.now ps.now) }
 {
     outputs_are_canonical();
@@ -149,7 +149,7 @@ pub fn is_formatted(alloc: Global, ps: &str, config: &Config) -> Result<bool, Fo
 /// Whether `a` and `b` are laid out alike: their lists without trailing commas are equal by value. Accepted texts get an
 /// answer, if memory suffices. A refusal of `a` is answered before one of `b`.
 pub fn same_layout(alloc: Global, a: &str, b: &str, config: &Config) -> Result<bool, FormatError>
-    ensures answer { MatchResult result (λ _. Accepted a.now × Accepted b.now) (RefusesOne a.now b.now) }
+    ensures answer { MatchResult result (λ _. Accepted a.now × Accepted b.now) (OutOfMemoryOr (RefusesOne a.now b.now)) }
     ensures lists { IfOk result (λ r. IsTrue r ↔ HaveEqualLists a.now b.now) }
 {
     outputs_are_canonical();
@@ -198,6 +198,7 @@ fn plain_stream<'src>(
 }
 
 // The layouts of the policies, with an empty line between them.
+#[tactic(auto, using(cedar_leaf_documents::proofs::Keeping::kept_on))]
 fn joined_policies<'src>(
     alloc: Global,
     tree: Policies<'src>,

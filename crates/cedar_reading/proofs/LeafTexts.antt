@@ -11,7 +11,7 @@ use Rattle.cedar_tokens.specs.declared.token.Span.{Span}
 use Rattle.cedar_grammar.specs.declared.kind.Kind.{Kind}
 use Rattle.cedar_grammar.specs.declared.kind.Kind.TheVariants as K
 use Rattle.cedar_grammar.specs.Kinds.{code, is}
-use Rattle.cedar_grammar.specs.TokenKinds.{Fixed, fixed_tokens, other_kind, kind_among, kind_of}
+use Rattle.cedar_grammar.specs.TokenKinds.{fixed_tokens, other_kind, kind_among, kind_of}
 use Rattle.cedar_grammar.specs.Trees.{Label, Forest, none, leaf, branch, yield}
 use Rattle.cedar_grammar.specs.TrailingCommas.{without_trailing, drop_if, closes_next}
 use Rattle.cedar_grammar.proofs.TextKinds.{number_kind}
@@ -22,20 +22,20 @@ use Rattle.cedar_reading.specs.Inside.Reading.{kind, IsRight, AreRight, Stands}
 use Rattle.cedar_reading.specs.declared.lexeme.Lexeme.{Lexeme}
 
 -- the text of the token of this code, or u where the table has none
-abbrev pub shown : ℕ → List Fixed → List ℕ → List ℕ
+abbrev pub shown : ℕ → List (List ℕ × Kind) → List ℕ → List ℕ
 shown c [] u = u
-shown c (f ∷ fs) u = if nat_eq (code f.kind) c then f.text else shown c fs u
+shown c (f ∷ fs) u = if nat_eq (code f.1) c then f.0 else shown c fs u
 
 abbrev is_open : ℕ → Bool
 is_open c = nat_eq c 17 || (nat_eq c 20 || nat_eq c 21)
 
-abbrev fresh : ℕ → List Fixed → Bool
+abbrev fresh : ℕ → List (List ℕ × Kind) → Bool
 fresh c [] = true
-fresh c (f ∷ fs) = not (nat_eq (code f.kind) c) && fresh c fs
+fresh c (f ∷ fs) = not (nat_eq (code f.1) c) && fresh c fs
 
-abbrev distinct : List Fixed → Bool
+abbrev distinct : List (List ℕ × Kind) → Bool
 distinct [] = true
-distinct (f ∷ fs) = (not (is_open (code f.kind)) && fresh (code f.kind) fs) && distinct fs
+distinct (f ∷ fs) = (not (is_open (code f.1)) && fresh (code f.1) fs) && distinct fs
 
 and_parts : (a b : Bool) → (a && b) ≡ true → (a ≡ true) × (b ≡ true)
 and_parts true b h = (refl, h)
@@ -65,27 +65,27 @@ other_apart d (b ∷ bs) h = go (b == 34) (is_ascii_digit b) (all_false (nat_eq 
     go false true e = e.1
     go false false e = e.0
 
-apart_from : (fs : List Fixed) (u : List ℕ) (d : ℕ) → is_open d ≡ false → fresh d fs ≡ true → nat_eq d (code (kind_among fs u)) ≡ false
+apart_from : (fs : List (List ℕ × Kind)) (u : List ℕ) (d : ℕ) → is_open d ≡ false → fresh d fs ≡ true → nat_eq d (code (kind_among fs u)) ≡ false
 apart_from [] u d h k = other_apart d u h
 apart_from (f ∷ fs) u d h k =
-    let p = and_parts (not (nat_eq (code f.kind) d)) (fresh d fs) k in
-    go (bytes_eq f.text u) (eq_swap d (code f.kind) ∙ not_true _ p.0) (apart_from fs u d h p.1)
+    let p = and_parts (not (nat_eq (code f.1) d)) (fresh d fs) k in
+    go (bytes_eq f.0 u) (eq_swap d (code f.1) ∙ not_true _ p.0) (apart_from fs u d h p.1)
   where
-    go : (b : Bool) → nat_eq d (code f.kind) ≡ false → nat_eq d (code (kind_among fs u)) ≡ false → nat_eq d (code (if b then f.kind else kind_among fs u)) ≡ false
+    go : (b : Bool) → nat_eq d (code f.1) ≡ false → nat_eq d (code (kind_among fs u)) ≡ false → nat_eq d (code (if b then f.1 else kind_among fs u)) ≡ false
     go true i j = i
     go false i j = j
 
-shown_same : (fs : List Fixed) (u : List ℕ) → distinct fs ≡ true → shown (code (kind_among fs u)) fs u ≡ u
+shown_same : (fs : List (List ℕ × Kind)) (u : List ℕ) → distinct fs ≡ true → shown (code (kind_among fs u)) fs u ≡ u
 shown_same [] u h = refl
 shown_same (f ∷ fs) u h =
-    let p = and_parts (not (is_open (code f.kind)) && fresh (code f.kind) fs) (distinct fs) h in
-    let q = and_parts (not (is_open (code f.kind))) (fresh (code f.kind) fs) p.0 in
-    go (bytes_eq f.text u) refl (apart_from fs u (code f.kind) (not_true _ q.0) q.1) (shown_same fs u p.1)
+    let p = and_parts (not (is_open (code f.1)) && fresh (code f.1) fs) (distinct fs) h in
+    let q = and_parts (not (is_open (code f.1))) (fresh (code f.1) fs) p.0 in
+    go (bytes_eq f.0 u) refl (apart_from fs u (code f.1) (not_true _ q.0) q.1) (shown_same fs u p.1)
   where
-    go : (b : Bool) → bytes_eq f.text u ≡ b → nat_eq (code f.kind) (code (kind_among fs u)) ≡ false → shown (code (kind_among fs u)) fs u ≡ u
-        → (if nat_eq (code f.kind) (code (if b then f.kind else kind_among fs u)) then f.text else shown (code (if b then f.kind else kind_among fs u)) fs u) ≡ u
-    go true e i j = ap (λ x. if x then f.text else shown (code f.kind) fs u) (eq_self (code f.kind)) ∙ (bytes_eq-Decides f.text u).0 e
-    go false e i j = ap (λ x. if x then f.text else shown (code (kind_among fs u)) fs u) i ∙ j
+    go : (b : Bool) → bytes_eq f.0 u ≡ b → nat_eq (code f.1) (code (kind_among fs u)) ≡ false → shown (code (kind_among fs u)) fs u ≡ u
+        → (if nat_eq (code f.1) (code (if b then f.1 else kind_among fs u)) then f.0 else shown (code (if b then f.1 else kind_among fs u)) fs u) ≡ u
+    go true e i j = ap (λ x. if x then f.0 else shown (code f.1) fs u) (eq_self (code f.1)) ∙ (bytes_eq-Decides f.0 u).0 e
+    go false e i j = ap (λ x. if x then f.0 else shown (code (kind_among fs u)) fs u) i ∙ j
 
 text_shown : (u : List ℕ) (k : Kind) → k ≡ kind_of u → shown (code k) fixed_tokens u ≡ u
 text_shown u k e = ap (λ x. shown (code x) fixed_tokens u) e ∙ shown_same fixed_tokens u refl

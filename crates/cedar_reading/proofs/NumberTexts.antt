@@ -7,9 +7,10 @@ use Rattle.std.proofs.lemmas.Bool.Decides.{nat_tests}
 use Rattle.std.proofs.lemmas.Slice.Eq.{bytes_eq-Decides}
 use Rattle.cedar_tokens.specs.Units.{is_word, is_word_start, is_number, is_string, is_one_of, slots, punctuators, is_token}
 use Rattle.cedar_tokens.specs.Listing.{token_value, without_zeros}
+use Rattle.cedar_grammar.specs.declared.kind.Kind.{Kind}
 use Rattle.cedar_grammar.specs.declared.kind.Kind.TheVariants as K
 use Rattle.cedar_grammar.specs.Kinds.{is}
-use Rattle.cedar_grammar.specs.TokenKinds.{Fixed, fixed_tokens, other_kind, kind_among, kind_of}
+use Rattle.cedar_grammar.specs.TokenKinds.{fixed_tokens, other_kind, kind_among, kind_of}
 use Rattle.cedar_grammar.specs.Trees.{none, leaf}
 use Rattle.cedar_reading.specs.Inside.Reading.{IsRight, Stands}
 use Rattle.cedar_reading.specs.declared.lexeme.Lexeme.{Lexeme}
@@ -19,9 +20,9 @@ abbrev starts_digit : List ℕ → Bool
 starts_digit [] = false
 starts_digit (b ∷ bs) = is_ascii_digit b
 
-abbrev none_numbers : List Fixed → Bool
+abbrev none_numbers : List (List ℕ × Kind) → Bool
 none_numbers [] = true
-none_numbers (f ∷ fs) = if is K.Number f.kind then false else none_numbers fs
+none_numbers (f ∷ fs) = if is K.Number f.1 then false else none_numbers fs
 
 abbrev none_digits : List (List ℕ) → Bool
 none_digits [] = true
@@ -36,11 +37,11 @@ other_digit (b ∷ bs) h = go (b == 34) (is_ascii_digit b) refl h
     go false true e h = e
     go false false e h = absurd cc
 
-among_digit : (fs : List Fixed) (u : List ℕ) → none_numbers fs ≡ true → is K.Number (kind_among fs u) ≡ true → starts_digit u ≡ true
+among_digit : (fs : List (List ℕ × Kind)) (u : List ℕ) → none_numbers fs ≡ true → is K.Number (kind_among fs u) ≡ true → starts_digit u ≡ true
 among_digit [] u a h = other_digit u h
-among_digit (f ∷ fs) u a h = go (is K.Number f.kind) refl (bytes_eq f.text u) a h (among_digit fs u)
+among_digit (f ∷ fs) u a h = go (is K.Number f.1) refl (bytes_eq f.0 u) a h (among_digit fs u)
   where
-    go : (n : Bool) → is K.Number f.kind ≡ n → (b : Bool) → cond n false (none_numbers fs) ≡ true → is K.Number (cond b f.kind (kind_among fs u)) ≡ true
+    go : (n : Bool) → is K.Number f.1 ≡ n → (b : Bool) → cond n false (none_numbers fs) ≡ true → is K.Number (cond b f.1 (kind_among fs u)) ≡ true
         → (none_numbers fs ≡ true → is K.Number (kind_among fs u) ≡ true → starts_digit u ≡ true) → starts_digit u ≡ true
     go true e b a h ih = absurd cc
     go false e true a h ih = absurd cc

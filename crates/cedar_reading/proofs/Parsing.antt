@@ -16,9 +16,9 @@ use Rattle.cedar_grammar.specs.Kinds.{is, is_closing}
 use Rattle.cedar_grammar.specs.Trees.{Label, Forest, none, leaf, branch, yield}
 use Rattle.cedar_grammar.specs.Grammar.{G}
 use Rattle.cedar_grammar.specs.TokenKinds.{kind_of}
-use Rattle.cedar_grammar.specs.HopelessPlaces.{Hopeless, Unfinished}
+use Rattle.cedar_grammar.specs.Reader.Hopeless.{Hopeless, Unfinished, IsRefused}
 use Rattle.cedar_grammar.specs.Numbers.{is_too_large}
-use Rattle.cedar_grammar.specs.Texts.{greatest_depth, tokens, IsRefused}
+use Rattle.cedar_grammar.specs.Texts.{greatest_depth, only_tokens}
 use Rattle.cedar_grammar.specs.TrailingCommas.{drop_if, closes_next, without_trailing}
 use Rattle.cedar_tree.specs.Erased.{erase}
 use Rattle.cedar_tree.specs.NodeTrees.{is_node, end_of, span_of, spanned, IsTreeOf}
@@ -95,13 +95,13 @@ same_head x y a b r s e n = go (cuts x y a b r s e)
     go (inr (inl (d, i))) = let k = ap length i in let l = length-append x (a ∷ d) in absurd (omega (arith, n, k, l))
     go (inr (inr (d, i))) = let k = ap length i in let l = length-append y (b ∷ d) in absurd (omega (arith, n, k, l))
 
-pub spans_length : (p : ℕ) (units : List (List ℕ)) → length (token_spans p units) ≡ length (tokens units)
+pub spans_length : (p : ℕ) (units : List (List ℕ)) → length (token_spans p units) ≡ length (only_tokens units)
 unfolding token_spans
 spans_length p [] = refl
 spans_length p (u ∷ us) = go (spans_length (p + length u) us) (is_token u)
   where
-    go : length (token_spans (p + length u) us) ≡ length (tokens us) → (b : Bool)
-        → length (if b then record { start = p; end = p + length u } ∷ token_spans (p + length u) us else token_spans (p + length u) us) ≡ length (if b then u ∷ tokens us else tokens us)
+    go : length (token_spans (p + length u) us) ≡ length (only_tokens us) → (b : Bool)
+        → length (if b then record { start = p; end = p + length u } ∷ token_spans (p + length u) us else token_spans (p + length u) us) ≡ length (if b then u ∷ only_tokens us else only_tokens us)
     go h true = ap suc h
     go h false = h
 
@@ -152,11 +152,11 @@ Outcome text (stuck b []) = IsRefused text (length text) false
 Outcome text (stuck b (l ∷ r)) = IsRefused text l.span.start b
 
 -- Lexemes that are the tokens of these units, which begin at the byte from.
-module _ (from : ℕ) (units : List (List ℕ)) (ls : List Lexeme) (kinds : AllByRecursion (λ l. l.kind ≡ kind_of l.text.now) ls) (texts : map (λ l. l.text.now) ls ≡ tokens units) (places : map (λ l. l.span) ls ≡ token_spans from units) where
+module _ (from : ℕ) (units : List (List ℕ)) (ls : List Lexeme) (kinds : AllByRecursion (λ l. l.kind ≡ kind_of l.text.now) ls) (texts : map (λ l. l.text.now) ls ≡ only_tokens units) (places : map (λ l. l.span) ls ≡ token_spans from units) where
   abbrev cs_of : List Checked
   cs_of = checked ls kinds
 
-  texts_of : each text_of cs_of ≡ tokens units
+  texts_of : each text_of cs_of ≡ only_tokens units
   texts_of = sym (each_each (λ (l : Lexeme). l.text.now) (λ (c : Checked). c.0) cs_of) ∙ ap (each (λ (l : Lexeme). l.text.now)) (checked_back ls kinds) ∙ each_map (λ (l : Lexeme). l.text.now) ls ∙ texts
 
   places_of : each place_of cs_of ≡ token_spans from units
@@ -166,11 +166,11 @@ module _ (from : ℕ) (units : List (List ℕ)) (ls : List Lexeme) (kinds : AllB
   both_lists [] = refl
   both_lists (x ∷ xs) = ap (λ z. as_placed x ∷ z) (both_lists xs)
 
-  placed_of : each as_placed cs_of ≡ with_places (tokens units) (token_spans from units)
-  placed_of = sym (both_lists cs_of) ∙ ap (λ z. with_places z (each place_of cs_of)) texts_of ∙ ap (with_places (tokens units)) places_of
+  placed_of : each as_placed cs_of ≡ with_places (only_tokens units) (token_spans from units)
+  placed_of = sym (both_lists cs_of) ∙ ap (λ z. with_places z (each place_of cs_of)) texts_of ∙ ap (with_places (only_tokens units)) places_of
 
   checked_tree : (d : ℕ) (f : Forest Label Checked) → set_to kind_at d cs_of ≡ done f []
-      → G kind_of_placed d (relabel as_placed f) (with_places (tokens units) (token_spans from units))
+      → G kind_of_placed d (relabel as_placed f) (with_places (only_tokens units) (token_spans from units))
       × (lexeme_nodes (relabel (λ (c : Checked). c.0) f) ≡ spanned (λ (t : Placed). t.text) (λ (t : Placed). t.span) (without_trailing kind_of_placed (relabel as_placed f)))
   checked_tree d f e =
       let k = set_sound kind_at d cs_of f [] e in
@@ -185,13 +185,13 @@ module _ (from : ℕ) (units : List (List ℕ)) (ls : List Lexeme) (kinds : AllB
 
   -- a tree of the lexemes is one of the tokens with their places
   pub placed_tree : (d : ℕ) (f : Forest Label Lexeme) → set_to (λ l. l.kind) d ls ≡ done f []
-      → (tree : Forest Label Placed) × G kind_of_placed d tree (with_places (tokens units) (token_spans from units)) × (lexeme_nodes f ≡ spanned (λ (t : Placed). t.text) (λ (t : Placed). t.span) (without_trailing kind_of_placed tree))
+      → (tree : Forest Label Placed) × G kind_of_placed d tree (with_places (only_tokens units) (token_spans from units)) × (lexeme_nodes f ≡ spanned (λ (t : Placed). t.text) (λ (t : Placed). t.span) (without_trailing kind_of_placed tree))
   placed_tree d f e = go (set_to kind_at d cs_of) refl
     where
       back : set_to (λ l. l.kind) d ls ≡ answer_of (λ (c : Checked). c.0) (set_to kind_at d cs_of)
       back = ap (set_to (λ l. l.kind) d) (sym (checked_back ls kinds)) ∙ set_agrees (λ (c : Checked). c.0) kind_at (λ l. l.kind) (λ c. refl) d cs_of
 
-      go : (x : Answer Checked) → set_to kind_at d cs_of ≡ x → (tree : Forest Label Placed) × G kind_of_placed d tree (with_places (tokens units) (token_spans from units)) × (lexeme_nodes f ≡ spanned (λ (t : Placed). t.text) (λ (t : Placed). t.span) (without_trailing kind_of_placed tree))
+      go : (x : Answer Checked) → set_to kind_at d cs_of ≡ x → (tree : Forest Label Placed) × G kind_of_placed d tree (with_places (only_tokens units) (token_spans from units)) × (lexeme_nodes f ≡ spanned (λ (t : Placed). t.text) (λ (t : Placed). t.span) (without_trailing kind_of_placed tree))
       go (stuck b r) i = let w : done f [] ≡ stuck b (each (λ (c : Checked). c.0) r) = sym e ∙ back ∙ ap (answer_of (λ (c : Checked). c.0)) i in absurd cc
       go (done g (c ∷ r)) i = let w : done f [] ≡ done (relabel (λ (c : Checked). c.0) g) (each (λ (c : Checked). c.0) (c ∷ r)) = sym e ∙ back ∙ ap (answer_of (λ (c : Checked). c.0)) i in absurd cc
       go (done g []) i =
@@ -204,7 +204,7 @@ module _ (text : List ℕ) (ls : List Lexeme) (are : AreLexemes text ls) (d : �
   abbrev cs : List Checked
   cs = checked ls are.kinds
 
-  cs_texts : each text_of cs ≡ tokens are.units
+  cs_texts : each text_of cs ≡ only_tokens are.units
   cs_texts = texts_of 0 are.units ls are.kinds are.texts are.places
 
   cs_places : each place_of cs ≡ token_spans 0 are.units
@@ -213,7 +213,7 @@ module _ (text : List ℕ) (ls : List Lexeme) (are : AreLexemes text ls) (d : �
   refused_at : (before : List Checked) (c : Checked) (r : List Checked) (b : Bool) → cs ≡ before ++ (c ∷ r)
       → (front : List (List ℕ)) → Hopeless kind_of d (each text_of cs) front (text_of c) (each text_of r) b → IsRefused text (place_of c).start b
   refused_at before c r b e front h =
-      let whole : tokens are.units ≡ front ++ (text_of c ∷ each text_of r) = sym cs_texts ∙ h.split in
+      let whole : only_tokens are.units ≡ front ++ (text_of c ∷ each text_of r) = sym cs_texts ∙ h.split in
       let cut = unit_cut are.units front (text_of c) (each text_of r) whole in
       let spans = span_at 0 cut.before (text_of c) cut.after cut.is_one in
       let left : each place_of before ++ (place_of c ∷ each place_of r) ≡ token_spans 0 cut.before ++ (spans.0 ∷ spans.1) =
@@ -233,10 +233,10 @@ module _ (text : List ℕ) (ls : List Lexeme) (are : AreLexemes text ls) (d : �
         fitting = sym (ap (list_any is_too_large) cut.whole) ∙ are.fitting;
         place = ap (λ (s : Span). s.start) head ∙ spans.3 ∙ omega arith;
         is_one = cut.is_one;
-        hopeless = subst (λ z. Hopeless kind_of greatest_depth (tokens z) (tokens cut.before) (text_of c) (tokens cut.after) b) cut.whole
-            (subst (λ z. Hopeless kind_of z (tokens are.units) (tokens cut.before) (text_of c) (tokens cut.after) b) deep
-            (subst (λ z. Hopeless kind_of d (tokens are.units) (tokens cut.before) (text_of c) z b) (sym cut.rest_is)
-            (subst (λ z. Hopeless kind_of d (tokens are.units) z (text_of c) (each text_of r) b) (sym cut.front_is)
+        hopeless = subst (λ z. Hopeless kind_of greatest_depth (only_tokens z) (only_tokens cut.before) (text_of c) (only_tokens cut.after) b) cut.whole
+            (subst (λ z. Hopeless kind_of z (only_tokens are.units) (only_tokens cut.before) (text_of c) (only_tokens cut.after) b) deep
+            (subst (λ z. Hopeless kind_of d (only_tokens are.units) (only_tokens cut.before) (text_of c) z b) (sym cut.rest_is)
+            (subst (λ z. Hopeless kind_of d (only_tokens are.units) z (text_of c) (each text_of r) b) (sym cut.front_is)
             (subst (λ z. Hopeless kind_of d z front (text_of c) (each text_of r) b) cs_texts h))));
       })
 
@@ -260,7 +260,7 @@ module _ (text : List ℕ) (ls : List Lexeme) (are : AreLexemes text ls) (d : �
       units = are.units;
       split = are.split;
       fitting = are.fitting;
-      unfinished = subst (λ z. Unfinished kind_of z (tokens are.units)) deep (subst (λ z. Unfinished kind_of d z) cs_texts s);
+      unfinished = subst (λ z. Unfinished kind_of z (only_tokens are.units)) deep (subst (λ z. Unfinished kind_of d z) cs_texts s);
     },
     refl,
     refl,

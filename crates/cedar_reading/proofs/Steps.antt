@@ -6,7 +6,7 @@ use Rattle.cedar_grammar.specs.declared.kind.Kind.{Kind}
 use Rattle.cedar_grammar.specs.contracts.kind.Kind.{the_type}
 use Rattle.cedar_grammar.specs.declared.kind.Kind.TheVariants as K
 use Rattle.cedar_grammar.specs.declared.kind.Words.{Words}
-use Rattle.cedar_grammar.specs.Kinds.{is, is_word, is_ident, is_effect, is_cond_word, set_of, begins}
+use Rattle.cedar_grammar.specs.Kinds.{is, is_any_word, is_ident, is_effect, is_cond_word, set_of, begins}
 use Rattle.cedar_grammar.specs.Trees.{Label, none, leaf, branch}
 use Rattle.cedar_grammar.specs.Reader.Reading.{Answer, done, stuck, token, tree}
 use Rattle.cedar_grammar.proofs.KindSets.{every, kinds, every_kind, apart_at}
@@ -91,6 +91,6 @@ str_stands t n h k = record {
 -- no set of words has commas or numbers
 pub words_apart : (w : Words) (k : Kind) → set_of w k ≡ true → (is K.Comma k ≡ false) × (is K.Number k ≡ false)
 words_apart Words.Identifier k h = (apart_at is_ident (is K.Comma) refl k h, apart_at is_ident (is K.Number) refl k h)
-words_apart Words.Any k h = (apart_at is_word (is K.Comma) refl k h, apart_at is_word (is K.Number) refl k h)
+words_apart Words.Any k h = (apart_at is_any_word (is K.Comma) refl k h, apart_at is_any_word (is K.Number) refl k h)
 words_apart Words.Effect k h = (apart_at is_effect (is K.Comma) refl k h, apart_at is_effect (is K.Number) refl k h)
 words_apart Words.Condition k h = (apart_at is_cond_word (is K.Comma) refl k h, apart_at is_cond_word (is K.Number) refl k h)

@@ -23,7 +23,7 @@ use Rattle.cedar_tokens.proofs.Scanning.{scan_more}
 use Rattle.cedar_tokens.proofs.Streaming.{Placed, placed_skip, placed_token, placed_all, no_token}
 use Rattle.cedar_grammar.specs.Numbers.{is_too_large, IsFirstTooLarge}
 use Rattle.cedar_grammar.specs.TokenKinds.{kind_of}
-use Rattle.cedar_grammar.specs.Texts.{tokens}
+use Rattle.cedar_grammar.specs.Texts.{only_tokens}
 use Rattle.cedar_reading.specs.Inside.Lexemes.{AreLexemes}
 use Rattle.cedar_reading.specs.declared.lexeme.Lexeme.{Lexeme}
 
@@ -35,7 +35,7 @@ FindsLarge units (Some at) = (before : List (List ℕ)) × (number : List ℕ) �
 
 -- the lexemes are the tokens of the units, which end at the byte at, with their kinds and places
 pub record Lexed (units : List (List ℕ)) (lexemes : List Lexeme) (at : ℕ) : Type 0 where
-  pub texts : map (λ l. l.text.now) lexemes ≡ tokens units
+  pub texts : map (λ l. l.text.now) lexemes ≡ only_tokens units
   pub places : Placed units (map (λ l. l.span) lexemes) at
   pub kinds : AllByRecursion (λ l. l.kind ≡ kind_of l.text.now) lexemes
 
@@ -96,7 +96,7 @@ lexed_skip units lexemes at n u h t e = record {
 lexed_token : (units : List (List ℕ)) (lexemes : List Lexeme) (at n : ℕ) (u : List ℕ) (x : Lexeme) → Lexed units lexemes at → is_token u ≡ true → length u ≡ n
     → x.text.now ≡ u → x.span ≡ record { start = at; end = at + n } → x.kind ≡ kind_of u → Lexed (units ++ u ∷ []) (lexemes ++ x ∷ []) (at + n)
 lexed_token units lexemes at n u x h t e same place kind = record {
-  texts = map-append (λ l. l.text.now) lexemes (x ∷ []) ∙ ap (λ ts. ts ++ x.text.now ∷ []) h.texts ∙ ap (λ v. tokens units ++ v ∷ []) same
+  texts = map-append (λ l. l.text.now) lexemes (x ∷ []) ∙ ap (λ ts. ts ++ x.text.now ∷ []) h.texts ∙ ap (λ v. only_tokens units ++ v ∷ []) same
       ∙ sym (filter-append is_token units (u ∷ []) ∙ ap (λ b. filter is_token units ++ (if b then u ∷ [] else [])) t);
   places = rw (map-append (λ l. l.span) lexemes (x ∷ []), place) (placed_token units (map (λ l. l.span) lexemes) at n u h.places t e);
   kinds = all_push lexemes x h.kinds (kind ∙ ap kind_of (sym same));

@@ -5,7 +5,7 @@ ghost use Rattle.std.specs.Char.{is_ascii_digit};
 ghost use Rattle.cedar_tokens.specs.Units.{is_number};
 ghost use Rattle.cedar_tokens.specs.Split.{IsFirstFault};
 ghost use Rattle.cedar_grammar.specs.Numbers.{is_too_large};
-ghost use Rattle.cedar_tree.specs.Refusals.{RefusesTokens};
+ghost use Rattle.cedar_tree.specs.Refusals.{OutOfMemoryOr, RefusesTokens};
 ghost use Rattle.cedar_tree.specs.declared.error.FormatError.TheVariants.{OutOfMemory};
 ghost use Rattle.cedar_reading.specs.Inside.Lexemes.{AreLexemes};
 ghost use Rattle.cedar_reading.specs.Tokens.{HasTokens};
@@ -97,7 +97,7 @@ pub fn check_tokens(text: &str) -> Result<(), FormatError>
 /// The tokens of `text`. Refuses the first place where no unit begins; and where there is none, the first number above
 /// 18446744073709551615.
 pub fn read_lexemes<'src>(alloc: Global, text: &'src str) -> Result<Vec<Lexeme<'src>>, FormatError>
-    ensures { MatchResult result (λ lexemes. AreLexemes text.now lexemes.items) (RefusesTokens text.now) }
+    ensures { MatchResult result (λ lexemes. AreLexemes text.now lexemes.items) (OutOfMemoryOr (RefusesTokens text.now)) }
 {
     let mut lexemes = Vec::new(alloc);
     let mut too_large = None;

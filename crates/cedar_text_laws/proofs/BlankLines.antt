@@ -17,7 +17,7 @@ use Rattle.cedar_tokens.proofs.CommentLines.{comments_nil, comments_skip}
 use Rattle.cedar_tokens.proofs.Prefixes.{and_parts, or_right}
 use Rattle.cedar_tokens.proofs.Heads.{class, class-white, class-blank, class-high, token_of, no_empty_token}
 use Rattle.cedar_tokens.proofs.FirstUnit.{comment_parts, token_class, no_both_blank, all_more}
-use Rattle.cedar_layout.specs.Cleaning.{last_or}
+use Rattle.cedar_layout.specs.Cleaning.{last_byte_or}
 use Rattle.cedar_text_laws.specs.CleaningLaws.{is_solid, Thinned, no_units, unit_stays, blank_goes}
 use Rattle.cedar_layout.specs.Cleaning.{piece_lines, is_blank_line, without_blank_lines, clean_lines, clean_piece}
 use Rattle.cedar_text_laws.proofs.Scanned.{scans_unit, first_within, splits_join}
@@ -245,7 +245,7 @@ all_blank (u ∷ us) x a h =
 blank_line : (qs : List (List ℕ)) → AllBlank qs → is_blank_line (concat qs ++ (10 ∷ [])) ≡ true
 blank_line qs a = rw (last_feed 32 (concat qs), white qs a) refl
   where
-    last_feed : (c : ℕ) (x : List ℕ) → (last_or c (x ++ (10 ∷ [])) == 10) ≡ true
+    last_feed : (c : ℕ) (x : List ℕ) → (last_byte_or c (x ++ (10 ∷ [])) == 10) ≡ true
     last_feed c [] = refl
     last_feed c (b ∷ x) = last_feed b x
 
@@ -391,7 +391,7 @@ in_line_end : (qs : List (List ℕ)) → AllPlain qs → feedless (concat qs) �
 in_line_end qs a f = elim (line_kind qs a f) [ inl b ↦ (true, blanks_stay qs b f) | inr e ↦ (false, e) ]
 
 feedless_no_blank : (l : List ℕ) → feedless l ≡ true → is_blank_line l ≡ false
-feedless_no_blank l h = rw (not_true (last_or 32 l == 10) (last_passes (λ b. not (b == 10)) 32 l refl h)) refl
+feedless_no_blank l h = rw (not_true (last_byte_or 32 l == 10) (last_passes (λ b. not (b == 10)) 32 l refl h)) refl
   where
     not_true : (t : Bool) → not t ≡ true → t ≡ false
     not_true true k = absurd cc
@@ -437,7 +437,7 @@ in_lines (u ∷ ms) ps qs ss a b f w p = elim a.0.feed [
     at_feed e true h gone stays =
         let p0 : Parted ((ps ++ ((10 ∷ []) ∷ (qs ++ ((10 ∷ []) ∷ ms)))) ++ ss) = rw e at p in
         let E = regroup ps qs ms ss in
-        let k = all_blank qs (10 ∷ []) b (and_parts (last_or 32 (concat qs ++ (10 ∷ [])) == 10) (list_all is_whitespace (chars (concat qs ++ (10 ∷ [])))) h).1 in
+        let k = all_blank qs (10 ∷ []) b (and_parts (last_byte_or 32 (concat qs ++ (10 ∷ [])) == 10) (list_all is_whitespace (chars (concat qs ++ (10 ∷ [])))) h).1 in
         let g = line_goes ps qs (ms ++ ss) (blanks_silent qs k) (subst (λ z. Parted z) E p0) in
         let i = gone (rw (append_assoc ps ((10 ∷ []) ∷ ms) ss) g.0) in
         rw e (record {

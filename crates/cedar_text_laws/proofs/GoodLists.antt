@@ -4,7 +4,8 @@ use Rattle.std.specs.List.{list_all, AllByRecursion, concat, filter}
 use Rattle.std.specs.Str.{trim, IsUtf8}
 use Rattle.cedar_tokens.specs.Units.{is_token, is_comment}
 use Rattle.cedar_tokens.specs.Split.{SplitsInto}
-use Rattle.cedar_tokens.specs.Listing.{Decorated, gaps, decorate, listing, comments, before_newline, after_newline}
+use Rattle.cedar_tokens.specs.Listing.{Decorated, gaps, decorate, listing, comments}
+use Rattle.cedar_tokens.specs.Inside.Newlines.{before_newline, after_newline}
 use Rattle.cedar_tokens.specs.PlainList.{plain_from, is_trailing_comma, touches, with_trailing_of, with_lines_of}
 use Rattle.cedar_tokens.proofs.Prefixes.{and_parts}
 use Rattle.cedar_text_laws.specs.Good.{IsGood, IsLine, IsTrailing}

@@ -4,7 +4,8 @@ use Rattle.std.specs.List.{filter, prefix_len}
 use Rattle.std.proofs.Math.Numerals.{one-add}
 use Rattle.std.specs.Str.{trim}
 use Rattle.cedar_tokens.specs.Units.{is_token, slots, punctuators}
-use Rattle.cedar_tokens.specs.Listing.{Decorated, Listing, IsListing, Gaps, gaps, decorate, listing, comments, lines, with_first, comment_of_line, is_nonempty, before_newline, after_newline}
+use Rattle.cedar_tokens.specs.Listing.{Decorated, Listing, IsListing, Gaps, gaps, decorate, listing, comments, lines, with_first, comment_of_line, is_empty}
+use Rattle.cedar_tokens.specs.Inside.Newlines.{before_newline, after_newline}
 use Rattle.cedar_tokens.proofs.CommentLines.{comments_nil}
 use Rattle.cedar_text_laws.specs.Joining.{follow, ahead_tokens, ahead_closing}
 use Rattle.cedar_text_laws.proofs.Scanned.{splits_join}
@@ -34,17 +35,17 @@ lines_join (b ∷ x) y = go (b == 10 || b == 13) (lines_join x y)
     go true ih = ap (λ z. [] ∷ z) ih
     go false ih = let q = lines_are x in ap (with_first b) ih ∙ lines_nonempty b (lines x) (lines y) q.0 q.1 q.2
 
-found_join : (ls ms : List (List ℕ)) → map trim (filter is_nonempty (map comment_of_line (ls ++ ms))) ≡ map trim (filter is_nonempty (map comment_of_line ls)) ++ map trim (filter is_nonempty (map comment_of_line ms))
+found_join : (ls ms : List (List ℕ)) → map trim (filter (λ c. not (is_empty c)) (map comment_of_line (ls ++ ms))) ≡ map trim (filter (λ c. not (is_empty c)) (map comment_of_line ls)) ++ map trim (filter (λ c. not (is_empty c)) (map comment_of_line ms))
 found_join [] ms = refl
 found_join (l ∷ ls) ms = go (comment_of_line l) (found_join ls ms)
   where
-    go : (c : List ℕ) → map trim (filter is_nonempty (map comment_of_line (ls ++ ms))) ≡ map trim (filter is_nonempty (map comment_of_line ls)) ++ map trim (filter is_nonempty (map comment_of_line ms)) → map trim (filter is_nonempty (c ∷ map comment_of_line (ls ++ ms))) ≡ map trim (filter is_nonempty (c ∷ map comment_of_line ls)) ++ map trim (filter is_nonempty (map comment_of_line ms))
+    go : (c : List ℕ) → map trim (filter (λ c. not (is_empty c)) (map comment_of_line (ls ++ ms))) ≡ map trim (filter (λ c. not (is_empty c)) (map comment_of_line ls)) ++ map trim (filter (λ c. not (is_empty c)) (map comment_of_line ms)) → map trim (filter (λ c. not (is_empty c)) (c ∷ map comment_of_line (ls ++ ms))) ≡ map trim (filter (λ c. not (is_empty c)) (c ∷ map comment_of_line ls)) ++ map trim (filter (λ c. not (is_empty c)) (map comment_of_line ms))
     go [] ih = ih
     go (b ∷ c) ih = ap (λ z. trim (b ∷ c) ∷ z) ih
 
 pub comments_join : (x y : List ℕ) → comments (x ++ (10 ∷ y)) ≡ comments x ++ comments y
 unfolding comments
-comments_join x y = ap (λ ls. map trim (filter is_nonempty (map comment_of_line ls))) (lines_join x y) ∙ found_join (lines x) (lines y)
+comments_join x y = ap (λ ls. map trim (filter (λ c. not (is_empty c)) (map comment_of_line ls))) (lines_join x y) ∙ found_join (lines x) (lines y)
 
 -- ---- gaps
 pub before_cons : (b : ℕ) (g : List ℕ) → before_newline (b ∷ g) ≡ cond (b == 10) [] (b ∷ before_newline g)

@@ -10,7 +10,8 @@ use Rattle.std.proofs.lemmas.List.Elements.{filter-append}
 use Rattle.std.proofs.lemmas.Str.{IsUtf8-take, IsUtf8-append, encode_ascii, chars-append, chars-nil, IsCharBoundary-before_ascii, encodes-chars}
 use Rattle.cedar_tokens.specs.Units.{IsBlank, IsToken, IsComment, IsUnit, blank, comment, token, is_token, is_comment, is_comment_byte, is_word_byte, is_string_rest, slots, punctuators}
 use Rattle.cedar_tokens.specs.Split.{Scans}
-use Rattle.cedar_tokens.specs.Listing.{listing, gaps, decorate, comments, before_newline, after_newline}
+use Rattle.cedar_tokens.specs.Listing.{listing, gaps, decorate, comments}
+use Rattle.cedar_tokens.specs.Inside.Newlines.{before_newline, after_newline}
 use Rattle.cedar_tokens.proofs.Prefixes.{and_parts}
 use Rattle.cedar_tokens.proofs.Heads.{class, class-white, class-blank, word, number, string, slot, punctuator, token_of, no_empty_token, one_of}
 use Rattle.cedar_tokens.proofs.Strings.{rest_test, rest_of}

@@ -7,7 +7,8 @@ use Rattle.cedar_tokens.specs.Listing.{listing, gaps, decorate, comments}
 use Rattle.cedar_text_laws.proofs.BlankLines.{chars_blank, Parted, parted_parts, blank_no_token, comments_pass, blank_no_slash, AllBlank}
 use Rattle.cedar_text_laws.proofs.Listed.{decorate_same, gaps_skip}
 use Rattle.std.proofs.Common.{ℕ, inl, inr, cond, not, ◌==◌}
-use Rattle.cedar_tokens.specs.Listing.{before_newline, after_newline, Gaps}
+use Rattle.cedar_tokens.specs.Listing.{Gaps}
+use Rattle.cedar_tokens.specs.Inside.Newlines.{before_newline, after_newline}
 use Rattle.cedar_tokens.proofs.Prefixes.{and_parts}
 use Rattle.cedar_tokens.proofs.CommentLines.{comments_nil}
 use Rattle.cedar_text_laws.proofs.Joined.{before_cons, after_cons}

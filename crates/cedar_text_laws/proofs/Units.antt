@@ -12,7 +12,7 @@ use Rattle.cedar_tokens.proofs.Strings.{string_end, complete}
 use Rattle.cedar_tokens.proofs.Longest.{clash, slot_is}
 use Rattle.cedar_tokens.proofs.FirstUnit.{comment_parts, token_class, no_empty_blank}
 use Rattle.cedar_text_laws.specs.Neighbours.{glues}
-use Rattle.cedar_layout.specs.Cleaning.{last_or}
+use Rattle.cedar_layout.specs.Cleaning.{last_byte_or}
 
 -- what stands at the start of w ++ r stands within w, or goes on behind it
 pub record Past (w r v : List ℕ) : Type 0 where
@@ -57,7 +57,7 @@ word_of_class b h = go (is_word_start b) refl
     go true e = e
     go false e = absurd (no_word_class (is_ascii_digit b) (b == 34) (b == 63) (nat_lt 32 b && nat_lt b 127) (rw e at h))
 
-pub last_passes : (p : ℕ → Bool) (b : ℕ) (w : List ℕ) → p b ≡ true → list_all p w ≡ true → p (last_or b w) ≡ true
+pub last_passes : (p : ℕ → Bool) (b : ℕ) (w : List ℕ) → p b ≡ true → list_all p w ≡ true → p (last_byte_or b w) ≡ true
 last_passes p b [] h k = h
 last_passes p b (c ∷ w) h k = let a = and_parts (p c) (list_all p w) k in last_passes p c w a.0 a.1
 
@@ -90,7 +90,7 @@ or_not true y h k = refl
 or_not false true h k = absurd cc
 or_not false false h k = absurd cc
 
-punctuator_then : (b d : ℕ) (w v : List ℕ) → length (w ++ (d ∷ v)) < 2 → is_one_of punctuators (b ∷ w) ≡ true → is_one_of punctuators (b ∷ (w ++ (d ∷ v))) ≡ true → glues (last_or b w) d ≡ true
+punctuator_then : (b d : ℕ) (w v : List ℕ) → length (w ++ (d ∷ v)) < 2 → is_one_of punctuators (b ∷ w) ≡ true → is_one_of punctuators (b ∷ (w ++ (d ∷ v))) ≡ true → glues (last_byte_or b w) d ≡ true
 punctuator_then b d [] [] l h k = or_not (glues b d) (is_one_of punctuators (b ∷ [])) (one_of pair_glues punctuators (b ∷ (d ∷ [])) pairs_glue k) h
 punctuator_then b d [] (e ∷ v) l h k = absurd (omega (arith, l))
 punctuator_then b d (c ∷ w) v l h k = absurd (omega (arith, l, length-append w (d ∷ v)))
@@ -125,17 +125,17 @@ string_then w d v h k =
     omega (arith, f, length-append w (d ∷ v))
 
 -- a token that is the front of a longer token glues to what follows
-token_then : (b : ℕ) (w : List ℕ) (d : ℕ) (v : List ℕ) → IsToken (b ∷ w) → IsToken (b ∷ (w ++ (d ∷ v))) → glues (last_or b w) d ≡ true
+token_then : (b : ℕ) (w : List ℕ) (d : ℕ) (v : List ℕ) → IsToken (b ∷ w) → IsToken (b ∷ (w ++ (d ∷ v))) → glues (last_byte_or b w) d ≡ true
 token_then b w d v h k = elim (token_of b w h) [
   | word c a ↦ elim (token_of b (w ++ (d ∷ v)) k) [
-    | word _ a2 ↦ words_glue (last_or b w) d (last_passes is_word_byte b w (word_start_byte b (word_of_class b c)) a) (next_passes is_word_byte w d v a2)
+    | word _ a2 ↦ words_glue (last_byte_or b w) d (last_passes is_word_byte b w (word_start_byte b (word_of_class b c)) a) (next_passes is_word_byte w d v a2)
     | number c2 _ ↦ absurd (clash c c2 refl)
     | string c2 _ ↦ absurd (clash c c2 refl)
     | slot c2 _ ↦ absurd (clash c c2 refl)
     | punctuator c2 _ _ ↦ absurd (clash c c2 refl)
   ]
   | number c a ↦ elim (token_of b (w ++ (d ∷ v)) k) [
-    | number _ a2 ↦ words_glue (last_or b w) d (last_passes is_word_byte b w (number_byte c) (all_bytes w a)) (digit_byte d (next_passes is_ascii_digit w d v a2))
+    | number _ a2 ↦ words_glue (last_byte_or b w) d (last_passes is_word_byte b w (number_byte c) (all_bytes w a)) (digit_byte d (next_passes is_ascii_digit w d v a2))
     | word c2 _ ↦ absurd (clash c c2 refl)
     | string c2 _ ↦ absurd (clash c c2 refl)
     | slot c2 _ ↦ absurd (clash c c2 refl)
@@ -172,7 +172,7 @@ token_then b w d v h k = elim (token_of b w h) [
     all_bytes (x ∷ w) h = let a = and_parts (is_ascii_digit x) (list_all is_ascii_digit w) h in rw (digit_byte x a.0) (all_bytes w a.1)
 
 -- a token that is the front of a comment is the punctuator `/`
-comment_then : (b : ℕ) (w : List ℕ) (d : ℕ) (v : List ℕ) → IsToken (b ∷ w) → IsComment (b ∷ (w ++ (d ∷ v))) → glues (last_or b w) d ≡ true
+comment_then : (b : ℕ) (w : List ℕ) (d : ℕ) (v : List ℕ) → IsToken (b ∷ w) → IsComment (b ∷ (w ++ (d ∷ v))) → glues (last_byte_or b w) d ≡ true
 comment_then b [] d v h k = let p = comment_parts b d v k in rw (p.0, p.1) refl
 comment_then b (c ∷ w) d v h k =
     let p = comment_parts b c (w ++ (d ∷ v)) k in
@@ -191,11 +191,11 @@ Apart c [] = ⊤
 Apart c (d ∷ r) = glues c d ≡ false
 
 -- a token is the unit where it stands, if what follows doesn't glue to it
-pub token_first : (w r : List ℕ) → IsToken w → Apart (last_or 32 w) r → IsFirstUnit (w ++ r) w
+pub token_first : (w r : List ℕ) → IsToken w → Apart (last_byte_or 32 w) r → IsFirstUnit (w ++ r) w
 token_first [] r h a = absurd (no_empty_token h)
 token_first (b ∷ w) r h a = first_from (b ∷ w) r (token h) none
   where
-    apart : (d : ℕ) (rest : List ℕ) → r ≡ d ∷ rest → glues (last_or b w) d ≡ false
+    apart : (d : ℕ) (rest : List ℕ) → r ≡ d ∷ rest → glues (last_byte_or b w) d ≡ false
     apart d rest e = rw e at a
 
     none : (v : List ℕ) → IsUnit v → Past (b ∷ w) r v → ⊥

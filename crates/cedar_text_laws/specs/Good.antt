@@ -4,7 +4,8 @@ use Rattle.std.specs.List.{AllByRecursion}
 use Rattle.std.specs.Str.{trim, IsUtf8}
 use Rattle.cedar_tokens.specs.Units.{is_comment, is_token}
 use Rattle.cedar_tokens.specs.Split.{SplitsInto}
-use Rattle.cedar_tokens.specs.Listing.{Decorated, before_newline}
+use Rattle.cedar_tokens.specs.Listing.{Decorated}
+use Rattle.cedar_tokens.specs.Inside.Newlines.{before_newline}
 
 -- a leading line or a closing comment: one comment, trimmed
 pub record IsLine (l : List ℕ) : Type 0 where

@@ -7,7 +7,8 @@ use Rattle.std.specs.List.{AllByRecursion}
 use Rattle.std.specs.Str.{IsCharBoundary, IsUtf8}
 use Rattle.cedar_tokens.specs.Units.{is_token, IsToken, IsUnit, FindsLongest, IsFirstUnit}
 use Rattle.cedar_tokens.specs.Split.{HasKind, Scans, SplitsInto}
-use Rattle.cedar_tokens.specs.Listing.{gaps, before_newline, after_newline}
+use Rattle.cedar_tokens.specs.Listing.{gaps}
+use Rattle.cedar_tokens.specs.Inside.Newlines.{before_newline, after_newline}
 use Rattle.cedar_tokens.specs.Places.{token_spans}
 use Rattle.cedar_tokens.specs.Inside.FirstTokens.{IsGap, IsFirstToken, BeginsNoToken}
 use Rattle.cedar_tokens.specs.declared.lexer.UnitKind.{UnitKind}

@@ -7,8 +7,8 @@ line_feed = 10
 abbrev pub carriage_return : ℕ
 carriage_return = 13
 
-abbrev pub space : ℕ
-space = 32
+abbrev pub space_character : ℕ
+space_character = 32
 
 abbrev pub quote : ℕ
 quote = 34

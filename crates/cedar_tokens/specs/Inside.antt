@@ -1,4 +1,5 @@
 -- What only contracts below the formatter's own calls cite.
 pub mod Scanners
 pub mod FirstTokens
+pub mod Newlines
 pub mod MovedLines

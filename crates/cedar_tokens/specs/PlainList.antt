@@ -1,14 +1,10 @@
 -- A decorated list without its trailing commas. Their comments go to their neighbours.
-use Rattle.std.specs.Prelude.{◌≡◌, ℕ, List, [], ◌∷◌, ◌++◌, Bool, true, false, ◌&&◌, if◌then◌else◌, codes, ⊤}
+use Rattle.std.specs.Prelude.{◌≡◌, ℕ, List, [], ◌∷◌, ◌++◌, Bool, false, ◌&&◌, if◌then◌else◌, codes, ⊤}
 use Rattle.std.specs.Str.{bytes_eq}
 use Rattle.cedar_tokens.specs.Units.{is_one_of}
-use Rattle.cedar_tokens.specs.Listing.{Decorated, comments}
+use Rattle.cedar_tokens.specs.Listing.{Decorated, is_empty, comments}
 use Rattle.cedar_tokens.specs.Tokens.{decorated}
 use Rattle.cedar_tokens.specs.declared.token.WrappedToken.{WrappedToken}
-
-abbrev pub is_empty : {X : Type 0} → List X → Bool
-is_empty [] = true
-is_empty (x ∷ xs) = false
 
 abbrev pub is_comma : List ℕ → Bool
 is_comma text = bytes_eq (codes ",") text

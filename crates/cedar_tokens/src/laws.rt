@@ -1,5 +1,7 @@
-//! The laws of the lexis and of the decorated list: each says what follows from the definitions, and its body does nothing.
+//! The laws of the lexis, of the decorated list and of `==`: each says what follows from the definitions, and its body does
+//! nothing.
 ghost use Rattle.cedar_tokens.specs.Characters.{StringByCharacters};
+ghost use Rattle.cedar_tokens.specs.Equality.{CommentClonesAreEqual, CommentEqualityIsByParts, TokenClonesAreEqual, TokenEqualityIsByParts, WrappedClonesAreEqual, WrappedEqualityIsByParts};
 ghost use Rattle.cedar_tokens.specs.Listing.{ListingIsUnique};
 ghost use Rattle.cedar_tokens.specs.PlainList.{PlainListIsPlain};
 ghost use Rattle.cedar_tokens.specs.Split.{FaultIsUnique, FaultPreventsSplit, SplitIsUnique};
@@ -32,4 +34,19 @@ pub fn fault_prevents_split()
 /// Where no two commas stand next to each other, taking the trailing commas out twice is taking them out once.
 pub fn plain_list_is_plain()
     ensures { PlainListIsPlain }
+{}
+
+/// Two `Token`s are equal exactly if they are of one kind and hold the same text, two `Comment`s if their leading lines and
+/// their trailing texts are the same, and two `WrappedToken`s if their tokens, comments and spans are.
+pub fn equality_is_by_parts()
+    ensures tokens { TokenEqualityIsByParts }
+    ensures comments { CommentEqualityIsByParts }
+    ensures wrapped { WrappedEqualityIsByParts }
+{}
+
+/// A clone of a `Token`, a `Comment` or a `WrappedToken` is equal to its source.
+pub fn clones_are_equal()
+    ensures tokens { TokenClonesAreEqual }
+    ensures comments { CommentClonesAreEqual }
+    ensures wrapped { WrappedClonesAreEqual }
 {}

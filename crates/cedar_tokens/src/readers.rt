@@ -2,7 +2,8 @@
 ghost use Rattle.std.specs.Prelude.{◌≡◌, ◌+◌, ◌≤◌, ◌<◌, [], length, MatchOption, IfSome, IfNone, IfOk, OnErr, List, ℕ};
 ghost use Rattle.std.specs.Str.{IsCharBoundary};
 ghost use Rattle.cedar_tokens.specs.Split.{Splits};
-ghost use Rattle.cedar_tokens.specs.Listing.{Listing, IsListing, before_newline, after_newline};
+ghost use Rattle.cedar_tokens.specs.Listing.{Listing, IsListing};
+ghost use Rattle.cedar_tokens.specs.Inside.Newlines.{before_newline, after_newline};
 ghost use Rattle.cedar_tokens.specs.Places.{AreTokenSpans};
 ghost use Rattle.cedar_tokens.specs.Tokens.{comments_left};
 ghost use Rattle.cedar_tokens.specs.Inside.FirstTokens.{IsGap, IsFirstToken, BeginsNoToken};

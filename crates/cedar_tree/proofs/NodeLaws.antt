@@ -10,7 +10,7 @@ use Rattle.cedar_grammar.specs.Trees.{Label, Forest, none, leaf, branch, yield}
 use Rattle.cedar_grammar.specs.Grammar.{G}
 use Rattle.cedar_grammar.specs.TokenKinds.{kind_of}
 use Rattle.cedar_grammar.specs.TrailingCommas.{plain, without_trailing}
-use Rattle.cedar_grammar.specs.Texts.{greatest_depth, tokens}
+use Rattle.cedar_grammar.specs.Texts.{greatest_depth, only_tokens}
 use Rattle.cedar_grammar.specs.Placed.{Placed, with_places, placed, kind_of_placed}
 use Rattle.cedar_tree.specs.Erased.{erase}
 use Rattle.cedar_tree.specs.NodeTrees.{spanned}
@@ -23,14 +23,14 @@ use Rattle.cedar_grammar.proofs.Relabelling.{relabelled, plain_each, each_map, m
 use Rattle.cedar_grammar.proofs.ListingTexts.{listing_texts}
 
 -- the tokens with their places are the tokens
-pub placed_texts : (units : List (List ℕ)) (p : ℕ) → each (λ (t : Placed). t.text) (with_places (tokens units) (token_spans p units)) ≡ tokens units
+pub placed_texts : (units : List (List ℕ)) (p : ℕ) → each (λ (t : Placed). t.text) (with_places (only_tokens units) (token_spans p units)) ≡ only_tokens units
 unfolding token_spans
 placed_texts [] p = refl
 placed_texts (u ∷ us) p = go (placed_texts us (p + length u)) (is_token u)
   where
-    go : each (λ (t : Placed). t.text) (with_places (tokens us) (token_spans (p + length u) us)) ≡ tokens us → (b : Bool)
-        → each (λ (t : Placed). t.text) (with_places (if b then u ∷ tokens us else tokens us) (if b then record { start = p; end = p + length u } ∷ token_spans (p + length u) us else token_spans (p + length u) us))
-        ≡ (if b then u ∷ tokens us else tokens us)
+    go : each (λ (t : Placed). t.text) (with_places (only_tokens us) (token_spans (p + length u) us)) ≡ only_tokens us → (b : Bool)
+        → each (λ (t : Placed). t.text) (with_places (if b then u ∷ only_tokens us else only_tokens us) (if b then record { start = p; end = p + length u } ∷ token_spans (p + length u) us else token_spans (p + length u) us))
+        ≡ (if b then u ∷ only_tokens us else only_tokens us)
     go h true = ap (λ z. u ∷ z) h
     go h false = h
 
@@ -63,11 +63,11 @@ spanned_leaves (branch l f g) = ap (λ z. z ++ yield (spanned (λ t. t.text) (λ
 pub nodes_have_the_plain_texts : SplitIsUnique → NodesHaveThePlainTexts
 nodes_have_the_plain_texts unique text p l t is_list =
     let units : t.units ≡ is_list.units = unique text t.units is_list.units t.split is_list.split in
-    let texts : map (λ d. d.text) l.tokens ≡ tokens t.units = ap (λ z. map (λ d. d.text) z.tokens) is_list.value ∙ listing_texts is_list.units ∙ ap tokens (sym units) in
+    let texts : map (λ d. d.text) l.tokens ≡ only_tokens t.units = ap (λ z. map (λ d. d.text) z.tokens) is_list.value ∙ listing_texts is_list.units ∙ ap only_tokens (sym units) in
     let first : yield (erase p) ≡ map (λ (t : Placed). token_value t.text) (plain kind_of_placed (placed t.units)) =
     ap yield t.nodes ∙ spanned_leaves (without_trailing kind_of_placed t.tree)
     ∙ ap (map (λ (t : Placed). token_value t.text)) (plain_leaves kind_of_placed greatest_depth t.tree t.grammar.shape ∙ ap (plain kind_of_placed) t.grammar.leaves) in
-    let second : map (λ (t : Placed). t.text) (plain kind_of_placed (placed t.units)) ≡ plain kind_of (tokens t.units) =
+    let second : map (λ (t : Placed). t.text) (plain kind_of_placed (placed t.units)) ≡ plain kind_of (only_tokens t.units) =
     sym (each_map (λ (t : Placed). t.text) (plain kind_of_placed (placed t.units))) ∙ sym (plain_each (λ (t : Placed). t.text) kind_of_placed kind_of (λ _. refl) (placed t.units))
     ∙ ap (plain kind_of) (placed_texts t.units 0) in
     first ∙ sym (map_map token_value (λ (t : Placed). t.text) (plain kind_of_placed (placed t.units)))

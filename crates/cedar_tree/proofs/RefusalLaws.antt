@@ -1,5 +1,5 @@
 -- Texts are accepted or refused, with one refusal at most.
-use Rattle.std.specs.Prelude.{◌≡◌, ◌≢◌, ℕ, Bool, true, false, List, [], ◌∷◌, ◌++◌, ◌⊎◌, length}
+use Rattle.std.specs.Prelude.{◌≡◌, ℕ, Bool, true, false, List, [], ◌∷◌, ◌++◌, ◌⊎◌, length}
 use Rattle.std.specs.List.{list_any, sum_by}
 use Rattle.std.proofs.Common.{refl, sym, ap, ◌∙◌, inl, inr, subst}
 use Rattle.cedar_tokens.specs.Split.{SplitsInto, IsFirstFault, fault_kind, SplitIsUnique, FaultIsUnique, FaultPreventsSplit}
@@ -8,9 +8,11 @@ use Rattle.cedar_tree.specs.declared.error.FormatError.{FormatError}
 use Rattle.cedar_tree.specs.declared.error.FormatError.TheVariants.{UnknownCharacter, UnfinishedString, NumberTooLarge, Grammar, TooDeep, NoDocument, Unsound, OutOfMemory}
 use Rattle.cedar_grammar.specs.Grammar.{G}
 use Rattle.cedar_grammar.specs.TokenKinds.{kind_of}
-use Rattle.cedar_grammar.specs.HopelessPlaces.{Begins, Hopeless, Unfinished}
+use Rattle.cedar_grammar.specs.Beginnings.{Begins}
+use Rattle.cedar_grammar.specs.Reader.Hopeless.{Hopeless, Unfinished, IsHopeless, IsUnfinished, IsRefused}
 use Rattle.cedar_grammar.specs.Numbers.{is_too_large, IsFirstTooLarge}
-use Rattle.cedar_grammar.specs.Texts.{greatest_depth, tokens, Accepted, IsHopeless, IsUnfinished, IsRefused}
+use Rattle.cedar_grammar.specs.Texts.{greatest_depth, only_tokens, Accepted, LeavesGrammar}
+use Rattle.cedar_grammar.proofs.Leaving.{leaves_grammar, is_refused}
 use Rattle.cedar_tree.specs.Refusals.{Refuses}
 use Rattle.cedar_tree.specs.Laws.{TextIsJudged, AcceptedIsNotRefused, RefusalIsUnique}
 use Rattle.cedar_grammar.specs.Reader.Reading.{Answer, done, stuck}
@@ -23,11 +25,11 @@ use Rattle.cedar_grammar.proofs.TextLaws.{whole_begins, not_hopeless, one_place,
 judge : (d : ℕ) → d ≡ greatest_depth → TextIsJudged
 judge d deep text units s = go (numbers_or units)
   where
-    hopeless : list_any is_too_large units ≡ false → (front : List (List ℕ)) (t : List ℕ) (rest : List (List ℕ)) (b : Bool) → Hopeless kind_of d (tokens units) front t rest b → (at : ℕ) × IsRefused text at b
+    hopeless : list_any is_too_large units ≡ false → (front : List (List ℕ)) (t : List ℕ) (rest : List (List ℕ)) (b : Bool) → Hopeless kind_of d (only_tokens units) front t rest b → (at : ℕ) × LeavesGrammar text at b
     hopeless fit front t rest b h =
         let c = unit_cut units front t rest h.split in (
           sum_by length c.before,
-          inl (record {
+          leaves_grammar text (sum_by length c.before) b (inl (record {
             before = c.before;
             token = t;
             after = c.after;
@@ -35,23 +37,23 @@ judge d deep text units s = go (numbers_or units)
             fitting = sym (ap (list_any is_too_large) c.whole) ∙ fit;
             place = refl;
             is_one = c.is_one;
-            hopeless = subst (λ z. Hopeless kind_of greatest_depth (tokens z) (tokens c.before) t (tokens c.after) b) c.whole
-                (subst (λ z. Hopeless kind_of z (tokens units) (tokens c.before) t (tokens c.after) b) deep
-                (subst (λ z. Hopeless kind_of d (tokens units) (tokens c.before) t z b) (sym c.rest_is) (subst (λ z. Hopeless kind_of d (tokens units) z t rest b) (sym c.front_is) h)));
-          }),
+            hopeless = subst (λ z. Hopeless kind_of greatest_depth (only_tokens z) (only_tokens c.before) t (only_tokens c.after) b) c.whole
+                (subst (λ z. Hopeless kind_of z (only_tokens units) (only_tokens c.before) t (only_tokens c.after) b) deep
+                (subst (λ z. Hopeless kind_of d (only_tokens units) (only_tokens c.before) t z b) (sym c.rest_is) (subst (λ z. Hopeless kind_of d (only_tokens units) z t rest b) (sym c.front_is) h)));
+          })),
         )
 
-    answer : list_any is_too_large units ≡ false → (x : Answer (List ℕ)) → set_to kind_of d (tokens units) ≡ x → Says kind_of d (tokens units) x → Accepted text ⊎ ((e : FormatError) × (e ≢ OutOfMemory) × Refuses text e)
-    answer fit (done f []) e g = inl (f, record { units = units; split = s; fitting = fit; grammar = subst (λ z. G kind_of z f (tokens units)) deep g })
-    answer fit (done f (a ∷ r)) e h = let w = hopeless fit h.0 a r false h.1 in inr (Grammar w.0, λ i. cc, w.1)
-    answer fit (stuck b []) e h = inr (Grammar (length text), λ i. cc, inr (record { units = units; split = s; fitting = fit; unfinished = subst (λ z. Unfinished kind_of z (tokens units)) deep h }, refl, refl))
-    answer fit (stuck true (a ∷ r)) e h = let w = hopeless fit h.0 a r true h.1 in inr (TooDeep w.0, λ i. cc, w.1)
-    answer fit (stuck false (a ∷ r)) e h = let w = hopeless fit h.0 a r false h.1 in inr (Grammar w.0, λ i. cc, w.1)
+    answer : list_any is_too_large units ≡ false → (x : Answer (List ℕ)) → set_to kind_of d (only_tokens units) ≡ x → Says kind_of d (only_tokens units) x → Accepted text ⊎ ((e : FormatError) × Refuses text e)
+    answer fit (done f []) e g = inl (f, record { units = units; split = s; fitting = fit; grammar = subst (λ z. G kind_of z f (only_tokens units)) deep g })
+    answer fit (done f (a ∷ r)) e h = let w = hopeless fit h.0 a r false h.1 in inr (Grammar w.0, w.1)
+    answer fit (stuck b []) e h = inr (Grammar (length text), leaves_grammar text (length text) false (inr (record { units = units; split = s; fitting = fit; unfinished = subst (λ z. Unfinished kind_of z (only_tokens units)) deep h }, refl, refl)))
+    answer fit (stuck true (a ∷ r)) e h = let w = hopeless fit h.0 a r true h.1 in inr (TooDeep w.0, w.1)
+    answer fit (stuck false (a ∷ r)) e h = let w = hopeless fit h.0 a r false h.1 in inr (Grammar w.0, w.1)
 
-    go : (list_any is_too_large units ≡ false) ⊎ Large units → Accepted text ⊎ ((e : FormatError) × (e ≢ OutOfMemory) × Refuses text e)
-    go (inl fit) = answer fit (set_to kind_of d (tokens units)) refl (says kind_of samples d (tokens units) (set_to kind_of d (tokens units)) refl)
+    go : (list_any is_too_large units ≡ false) ⊎ Large units → Accepted text ⊎ ((e : FormatError) × Refuses text e)
+    go (inl fit) = answer fit (set_to kind_of d (only_tokens units)) refl (says kind_of samples d (only_tokens units) (set_to kind_of d (only_tokens units)) refl)
     go (inr (f, n, r, e, x, l)) =
-        inr (NumberTooLarge (sum_by length f), λ i. cc, record { before = f; number = n; after = r; split = subst (λ z. SplitsInto text z) e s; place = refl; large = l; first = x })
+        inr (NumberTooLarge (sum_by length f), record { before = f; number = n; after = r; split = subst (λ z. SplitsInto text z) e s; place = refl; large = l; first = x })
 
 pub text_is_judged : TextIsJudged
 text_is_judged = judge greatest_depth refl
@@ -61,16 +63,14 @@ module _ (split_unique : SplitIsUnique) (fault_unique : FaultIsUnique) (fault_pr
   fault_split : (text : List ℕ) (at : ℕ) (units : List (List ℕ)) → IsFirstFault text at → SplitsInto text units → ⊥
   fault_split text at units f s = fault_prevents text at f (units, s)
 
-  fault_refused : (text : List ℕ) (at bt : ℕ) (b : Bool) → IsFirstFault text at → IsRefused text bt b → ⊥
-  fault_refused text at bt b f (inl h) = fault_split text at (h.before ++ (h.token ∷ h.after)) f h.split
-  fault_refused text at bt b f (inr h) = fault_split text at h.0.units f h.0.split
+  fault_refused : (text : List ℕ) (at bt : ℕ) (b : Bool) → IsFirstFault text at → LeavesGrammar text bt b → ⊥
+  fault_refused text at bt b f l = fault_split text at (l.before ++ l.after) f l.split
 
   large_fitting : (text : List ℕ) (at : ℕ) (units : List (List ℕ)) → IsFirstTooLarge text at → SplitsInto text units → list_any is_too_large units ≡ false → ⊥
   large_fitting text at units l s fit = fit_part l.before l.number l.after (ap (list_any is_too_large) (split_unique text (l.before ++ (l.number ∷ l.after)) units l.split s) ∙ fit) l.large
 
-  large_refused : (text : List ℕ) (at bt : ℕ) (b : Bool) → IsFirstTooLarge text at → IsRefused text bt b → ⊥
-  large_refused text at bt b l (inl h) = large_fitting text at (h.before ++ (h.token ∷ h.after)) l h.split h.fitting
-  large_refused text at bt b l (inr h) = large_fitting text at h.0.units l h.0.split h.0.fitting
+  large_refused : (text : List ℕ) (at bt : ℕ) (b : Bool) → IsFirstTooLarge text at → LeavesGrammar text bt b → ⊥
+  large_refused text at bt b l g = large_fitting text at (g.before ++ g.after) l g.split g.fitting
 
   large_same : (text : List ℕ) (at bt : ℕ) → IsFirstTooLarge text at → IsFirstTooLarge text bt → at ≡ bt
   large_same text at bt h k =
@@ -80,13 +80,13 @@ module _ (split_unique : SplitIsUnique) (fault_unique : FaultIsUnique) (fault_pr
   unfinished_hopeless : (text : List ℕ) (at : ℕ) (b : Bool) → IsUnfinished text → IsHopeless text at b → ⊥
   unfinished_hopeless text at b u h =
       let same = split_unique text u.units (h.before ++ (h.token ∷ h.after)) u.split h.split in
-      not_hopeless kind_of greatest_depth (tokens (h.before ++ (h.token ∷ h.after))) (tokens h.before) h.token (tokens h.after) b (subst (λ z. Begins kind_of greatest_depth (tokens z)) same u.unfinished.before) h.hopeless
+      not_hopeless kind_of greatest_depth (only_tokens (h.before ++ (h.token ∷ h.after))) (only_tokens h.before) h.token (only_tokens h.after) b (subst (λ z. Begins kind_of greatest_depth (only_tokens z)) same u.unfinished.before) h.hopeless
 
   refused_same : (text : List ℕ) (at bt : ℕ) (b c : Bool) → IsRefused text at b → IsRefused text bt c → (at ≡ bt) × (b ≡ c)
   refused_same text at bt b c (inl h) (inl k) =
       let same = split_unique text (h.before ++ (h.token ∷ h.after)) (k.before ++ (k.token ∷ k.after)) h.split k.split in
-      let one = one_place kind_of greatest_depth (tokens (k.before ++ (k.token ∷ k.after))) (tokens h.before) (tokens k.before) h.token k.token (tokens h.after) (tokens k.after) b c
-      (subst (λ z. Hopeless kind_of greatest_depth (tokens z) (tokens h.before) h.token (tokens h.after) b) same h.hopeless) k.hopeless in
+      let one = one_place kind_of greatest_depth (only_tokens (k.before ++ (k.token ∷ k.after))) (only_tokens h.before) (only_tokens k.before) h.token k.token (only_tokens h.after) (only_tokens k.after) b c
+      (subst (λ z. Hopeless kind_of greatest_depth (only_tokens z) (only_tokens h.before) h.token (only_tokens h.after) b) same h.hopeless) k.hopeless in
       (h.place ∙ ap (sum_by length) (one_cut h.before k.before h.token k.token h.after k.after same h.is_one k.is_one one.0) ∙ sym k.place, one.1)
   refused_same text at bt b c (inl h) (inr k) = absurd (unfinished_hopeless text at b k.0 h)
   refused_same text at bt b c (inr h) (inl k) = absurd (unfinished_hopeless text bt c h.0 k)
@@ -95,69 +95,72 @@ module _ (split_unique : SplitIsUnique) (fault_unique : FaultIsUnique) (fault_pr
   other_kinds : (text : List ℕ) (at bt : ℕ) → IsFirstFault text at → IsFirstFault text bt → fault_kind text at ≡ Fault.UnknownCharacter → fault_kind text bt ≡ Fault.UnfinishedString → ⊥
   other_kinds text at bt f g e h = let z : Fault.UnknownCharacter ≡ Fault.UnfinishedString = sym e ∙ ap (fault_kind text) (fault_unique text at bt f g) ∙ h in cc
 
-  kinds_differ : (text : List ℕ) (at bt : ℕ) → IsRefused text at false → IsRefused text bt true → ⊥
-  kinds_differ text at bt h k = let z = (refused_same text at bt false true h k).1 in cc
+  leaves_once : (text : List ℕ) (at bt : ℕ) (b c : Bool) → LeavesGrammar text at b → LeavesGrammar text bt c → (at ≡ bt) × (b ≡ c)
+  leaves_once text at bt b c h k = refused_same text at bt b c (is_refused text at b h) (is_refused text bt c k)
+
+  kinds_differ : (text : List ℕ) (at bt : ℕ) → LeavesGrammar text at false → LeavesGrammar text bt true → ⊥
+  kinds_differ text at bt h k = let z = (leaves_once text at bt false true h k).1 in cc
 
   pub refusal_is_unique : RefusalIsUnique
-  refusal_is_unique text (UnknownCharacter at) (UnknownCharacter bt) m n x y = ap UnknownCharacter (fault_unique text at bt x.0 y.0)
-  refusal_is_unique text (UnknownCharacter at) (UnfinishedString bt) m n x y = absurd (other_kinds text at bt x.0 y.0 x.1 y.1)
-  refusal_is_unique text (UnknownCharacter at) (NumberTooLarge bt) m n x y = absurd (fault_split text at (y.before ++ (y.number ∷ y.after)) x.0 y.split)
-  refusal_is_unique text (UnknownCharacter at) (Grammar bt) m n x y = absurd (fault_refused text at bt false x.0 y)
-  refusal_is_unique text (UnknownCharacter at) (TooDeep bt) m n x y = absurd (fault_refused text at bt true x.0 y)
-  refusal_is_unique text (UnknownCharacter at) NoDocument m n x y = absurd y
-  refusal_is_unique text (UnknownCharacter at) Unsound m n x y = absurd y
-  refusal_is_unique text (UnknownCharacter at) OutOfMemory m n x y = absurd (n refl)
-  refusal_is_unique text (UnfinishedString at) (UnknownCharacter bt) m n x y = absurd (other_kinds text bt at y.0 x.0 y.1 x.1)
-  refusal_is_unique text (UnfinishedString at) (UnfinishedString bt) m n x y = ap UnfinishedString (fault_unique text at bt x.0 y.0)
-  refusal_is_unique text (UnfinishedString at) (NumberTooLarge bt) m n x y = absurd (fault_split text at (y.before ++ (y.number ∷ y.after)) x.0 y.split)
-  refusal_is_unique text (UnfinishedString at) (Grammar bt) m n x y = absurd (fault_refused text at bt false x.0 y)
-  refusal_is_unique text (UnfinishedString at) (TooDeep bt) m n x y = absurd (fault_refused text at bt true x.0 y)
-  refusal_is_unique text (UnfinishedString at) NoDocument m n x y = absurd y
-  refusal_is_unique text (UnfinishedString at) Unsound m n x y = absurd y
-  refusal_is_unique text (UnfinishedString at) OutOfMemory m n x y = absurd (n refl)
-  refusal_is_unique text (NumberTooLarge at) (UnknownCharacter bt) m n x y = absurd (fault_split text bt (x.before ++ (x.number ∷ x.after)) y.0 x.split)
-  refusal_is_unique text (NumberTooLarge at) (UnfinishedString bt) m n x y = absurd (fault_split text bt (x.before ++ (x.number ∷ x.after)) y.0 x.split)
-  refusal_is_unique text (NumberTooLarge at) (NumberTooLarge bt) m n x y = ap NumberTooLarge (large_same text at bt x y)
-  refusal_is_unique text (NumberTooLarge at) (Grammar bt) m n x y = absurd (large_refused text at bt false x y)
-  refusal_is_unique text (NumberTooLarge at) (TooDeep bt) m n x y = absurd (large_refused text at bt true x y)
-  refusal_is_unique text (NumberTooLarge at) NoDocument m n x y = absurd y
-  refusal_is_unique text (NumberTooLarge at) Unsound m n x y = absurd y
-  refusal_is_unique text (NumberTooLarge at) OutOfMemory m n x y = absurd (n refl)
-  refusal_is_unique text (Grammar at) (UnknownCharacter bt) m n x y = absurd (fault_refused text bt at false y.0 x)
-  refusal_is_unique text (Grammar at) (UnfinishedString bt) m n x y = absurd (fault_refused text bt at false y.0 x)
-  refusal_is_unique text (Grammar at) (NumberTooLarge bt) m n x y = absurd (large_refused text bt at false y x)
-  refusal_is_unique text (Grammar at) (Grammar bt) m n x y = ap Grammar (refused_same text at bt false false x y).0
-  refusal_is_unique text (Grammar at) (TooDeep bt) m n x y = absurd (kinds_differ text at bt x y)
-  refusal_is_unique text (Grammar at) NoDocument m n x y = absurd y
-  refusal_is_unique text (Grammar at) Unsound m n x y = absurd y
-  refusal_is_unique text (Grammar at) OutOfMemory m n x y = absurd (n refl)
-  refusal_is_unique text (TooDeep at) (UnknownCharacter bt) m n x y = absurd (fault_refused text bt at true y.0 x)
-  refusal_is_unique text (TooDeep at) (UnfinishedString bt) m n x y = absurd (fault_refused text bt at true y.0 x)
-  refusal_is_unique text (TooDeep at) (NumberTooLarge bt) m n x y = absurd (large_refused text bt at true y x)
-  refusal_is_unique text (TooDeep at) (Grammar bt) m n x y = absurd (kinds_differ text bt at y x)
-  refusal_is_unique text (TooDeep at) (TooDeep bt) m n x y = ap TooDeep (refused_same text at bt true true x y).0
-  refusal_is_unique text (TooDeep at) NoDocument m n x y = absurd y
-  refusal_is_unique text (TooDeep at) Unsound m n x y = absurd y
-  refusal_is_unique text (TooDeep at) OutOfMemory m n x y = absurd (n refl)
-  refusal_is_unique text NoDocument e m n x y = absurd x
-  refusal_is_unique text Unsound e m n x y = absurd x
-  refusal_is_unique text OutOfMemory e m n x y = absurd (m refl)
+  refusal_is_unique text (UnknownCharacter at) (UnknownCharacter bt) x y = ap UnknownCharacter (fault_unique text at bt x.0 y.0)
+  refusal_is_unique text (UnknownCharacter at) (UnfinishedString bt) x y = absurd (other_kinds text at bt x.0 y.0 x.1 y.1)
+  refusal_is_unique text (UnknownCharacter at) (NumberTooLarge bt) x y = absurd (fault_split text at (y.before ++ (y.number ∷ y.after)) x.0 y.split)
+  refusal_is_unique text (UnknownCharacter at) (Grammar bt) x y = absurd (fault_refused text at bt false x.0 y)
+  refusal_is_unique text (UnknownCharacter at) (TooDeep bt) x y = absurd (fault_refused text at bt true x.0 y)
+  refusal_is_unique text (UnknownCharacter at) NoDocument x y = absurd y
+  refusal_is_unique text (UnknownCharacter at) Unsound x y = absurd y
+  refusal_is_unique text (UnknownCharacter at) OutOfMemory x y = absurd y
+  refusal_is_unique text (UnfinishedString at) (UnknownCharacter bt) x y = absurd (other_kinds text bt at y.0 x.0 y.1 x.1)
+  refusal_is_unique text (UnfinishedString at) (UnfinishedString bt) x y = ap UnfinishedString (fault_unique text at bt x.0 y.0)
+  refusal_is_unique text (UnfinishedString at) (NumberTooLarge bt) x y = absurd (fault_split text at (y.before ++ (y.number ∷ y.after)) x.0 y.split)
+  refusal_is_unique text (UnfinishedString at) (Grammar bt) x y = absurd (fault_refused text at bt false x.0 y)
+  refusal_is_unique text (UnfinishedString at) (TooDeep bt) x y = absurd (fault_refused text at bt true x.0 y)
+  refusal_is_unique text (UnfinishedString at) NoDocument x y = absurd y
+  refusal_is_unique text (UnfinishedString at) Unsound x y = absurd y
+  refusal_is_unique text (UnfinishedString at) OutOfMemory x y = absurd y
+  refusal_is_unique text (NumberTooLarge at) (UnknownCharacter bt) x y = absurd (fault_split text bt (x.before ++ (x.number ∷ x.after)) y.0 x.split)
+  refusal_is_unique text (NumberTooLarge at) (UnfinishedString bt) x y = absurd (fault_split text bt (x.before ++ (x.number ∷ x.after)) y.0 x.split)
+  refusal_is_unique text (NumberTooLarge at) (NumberTooLarge bt) x y = ap NumberTooLarge (large_same text at bt x y)
+  refusal_is_unique text (NumberTooLarge at) (Grammar bt) x y = absurd (large_refused text at bt false x y)
+  refusal_is_unique text (NumberTooLarge at) (TooDeep bt) x y = absurd (large_refused text at bt true x y)
+  refusal_is_unique text (NumberTooLarge at) NoDocument x y = absurd y
+  refusal_is_unique text (NumberTooLarge at) Unsound x y = absurd y
+  refusal_is_unique text (NumberTooLarge at) OutOfMemory x y = absurd y
+  refusal_is_unique text (Grammar at) (UnknownCharacter bt) x y = absurd (fault_refused text bt at false y.0 x)
+  refusal_is_unique text (Grammar at) (UnfinishedString bt) x y = absurd (fault_refused text bt at false y.0 x)
+  refusal_is_unique text (Grammar at) (NumberTooLarge bt) x y = absurd (large_refused text bt at false y x)
+  refusal_is_unique text (Grammar at) (Grammar bt) x y = ap Grammar (leaves_once text at bt false false x y).0
+  refusal_is_unique text (Grammar at) (TooDeep bt) x y = absurd (kinds_differ text at bt x y)
+  refusal_is_unique text (Grammar at) NoDocument x y = absurd y
+  refusal_is_unique text (Grammar at) Unsound x y = absurd y
+  refusal_is_unique text (Grammar at) OutOfMemory x y = absurd y
+  refusal_is_unique text (TooDeep at) (UnknownCharacter bt) x y = absurd (fault_refused text bt at true y.0 x)
+  refusal_is_unique text (TooDeep at) (UnfinishedString bt) x y = absurd (fault_refused text bt at true y.0 x)
+  refusal_is_unique text (TooDeep at) (NumberTooLarge bt) x y = absurd (large_refused text bt at true y x)
+  refusal_is_unique text (TooDeep at) (Grammar bt) x y = absurd (kinds_differ text bt at y x)
+  refusal_is_unique text (TooDeep at) (TooDeep bt) x y = ap TooDeep (leaves_once text at bt true true x y).0
+  refusal_is_unique text (TooDeep at) NoDocument x y = absurd y
+  refusal_is_unique text (TooDeep at) Unsound x y = absurd y
+  refusal_is_unique text (TooDeep at) OutOfMemory x y = absurd y
+  refusal_is_unique text NoDocument e x y = absurd x
+  refusal_is_unique text Unsound e x y = absurd x
+  refusal_is_unique text OutOfMemory e x y = absurd x
 
   accepted_refused : (text : List ℕ) (at : ℕ) (b : Bool) → Accepted text → IsRefused text at b → ⊥
   accepted_refused text at b (f, a) (inl h) =
       let same = split_unique text a.units (h.before ++ (h.token ∷ h.after)) a.split h.split in
-      not_hopeless kind_of greatest_depth (tokens (h.before ++ (h.token ∷ h.after))) (tokens h.before) h.token (tokens h.after) b
-      (subst (λ z. Begins kind_of greatest_depth (tokens z)) same (whole_begins kind_of greatest_depth f (tokens a.units) a.grammar)) h.hopeless
+      not_hopeless kind_of greatest_depth (only_tokens (h.before ++ (h.token ∷ h.after))) (only_tokens h.before) h.token (only_tokens h.after) b
+      (subst (λ z. Begins kind_of greatest_depth (only_tokens z)) same (whole_begins kind_of greatest_depth f (only_tokens a.units) a.grammar)) h.hopeless
   accepted_refused text at b (f, a) (inr h) =
       let same = split_unique text a.units h.0.units a.split h.0.split in
-      h.0.unfinished.not_whole f (subst (λ z. G kind_of greatest_depth f (tokens z)) same a.grammar)
+      h.0.unfinished.not_whole f (subst (λ z. G kind_of greatest_depth f (only_tokens z)) same a.grammar)
 
   pub accepted_is_not_refused : AcceptedIsNotRefused
-  accepted_is_not_refused text (UnknownCharacter at) (f, a) n x = fault_split text at a.units x.0 a.split
-  accepted_is_not_refused text (UnfinishedString at) (f, a) n x = fault_split text at a.units x.0 a.split
-  accepted_is_not_refused text (NumberTooLarge at) (f, a) n x = large_fitting text at a.units x a.split a.fitting
-  accepted_is_not_refused text (Grammar at) a n x = accepted_refused text at false a x
-  accepted_is_not_refused text (TooDeep at) a n x = accepted_refused text at true a x
-  accepted_is_not_refused text NoDocument a n x = x
-  accepted_is_not_refused text Unsound a n x = x
-  accepted_is_not_refused text OutOfMemory a n x = n refl
+  accepted_is_not_refused text (UnknownCharacter at) (f, a) x = fault_split text at a.units x.0 a.split
+  accepted_is_not_refused text (UnfinishedString at) (f, a) x = fault_split text at a.units x.0 a.split
+  accepted_is_not_refused text (NumberTooLarge at) (f, a) x = large_fitting text at a.units x a.split a.fitting
+  accepted_is_not_refused text (Grammar at) a x = accepted_refused text at false a (is_refused text at false x)
+  accepted_is_not_refused text (TooDeep at) a x = accepted_refused text at true a (is_refused text at true x)
+  accepted_is_not_refused text NoDocument a x = x
+  accepted_is_not_refused text Unsound a x = x
+  accepted_is_not_refused text OutOfMemory a x = x

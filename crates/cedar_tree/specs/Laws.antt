@@ -1,10 +1,9 @@
 -- Laws of accepted and refused texts, and of trees of nodes.
-use Rattle.std.specs.Prelude.{◌≡◌, ◌≢◌, ℕ, List, ◌⊎◌, ◌↔◌, map}
+use Rattle.std.specs.Prelude.{◌≡◌, ℕ, List, ◌⊎◌, ◌↔◌, map}
 use Rattle.cedar_tokens.specs.Split.{SplitsInto}
 use Rattle.cedar_tokens.specs.Listing.{IsListing, Listing, token_value}
 use Rattle.cedar_tokens.specs.PlainList.{plain_list}
 use Rattle.cedar_tree.specs.declared.error.FormatError.{FormatError}
-use Rattle.cedar_tree.specs.declared.error.FormatError.TheVariants.{OutOfMemory}
 use Rattle.cedar_tree.specs.declared.tree.Policies.{Policies}
 use Rattle.cedar_grammar.specs.Trees.{yield}
 use Rattle.cedar_grammar.specs.Texts.{Accepted}
@@ -15,15 +14,15 @@ use Rattle.cedar_tree.specs.NodeTrees.{IsTreeOf}
 
 -- a text that splits is accepted or refused
 abbrev pub TextIsJudged : Type 0
-TextIsJudged = (text : List ℕ) (units : List (List ℕ)) → SplitsInto text units → Accepted text ⊎ ((e : FormatError) × (e ≢ OutOfMemory) × Refuses text e)
+TextIsJudged = (text : List ℕ) (units : List (List ℕ)) → SplitsInto text units → Accepted text ⊎ ((e : FormatError) × Refuses text e)
 
 -- an accepted text is not refused
 abbrev pub AcceptedIsNotRefused : Type 0
-AcceptedIsNotRefused = (text : List ℕ) (e : FormatError) → Accepted text → e ≢ OutOfMemory → ¬ (Refuses text e)
+AcceptedIsNotRefused = (text : List ℕ) (e : FormatError) → Accepted text → ¬ (Refuses text e)
 
 -- a text has at most one refusal: one place and one kind
 abbrev pub RefusalIsUnique : Type 0
-RefusalIsUnique = (text : List ℕ) (d e : FormatError) → d ≢ OutOfMemory → e ≢ OutOfMemory → Refuses text d → Refuses text e → d ≡ e
+RefusalIsUnique = (text : List ℕ) (d e : FormatError) → Refuses text d → Refuses text e → d ≡ e
 
 -- a text with a tree of nodes is accepted
 abbrev pub TreeIsOfAccepted : Type 0

@@ -8,7 +8,7 @@ use Rattle.cedar_grammar.specs.Languages.{Many}
 use Rattle.cedar_grammar.specs.Grammar.{Policy}
 use Rattle.cedar_grammar.specs.Numbers.{is_too_large}
 use Rattle.cedar_grammar.specs.Placed.{Placed, with_places, kind_of_placed}
-use Rattle.cedar_grammar.specs.Texts.{greatest_depth, tokens, IsRefused}
+use Rattle.cedar_grammar.specs.Texts.{greatest_depth, only_tokens, LeavesGrammar}
 use Rattle.cedar_grammar.specs.TrailingCommas.{without_trailing}
 use Rattle.cedar_grammar.specs.Trees.{Label, Forest, yield}
 use Rattle.cedar_reading.specs.declared.lexeme.Lexeme.{Lexeme}
@@ -19,7 +19,7 @@ use Rattle.cedar_tree.specs.declared.tree.Node as Nodes
 use Rattle.cedar_tree.specs.declared.tree.Policy as Policies
 use Rattle.cedar_tree.specs.Erased.{policy_trees}
 use Rattle.cedar_tree.specs.NodeTrees.{spanned}
-use Rattle.cedar_tree.specs.Refusals.{RefusesTokens}
+use Rattle.cedar_tree.specs.Refusals.{OutOfMemoryOr, RefusesTokens}
 
 -- the place, with so many more bytes before it
 abbrev pub moved_span : ℕ → Span → Span
@@ -34,7 +34,7 @@ place_before end lexemes left = start_or end (slice_get lexemes (length lexemes 
 
 -- the tokens of a part that has these units and begins at this byte, with their places
 abbrev pub placed_from : ℕ → List (List ℕ) → List Placed
-placed_from from units = with_places (tokens units) (token_spans from units)
+placed_from from units = with_places (only_tokens units) (token_spans from units)
 
 -- the part is accepted, and these are its policies, with the places of a text in which it begins at this byte
 pub record HasPoliciesFrom (from : ℕ) (part : List ℕ) (policies : List (Nodes.Node Policies.Policy)) : Type 0 where
@@ -48,6 +48,6 @@ pub record HasPoliciesFrom (from : ℕ) (part : List ℕ) (policies : List (Node
 
 -- why the part is refused: the grammar refuses it, with the place in the text; or its tokens are refused
 abbrev pub RefusesFrom : ℕ → List ℕ → FormatError → Type 0
-RefusesFrom from part (Grammar p) = (q : ℕ) × (p ≡ from + q) × IsRefused part q false
-RefusesFrom from part (TooDeep p) = (q : ℕ) × (p ≡ from + q) × IsRefused part q true
-RefusesFrom from part e = RefusesTokens part e
+RefusesFrom from part (Grammar p) = (q : ℕ) × (p ≡ from + q) × LeavesGrammar part q false
+RefusesFrom from part (TooDeep p) = (q : ℕ) × (p ≡ from + q) × LeavesGrammar part q true
+RefusesFrom from part e = OutOfMemoryOr (RefusesTokens part) e

@@ -3,7 +3,7 @@ ghost use Rattle.std.specs.Prelude.{◌≡◌, ◌≢◌, ◌≤◌, ◌<◌, �
 ghost use Rattle.std.specs.List.{All};
 ghost use Rattle.std.specs.Str.{IsCharBoundary};
 ghost use Rattle.cedar_tree.specs.NodeTrees.{IsTreeOf};
-ghost use Rattle.cedar_tree.specs.Refusals.{Refuses, RefusesTokens};
+ghost use Rattle.cedar_tree.specs.Refusals.{OutOfMemoryOr, Refuses, RefusesTokens};
 ghost use Rattle.cedar_tree.specs.declared.error.FormatError.TheVariants.{OutOfMemory};
 ghost use Rattle.cedar_cst.specs.Inside.Parts.{moved_lexeme, place_before, HasPoliciesFrom, RefusesFrom};
 ghost use Rattle.cedar_cst.specs.PolicyReaders.{HasPolicies, HasRead};
@@ -41,7 +41,7 @@ impl<'src> PolicyReader<'src> {
     /// 18446744073709551615. It takes no memory.
     pub fn new(text: &'src str) -> Result<PolicyReader<'src>, FormatError>
         ensures reader { IfOk result (λ reader. HasRead reader text.now []) }
-        ensures refusal { IfErr result (λ e. RefusesTokens text.now e) }
+        ensures refusal { IfErr result (RefusesTokens text.now) }
         ensures memory { IfErr result (λ e. e ≢ OutOfMemory) }
     {
         check_tokens(text)?;
@@ -53,7 +53,7 @@ impl<'src> PolicyReader<'src> {
     /// before.
     pub fn next(&mut self, alloc: Global) -> Result<Option<Node<Policy<'src>>>, FormatError>
         ensures answer { (text : List _) (ps : List _) → HasRead self.old text ps → IfOk result (λ next. MatchOption next (HasPolicies text ps) (λ p. HasRead self.new text (ps ++ p ∷ []))) }
-        ensures refusal { IfErr result (λ e. Refuses self.old.text e) }
+        ensures refusal { IfErr result (OutOfMemoryOr (Refuses self.old.text)) }
         ensures place { IfOk result (λ next. MatchOption next (self.new ≡ self.old) (λ _. self.old.at < self.new.at)) }
         ensures refused { OnErr result (self.new ≡ self.old) }
     {
@@ -76,7 +76,7 @@ impl<'src> PolicyReader<'src> {
 /// has few policies.
 pub fn parse_at_once<'src>(alloc: Global, text: &'src str) -> Result<Policies<'src>, FormatError>
     ensures tree { IfOk result (λ p. IsTreeOf text.now p) }
-    ensures refusal { IfErr result (λ e. Refuses text.now e) }
+    ensures refusal { IfErr result (OutOfMemoryOr (Refuses text.now)) }
 {
     tree_has_the_policies();
     parse_part(alloc, text, 0, text.len())

@@ -2,7 +2,7 @@
 use Rattle.std.specs.Prelude.{ℕ, zero, suc, true, false, ◌||◌}
 use Rattle.cedar_grammar.specs.declared.kind.Kind.{Kind}
 use Rattle.cedar_grammar.specs.declared.kind.Kind.TheVariants as K
-use Rattle.cedar_grammar.specs.Kinds.{is, is_word, is_ident, is_comparison, is_boolean, is_effect, is_cond_word}
+use Rattle.cedar_grammar.specs.Kinds.{is, is_any_word, is_ident, is_comparison, is_boolean, is_effect, is_cond_word}
 use Rattle.cedar_grammar.specs.Trees.{policies, policy, annotation, variable, condition, expr, or, and, relation, add, mult, unary, member, access, primary, name, slot, rec_init}
 use Rattle.cedar_grammar.specs.Trees as L
 use Rattle.cedar_grammar.specs.Reader.Reading.{Reader, too_deep}
@@ -45,7 +45,7 @@ action = node variable (word_of (is K.Action) ▸ maybe (one_of K.Equal ▸ oper
     ∥ one_of K.In ▸ (operand (node primary (node L.list (one_of K.LBracket ▸ maybe (items entity_item) ▸ one_of K.RBracket))) ∥ operand entity)))
 
 abbrev pub annotation_rule : Rule
-annotation_rule = node annotation (one_of K.At ▸ word_of is_word ▸ maybe (one_of K.LParen ▸ text_rule ▸ one_of K.RParen))
+annotation_rule = node annotation (one_of K.At ▸ word_of is_any_word ▸ maybe (one_of K.LParen ▸ text_rule ▸ one_of K.RParen))
 
 abbrev pub same_signs : Kind → Rule
 same_signs k = one_of k ▸ maybe (one_of k ▸ maybe (one_of k ▸ maybe (one_of k)))

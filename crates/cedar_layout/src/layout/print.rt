@@ -1,7 +1,7 @@
 //! The second pass over a document: it prints, from the first node to the last, by the notes of the first pass.
 ghost use Rattle.std.specs.Prelude.{◌≡◌, ℕ, ◌+◌, ◌≤◌, ◌<◌, ◌||◌, ◌&&◌, false, not, nat_le, List, [], ◌∷◌, ◌++◌, length, take, replicate, string_bytes, vec_len, IfOk, OnOk, OnErr};
 ghost use Rattle.std.specs.List.{flat_map};
-ghost use Rattle.cedar_tokens.specs.Bytes.{line_feed, space};
+ghost use Rattle.cedar_tokens.specs.Bytes.{line_feed, space_character};
 ghost use Rattle.cedar_layout.specs.declared.layout.measure.Note.{Note};
 ghost use Rattle.cedar_layout.specs.Layout.{indented, print};
 ghost use Rattle.cedar_layout.specs.Inside.Computed.{capped, laid};
@@ -165,7 +165,7 @@ fn indented(indent: usize, n: isize) -> usize
 
 /// A line feed and the spaces of an indentation. Memory is asked for before any is written.
 fn break_line(out: &mut String, indent: usize) -> Result<(), AllocError>
-    ensures ok { OnOk result (string_bytes out.new ≡ string_bytes out.old ++ line_feed ∷ replicate indent space) }
+    ensures ok { OnOk result (string_bytes out.new ≡ string_bytes out.old ++ line_feed ∷ replicate indent space_character) }
     ensures kept { take (length (string_bytes out.old)) (string_bytes out.new) ≡ string_bytes out.old }
 {
     out.reserve(indent.saturating_add(1))?;

@@ -3,9 +3,9 @@ ghost use Rattle.std.specs.Prelude.{◌≡◌, ◌+◌, ◌<◌, ◌≤◌, ◌=
 ghost use Rattle.std.specs.Char.{is_whitespace};
 ghost use Rattle.std.specs.List.{list_all, position};
 ghost use Rattle.std.specs.Str.{chars, IsCharBoundary};
-ghost use Rattle.cedar_tokens.specs.Bytes.{line_feed, space};
+ghost use Rattle.cedar_tokens.specs.Bytes.{line_feed, space_character};
 ghost use Rattle.cedar_tokens.specs.Units.{FindsLongest, IsComment};
-ghost use Rattle.cedar_layout.specs.Cleaning.{FindsFirst, IsCleaned, IsKept, IsString, clean_piece, is_blank_line, last_or};
+ghost use Rattle.cedar_layout.specs.Cleaning.{FindsFirst, IsCleaned, IsKept, IsString, clean_piece, is_blank_line, last_byte_or};
 ghost use Rattle.cedar_layout.specs.Inside.Seeking.{IsFirstLine, IsSought};
 
 use cedar_tokens::lexer::{UnitKind, first_unit};
@@ -174,7 +174,7 @@ fn has_blanks_alone(line: &str) -> bool
 }
 
 fn ends_in_line_feed(line: &[u8]) -> bool
-    ensures { result ≡ (last_or space line.now == line_feed) }
+    ensures { result ≡ (last_byte_or space_character line.now == line_feed) }
 {
     match line.last() {
         Some(byte) => *byte == b'\n',

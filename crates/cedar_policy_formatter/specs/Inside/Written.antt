@@ -12,7 +12,7 @@ use Rattle.cedar_layout.specs.Lookups.{Shown}
 use Rattle.cedar_canonical.specs.Leaves.{part_map}
 use Rattle.cedar_leaf_documents.specs.NodeDocuments.{as_leaf}
 use Rattle.cedar_policy_documents.specs.PartDocuments.{part_document}
-use Rattle.cedar_canonical.specs.Output.{PolicyTexts, join}
+use Rattle.cedar_canonical.specs.Output.{PolicyTexts, paragraphs}
 use Rattle.cedar_tokens.specs.Bytes.{line_feed}
 
 -- the text of one policy: its document's layout at the width, cleaned
@@ -21,7 +21,7 @@ IsPolicyText w i p y = (x : List ℕ) × IsTheLayoutAt w (part_document i p) x �
 
 -- the texts of policies, with an empty line between them
 abbrev pub AreJoined : ℕ → ℤ → List (Clause Shown policy) → List ℕ → Type 0
-AreJoined w i ps y = (texts : List (List ℕ)) × PolicyTexts (IsTheLayoutAt w) i (map (part_map as_leaf) ps) texts × (y ≡ join texts)
+AreJoined w i ps y = (texts : List (List ℕ)) × PolicyTexts (IsTheLayoutAt w) i (map (part_map as_leaf) ps) texts × (y ≡ paragraphs texts)
 
 -- the text before the next policy: behind an empty line, but for the first
 abbrev pub IsParted : Bool → List ℕ → List ℕ → Type 0

@@ -7,7 +7,7 @@ use Rattle.cedar_reading.specs.declared.lexeme.Lexeme.{Lexeme}
 use Rattle.cedar_grammar.specs.Trees.{Label, Forest}
 use Rattle.cedar_grammar.specs.TokenKinds.{kind_of}
 use Rattle.cedar_grammar.specs.Numbers.{is_too_large}
-use Rattle.cedar_grammar.specs.Texts.{tokens}
+use Rattle.cedar_grammar.specs.Texts.{only_tokens}
 use Rattle.cedar_grammar.specs.TrailingCommas.{without_trailing}
 use Rattle.cedar_tree.specs.Erased.{Erased}
 use Rattle.cedar_tree.specs.NodeTrees.{spanned}
@@ -17,7 +17,7 @@ pub record AreLexemes (text : List ℕ) (lexemes : List Lexeme) : Type 0 where
   pub units : List (List ℕ)
   pub split : SplitsInto text units
   pub fitting : list_any is_too_large units ≡ false
-  pub texts : map (λ l. l.text.now) lexemes ≡ tokens units
+  pub texts : map (λ l. l.text.now) lexemes ≡ only_tokens units
   pub places : map (λ l. l.span) lexemes ≡ token_spans 0 units
   pub kinds : AllByRecursion (λ l. l.kind ≡ kind_of l.text.now) lexemes
 

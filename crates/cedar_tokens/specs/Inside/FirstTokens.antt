@@ -3,7 +3,7 @@ use Rattle.std.specs.Prelude.{◌≡◌, ◌≤◌, true, false, List, ℕ, leng
 use Rattle.std.specs.List.{AllByRecursion}
 use Rattle.cedar_tokens.specs.Units.{is_token, IsToken, IsFirstUnit}
 use Rattle.cedar_tokens.specs.Split.{Scans}
-use Rattle.cedar_tokens.specs.Listing.{before_newline, after_newline}
+use Rattle.cedar_tokens.specs.Inside.Newlines.{before_newline, after_newline}
 use Rattle.cedar_tokens.specs.declared.readers.FirstToken.{FirstToken}
 
 -- the first n bytes of the text are units that are no tokens, and a unit that begins behind them is a token

@@ -1,13 +1,13 @@
 -- The lines that brackets take over from trailing commas. Only contracts of private functions cite these.
 use Rattle.std.specs.Prelude.{ℕ, List, [], ◌∷◌, ◌++◌, Bool, false, ◌&&◌, ◌||◌, not, if◌then◌else◌, Option, Some, None, ◌≡◌, map}
-use Rattle.cedar_tokens.specs.Listing.{Decorated, comments}
+use Rattle.cedar_tokens.specs.Listing.{Decorated, is_empty, comments}
 use Rattle.std.specs.Borrow.{Bor}
 use Rattle.std.specs.Option.{option_map}
 use Rattle.std.specs.Global.{Vec}
 use Rattle.std.specs.Vec.Iter.{into_iter_items}
 use Rattle.std.specs.declared.alloc.Global.{Global}
 use Rattle.std.specs.declared.vec.IntoIter.{IntoIter}
-use Rattle.cedar_tokens.specs.PlainList.{is_empty, is_trailing_comma, with_trailing_of, with_lines_of}
+use Rattle.cedar_tokens.specs.PlainList.{is_trailing_comma, with_trailing_of, with_lines_of}
 use Rattle.cedar_tokens.specs.Tokens.{decorated, trailing_text}
 use Rattle.cedar_tokens.specs.declared.token.WrappedToken.{WrappedToken}
 

@@ -1,5 +1,5 @@
-use Rattle.cedar_canonical.proofs.CanonicalForm.{accepted_has_output, output_list, outputs_tell, output_again, output_trees}
-use Rattle.cedar_canonical.proofs.Accepting.{output_accepted}
+use Rattle.cedar_canonical.proofs.CanonicalForm.{accepted_has_output, output_list, outputs_tell}
+use Rattle.cedar_canonical.proofs.Accepting.{output_accepted, output_again}
 use Rattle.cedar_canonical.proofs.laws.outputs_are_canonical.Goals as goal
 
 pub returns-clause-some : goal.returns-clause-some
@@ -16,6 +16,3 @@ returns-clause-again c = output_again
 
 pub returns-clause-accepted : goal.returns-clause-accepted
 returns-clause-accepted c = output_accepted
-
-pub returns-clause-trees : goal.returns-clause-trees
-returns-clause-trees c = output_trees

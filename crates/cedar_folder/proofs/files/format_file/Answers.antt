@@ -2,9 +2,11 @@ use Rattle.std.proofs.Common.{◌≡◌, Some, refl, subst, sym}
 use Rattle.std.specs.Prelude.{string_bytes}
 use Rattle.std.specs.Str.{IsUtf8}
 use Rattle.cedar_folder.specs.Folders.{Follows, stored}
-use Rattle.cedar_folder.specs.Runs.{GivesLayout, Handles, HasOutput, HoldsReplaced, IsUnformatted}
+use Rattle.cedar_tree.specs.Refusals.{OutOfMemoryOr, Refuses}
+use Rattle.cedar_policy_formatter.specs.Outputs.{HasOutput}
+use Rattle.cedar_folder.specs.Runs.{GivesLayout, Handles, HoldsReplaced, IsUnformatted}
 use Rattle.cedar_folder.specs.declared.files.Layout.TheVariants.{Other}
-use Rattle.cedar_folder.specs.declared.folder.Outcome.TheVariants.{NotUtf8, Unformatted}
+use Rattle.cedar_folder.specs.declared.folder.Outcome.TheVariants.{NotUtf8, Refused, Unformatted}
 use Rattle.cedar_folder.proofs.Steps.{as_one, of_two}
 use Rattle.cedar_folder.proofs.Handling.{of_read, of_replaced}
 use Rattle.cedar_folder.proofs.files.format_file.Goals as goal
@@ -36,3 +38,9 @@ pub returns-in-NotUtf8 : goal.returns-in-NotUtf8
 returns-in-NotUtf8 g c =
     let pic = g.F.Folder.picture in
     as_one (λ p q h. of_read c.args.config.now c.args.name.now c.args.only_checks NotUtf8 (stored c.in-Ok.file) p q h (subst (λ z. IsUtf8 z → ⊥) c.deref.ensures.value c.in-NotUtf8.ensures, refl)) (pic c.args.folder.now) (pic c.read.new.self) c.in-Ok.ensures
+
+pub returns : goal.returns
+returns g c =
+    let pic = g.F.Folder.picture in
+    let why : OutOfMemoryOr (Refuses c.in-Ok.file.bytes.items) c.in-Refused.error = subst (λ z. OutOfMemoryOr (Refuses z) c.in-Refused.error) c.deref.ensures.value c.in-Refused.ensures in
+    as_one (λ p q h. of_read c.args.config.now c.args.name.now c.args.only_checks (Refused c.in-Refused.error c.in-Ok.file.bytes) (stored c.in-Ok.file) p q h (why, refl, refl)) (pic c.args.folder.now) (pic c.read.new.self) c.in-Ok.ensures

@@ -7,6 +7,7 @@ use Rattle.cedar_tree.specs.Erased as erased
 use Rattle.cedar_policy_formatter.specs.Refused.{IsMemory}
 use Rattle.cedar_layout.specs.Lookups.{shown}
 use Rattle.cedar_policy_formatter.specs.Inside.Written.{IsPolicyText}
+use Rattle.cedar_leaf_documents.proofs.Keeping.{◌∘◌, all_kept}
 use Rattle.cedar_policy_formatter.proofs.Outputs.{JoinedSoFar, joined_begun, joined_fails, joined_more, joined_ends}
 use Rattle.cedar_policy_formatter.proofs.fmt.joined_policies.Goals as goal
 
@@ -14,7 +15,7 @@ pub loop-policy-init : goal.loop-policy-init
 loop-policy-init c = record {
   len = search rules;
   order = search rules;
-  kept = search rules;
+  kept = all_kept _;
   config = search rules;
   so_far = λ ps n s. joined_begun _ _ ps _ _ _ c.new-text.ensures.bytes (ap erased.policy_trees c.into_iter-policy-iterator.ensures.into_iter_gives.0 ∙ n) s;
 }
@@ -27,7 +28,7 @@ loop-policy-preserved c =
     record {
       len = let was = at.invariant.len in let gone = c.in-Some.ensures.steps.1 in let short = ap length steps in omega arith;
       order = search rules;
-      kept = search rules;
+      kept = c.in_ok-layout.ensures.kept ∘ at.invariant.kept;
       config = search rules;
       so_far = λ ps n s.
           let width = c.args.context.now.config.now.line_width in

@@ -13,16 +13,15 @@ pub plain_stream-requires : goal.plain_stream-requires
 plain_stream-requires c = (c.requires.units, c.requires.split)
 
 pub returns-then-has_tokens : goal.returns-then-has_tokens
-returns-then-has_tokens c = output_of c.args.config.now.line_width c.args.config.now.indent_width c.args.ps.now c.args.tree c.in_ok-tokens.tokens.items (comments_left c.in_ok-tokens.closing) (string_bytes c.in_ok-text.text) _ c.utf8.ps c.requires
+returns-then-has_tokens c = output_of c.args.config.now.line_width c.args.config.now.indent_width c.args.ps.now c.args.tree c.in_ok-tokens.tokens.items (comments_left c.in_ok-tokens.closing) (string_bytes c.in_ok-text.text) _ c.utf8.ps (c.tree_is_of_accepted.ensures c.args.ps.now c.args.tree c.requires) c.requires
     c.in_ok-tokens.ensures.stream c.in_ok-text.ensures.joined c.in_ok-push_closing.ensures
 
 pub returns : goal.returns
 returns c =
-    let laid = output_of c.args.config.now.line_width c.args.config.now.indent_width c.args.ps.now c.args.tree c.in_ok-tokens.tokens.items (comments_left c.in_ok-tokens.closing) (string_bytes c.in_ok-text.text) _ c.utf8.ps c.requires
+    let laid = output_of c.args.config.now.line_width c.args.config.now.indent_width c.args.ps.now c.args.tree c.in_ok-tokens.tokens.items (comments_left c.in_ok-tokens.closing) (string_bytes c.in_ok-text.text) _ c.utf8.ps (c.tree_is_of_accepted.ensures c.args.ps.now c.args.tree c.requires) c.requires
     c.in_ok-tokens.ensures.stream c.in_ok-text.ensures.joined c.in_ok-push_closing.ensures in
-    let accepted = c.tree_is_of_accepted.ensures c.args.ps.now c.args.tree c.requires in
     let output = subst (λ z. IsOutputOf c.args.config.now.line_width c.args.config.now.indent_width c.args.ps.now z) (sym c.as_str.ensures.value) laid in
-    let h = has_them c.outputs_are_canonical.ensures.list c.outputs_are_canonical.ensures.accepted c.args.config.now.line_width c.args.config.now.indent_width c.args.ps.now c.as_str.result.now c.in_ok-tokens.tokens.items _ _ c.utf8.ps accepted output c.in_ok-tokens.ensures.stream (subst (λ z. KeepsTokens c.in_ok-tokens.tokens.items z) (sym c.deref.ensures.value) c.in_ok-text.ensures.kept) in
+    let h = has_them c.outputs_are_canonical.ensures.list c.outputs_are_canonical.ensures.accepted c.args.config.now.line_width c.args.config.now.indent_width c.args.ps.now c.as_str.result.now c.in_ok-tokens.tokens.items _ _ c.utf8.ps output c.in_ok-tokens.ensures.stream (subst (λ z. KeepsTokens c.in_ok-tokens.tokens.items z) (sym c.deref.ensures.value) c.in_ok-text.ensures.kept) in
     let t = c.has_tokens.ensures.1 h in
     let f = c.if-has_tokens.false in
     absurd cc

@@ -5,14 +5,13 @@ use Rattle.std.proofs.lemmas.List.{length-drop, length-take-le}
 use Rattle.std.proofs.lemmas.Str.{IsCharBoundary-start, IsCharBoundary-from_rest}
 use Rattle.cedar_tokens.specs.Listing.{comments}
 use Rattle.cedar_grammar.specs.Texts.{Accepted}
-use Rattle.cedar_tree.specs.Refusals.{Refuses}
+use Rattle.cedar_tree.specs.Refusals.{OutOfMemoryOr, Refuses}
 use Rattle.cedar_canonical.specs.Canonical.{IsOutputOf}
 use Rattle.cedar_canonical.specs.Output.{closing_text}
 use Rattle.cedar_reading.proofs.Walking.{part_unit}
 use Rattle.cedar_pieces.specs.Pieces.{IsPiece, HasNoPiece}
 use Rattle.cedar_policy_formatter.specs.Inside.Written.{behind_feed}
 use Rattle.cedar_policy_formatter.proofs.Piecewise.{laid_begun, laid_more, laid_ends, rest_fails, piece_fails, placed_within}
-use Rattle.cedar_policy_formatter.proofs.OutputPolicies.{output_keeps_policies}
 use Rattle.cedar_policy_formatter.proofs.fmt.policies_str_to_pretty.Goals as goal
 
 pub pieces-init : goal.pieces-init
@@ -42,8 +41,8 @@ returns-in-Err-clause-answer c =
     let at = c.pieces.at in
     let len = c.in-Some.len in
     let piece : IsPiece (drop at text) len = subst (λ z. IsPiece z len) c.range_from.ensures.value c.in-Some.ensures.piece.piece in
-    let refused : Refuses (take len (drop at text)) c.in-Err.refusal = subst (λ z. Refuses z c.in-Err.refusal) (c.range.ensures.value ∙ part_unit text at len) c.in-Err.ensures.answer in
-    subst (λ e. Refuses text e) (sym c.behind.ensures)
+    let refused : OutOfMemoryOr (Refuses (take len (drop at text))) c.in-Err.refusal = subst (λ z. OutOfMemoryOr (Refuses z) c.in-Err.refusal) (c.range.ensures.value ∙ part_unit text at len) c.in-Err.ensures.answer in
+    subst (OutOfMemoryOr (Refuses text)) (sym c.behind.ensures)
     (piece_fails c.args.config.now.line_width c.args.config.now.indent_width text c.in_ok-check_tokens.ensures.tokens at (string_bytes c.pieces.text) len c.pieces.invariant.laid piece c.in-Err.refusal refused)
 
 pub pieces-preserved : goal.pieces-preserved
@@ -75,9 +74,9 @@ behind-requires-in-Err-parse_at_once-clause-place c =
 pub returns-in-Err-parse_at_once-clause-answer : goal.returns-in-Err-parse_at_once-clause-answer
 returns-in-Err-parse_at_once-clause-answer c =
     let refusal = c.in-Err-parse_at_once.refusal in
-    subst (λ e. Refuses c.args.ps.now e) (sym c.behind-in-Err-parse_at_once.ensures)
+    subst (OutOfMemoryOr (Refuses c.args.ps.now)) (sym c.behind-in-Err-parse_at_once.ensures)
     (rest_fails c.args.config.now.line_width c.args.config.now.indent_width c.args.ps.now c.in_ok-check_tokens.ensures.tokens c.pieces.at (string_bytes c.pieces.text) c.pieces.invariant.laid refusal
-    (subst (λ z. Refuses z refusal) c.range_from-rest.ensures.value c.in-Err-parse_at_once.ensures.refusal))
+    (subst (λ z. OutOfMemoryOr (Refuses z) refusal) c.range_from-rest.ensures.value c.in-Err-parse_at_once.ensures.refusal))
 
 -- the text is accepted, and its output is written
 ends : (c : goal.In_ok-push_closing) → Accepted c.args.ps.now × IsOutputOf c.args.config.now.line_width c.args.config.now.indent_width c.args.ps.now (string_bytes c.push_closing.new.text)
@@ -97,7 +96,3 @@ returns-clause-answer c = (ends c).0
 
 pub returns-clause-output : goal.returns-clause-output
 returns-clause-output c = (ends c).1
-
-pub returns-clause-kept : goal.returns-clause-kept
-returns-clause-kept c =
-    output_keeps_policies c.outputs_are_canonical.ensures.accepted c.outputs_are_canonical.ensures.list c.args.config.now.line_width c.args.config.now.indent_width c.args.ps.now (string_bytes c.push_closing.new.text) c.utf8.ps (ends c).0 (ends c).1

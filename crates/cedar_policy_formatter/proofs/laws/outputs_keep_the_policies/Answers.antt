@@ -1,5 +1,8 @@
-use Rattle.cedar_policy_formatter.proofs.OutputPolicies.{outputs_keep_the_policies}
+use Rattle.cedar_policy_formatter.proofs.OutputPolicies.{outputs_keep_the_policies, outputs_keep_the_trees}
 use Rattle.cedar_policy_formatter.proofs.laws.outputs_keep_the_policies.Goals as goal
 
-pub returns : goal.returns
-returns c = outputs_keep_the_policies c.tree_is_of_accepted.ensures c.nodes_have_the_plain_texts.ensures c.outputs_are_canonical.ensures.accepted c.outputs_are_canonical.ensures.list
+pub returns-clause-policies : goal.returns-clause-policies
+returns-clause-policies c = outputs_keep_the_policies c.nodes_have_the_plain_texts.ensures c.outputs_are_canonical.ensures.accepted c.outputs_are_canonical.ensures.list
+
+pub returns-clause-trees : goal.returns-clause-trees
+returns-clause-trees c = outputs_keep_the_trees c.outputs_are_canonical.ensures.accepted c.outputs_are_canonical.ensures.list

@@ -3,7 +3,7 @@ use Rattle.std.specs.List.{flat_map}
 use Rattle.std.proofs.lemmas.List.{map-append}
 use Rattle.std.proofs.lemmas.Int.{ints}
 use Rattle.cedar_layout.specs.declared.layout.Document.{Document}
-use Rattle.cedar_layout.specs.Layout.{columns, written, space, nothing, broken, print, indented}
+use Rattle.cedar_layout.specs.Layout.{columns, written, flat_space, flat_nothing, broken, print, indented}
 use Rattle.cedar_layout.specs.Nodes.{nodes}
 use Rattle.cedar_layout.specs.Value.{doc_of}
 use Rattle.cedar_layout.specs.Inside.Measuring.{noted}
@@ -38,7 +38,7 @@ returns-in_ok-push_str-in-Text-clause-bytes c =
     let h : c.args.width < 2 ^ 64 = omega arith in
     piece_bytes c.args.width (todos c.args.stack.now.items) (todo c.args.next) (written c.in-Text.s.now) c.args.column _ _ _ h (text_printed c) c.in_ok-push_str-in-Text.ensures.bytes (omega (arith, c.width.ensures.value, c.saturating_add.ensures))
 
-space_printed : (c : goal.After-saturating_add-then-next) → PrintsAs (todo c.args.next) (space ∷ [])
+space_printed : (c : goal.After-saturating_add-then-next) → PrintsAs (todo c.args.next) (flat_space ∷ [])
 space_printed c = prints_space (todo c.args.next) (ap doc_of c.in-Line.is ∙ doc_of_line) c.if-next.true
 
 pub returns-then-next-clause-notes : goal.returns-then-next-clause-notes
@@ -47,7 +47,7 @@ returns-then-next-clause-notes c = leaf_notes (todos c.args.stack.now.items) (to
 pub returns-then-next-clause-bytes : goal.returns-then-next-clause-bytes
 returns-then-next-clause-bytes c =
     let h : c.args.width < 2 ^ 64 = omega arith in
-    piece_bytes c.args.width (todos c.args.stack.now.items) (todo c.args.next) space c.args.column _ _ _ h (space_printed c) (c.in_ok-push-in-Line.ensures.bytes ∙ ap (λ x. string_bytes c.args.out.now ++ x) (c.in_ok-push-in-Line.ensures.ascii (omega arith))) c.saturating_add-then-next.ensures
+    piece_bytes c.args.width (todos c.args.stack.now.items) (todo c.args.next) flat_space c.args.column _ _ _ h (space_printed c) (c.in_ok-push-in-Line.ensures.bytes ∙ ap (λ x. string_bytes c.args.out.now ++ x) (c.in_ok-push-in-Line.ensures.ascii (omega arith))) c.saturating_add-then-next.ensures
 
 line_broken : (c : goal.In_ok-break_line-in-Line) → PrintsAs (todo c.args.next) (broken c.args.next.indent ∷ [])
 line_broken c = prints_break (todo c.args.next) (ap doc_of c.in-Line.is ∙ doc_of_line) c.if-next.false
@@ -60,7 +60,7 @@ returns-in_ok-break_line-in-Line-clause-bytes c =
     let h : c.args.width < 2 ^ 64 = omega arith in
     piece_bytes c.args.width (todos c.args.stack.now.items) (todo c.args.next) (broken c.args.next.indent) c.args.column _ _ _ h (line_broken c) c.in_ok-break_line-in-Line.ensures.ok (omega arith)
 
-nothing_printed : (c : goal.Then-next-2) → PrintsAs (todo c.args.next) (nothing ∷ [])
+nothing_printed : (c : goal.Then-next-2) → PrintsAs (todo c.args.next) (flat_nothing ∷ [])
 nothing_printed c = prints_nothing (todo c.args.next) (ap doc_of c.in-LineOrNil.is ∙ doc_of_line_or_nil) c.if-next-2.true
 
 pub returns-then-next-2-clause-notes : goal.returns-then-next-2-clause-notes
@@ -69,7 +69,7 @@ returns-then-next-2-clause-notes c = leaf_notes (todos c.args.stack.now.items) (
 pub returns-then-next-2-clause-bytes : goal.returns-then-next-2-clause-bytes
 returns-then-next-2-clause-bytes c =
     let h : c.args.width < 2 ^ 64 = omega arith in
-    piece_bytes c.args.width (todos c.args.stack.now.items) (todo c.args.next) nothing c.args.column _ _ _ h (nothing_printed c) (sym (append-nil (string_bytes c.args.out.now))) (omega arith)
+    piece_bytes c.args.width (todos c.args.stack.now.items) (todo c.args.next) flat_nothing c.args.column _ _ _ h (nothing_printed c) (sym (append-nil (string_bytes c.args.out.now))) (omega arith)
 
 line_or_nil_broken : (c : goal.In_ok-break_line-in-LineOrNil) → PrintsAs (todo c.args.next) (broken c.args.next.indent ∷ [])
 line_or_nil_broken c = prints_break_or_nil (todo c.args.next) (ap doc_of c.in-LineOrNil.is ∙ doc_of_line_or_nil) c.if-next-2.false

@@ -1,7 +1,9 @@
-use Rattle.std.proofs.Common.{inr, subst, sym}
+use Rattle.std.proofs.Common.{ℕ, List, subst, sym}
 use Rattle.std.proofs.lemmas.Result.{err_from_is_err_and}
 use Rattle.cedar_streams.specs.Devices.{device_of}
 use Rattle.cedar_streams.specs.Texts.{GivesText}
+use Rattle.cedar_tree.specs.Refusals.{Refuses}
+use Rattle.cedar_tree.proofs.Memory.{memory_map}
 use Rattle.cedar_policy_formatter.proofs.Runs.{unread}
 use Rattle.cedar_policy_formatter.proofs.fmt.stream.check_stream.Goals as goal
 
@@ -20,4 +22,4 @@ pub returns-clause-check : goal.returns-clause-check
 returns-clause-check g c =
     let old = g.R.Read.remaining (device_of c.args.input.now) in
     let new = g.R.Read.remaining (device_of c.read_text.new.input) in
-    inr (c.as_str.result.now, subst (GivesText old new) (sym c.as_str.ensures.value) c.in_ok-ps.ensures.text, c.in-Err.ensures.answer)
+    memory_map (Refuses c.as_str.result.now) (λ e. (x : List ℕ) × GivesText old new x × Refuses x e) (λ e h. (c.as_str.result.now, subst (GivesText old new) (sym c.as_str.ensures.value) c.in_ok-ps.ensures.text, h)) c.in-Err.error c.in-Err.ensures.answer

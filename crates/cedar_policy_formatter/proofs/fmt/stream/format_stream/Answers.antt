@@ -1,9 +1,11 @@
-use Rattle.std.proofs.Common.{inr, string_bytes, subst, sym}
+use Rattle.std.proofs.Common.{ℕ, List, string_bytes, subst, sym}
 use Rattle.std.proofs.KnownBytes.{Keeps-refl}
 use Rattle.std.proofs.lemmas.Result.{err_from_is_err_and}
 use Rattle.std.specs.Io.KnownBytes.{Appends}
 use Rattle.cedar_streams.specs.Devices.{device_of}
 use Rattle.cedar_streams.specs.Texts.{AppendsPart, GivesText}
+use Rattle.cedar_tree.specs.Refusals.{Refuses}
+use Rattle.cedar_tree.proofs.Memory.{memory_map}
 use Rattle.cedar_policy_formatter.proofs.Runs.{without_text}
 use Rattle.cedar_policy_formatter.proofs.fmt.stream.format_stream.Goals as goal
 
@@ -16,7 +18,7 @@ pub returns-in-Err-clause-run : goal.returns-in-Err-clause-run
 returns-in-Err-clause-run g c =
     let old = g.R.Read.remaining (device_of c.args.input.now) in
     let new = g.R.Read.remaining (device_of c.read_text.new.input) in
-    (inr (c.as_str.result.now, subst (GivesText old new) (sym c.as_str.ensures.value) c.in_ok-text.ensures.text, c.in-Err.ensures.answer), Keeps-refl (g.W.Write.contents (device_of c.args.output.now)))
+    (memory_map (Refuses c.as_str.result.now) (λ e. (x : List ℕ) × GivesText old new x × Refuses x e) (λ e h. (c.as_str.result.now, subst (GivesText old new) (sym c.as_str.ensures.value) c.in_ok-text.ensures.text, h)) c.in-Err.error c.in-Err.ensures.answer, Keeps-refl (g.W.Write.contents (device_of c.args.output.now)))
 
 pub returns-in-Ok-write_until_failure-clause-run : goal.returns-in-Ok-write_until_failure-clause-run
 returns-in-Ok-write_until_failure-clause-run g c =

@@ -3,7 +3,7 @@ use Rattle.std.specs.Str.{IsCharBoundary}
 use Rattle.std.proofs.lemmas.List.{length-drop, take_all}
 use Rattle.std.proofs.lemmas.Result.{err_from_is_err_and}
 use Rattle.std.proofs.lemmas.Str.{IsCharBoundary-from_rest}
-use Rattle.cedar_tree.specs.Refusals.{Refuses}
+use Rattle.cedar_tree.specs.Refusals.{OutOfMemoryOr, Refuses}
 use Rattle.cedar_reading.proofs.Walking.{part_unit}
 use Rattle.cedar_pieces.specs.Pieces.{IsFirstPiece, HasNoPiece}
 use Rattle.cedar_cst.specs.Inside.Parts.{HasPoliciesFrom, RefusesFrom}
@@ -18,9 +18,9 @@ returns-in_err-policies-in-Some-clause-refusal c =
     let n = c.in-Some.len in
     let e = c.in_err-policies-in-Some.field-0.0 in
     let first : IsFirstPiece (drop at text) n = subst (λ z. IsFirstPiece z n) c.range_from.ensures.value c.in-Some.ensures.piece in
-    let refused : Refuses text e = piece_refuses text at c.self.invariant n first.piece e (subst (λ x. RefusesFrom at x e) (part_unit text at n) c.in_err-policies-in-Some.ensures) in
+    let refused : OutOfMemoryOr (Refuses text) e = piece_refuses text at c.self.invariant n first.piece e (subst (λ x. RefusesFrom at x e) (part_unit text at n) c.in_err-policies-in-Some.ensures) in
     let p = err_from_is_err_and c.from_residual.result c.from_residual.ensures.1 in
-    rw (p.1, p.2) (subst (λ (z : Position). Refuses z.text e) c.self.view_is refused)
+    rw (p.1, p.2) (subst (λ (z : Position). OutOfMemoryOr (Refuses z.text) e) c.self.view_is refused)
 
 pub returns-in_err-parse_part-in-None-clause-refusal : goal.returns-in_err-parse_part-in-None-clause-refusal
 returns-in_err-parse_part-in-None-clause-refusal c =
@@ -28,9 +28,9 @@ returns-in_err-parse_part-in-None-clause-refusal c =
     let at = c.self.inside.at in
     let e = c.in_err-parse_part-in-None.field-0.0 in
     let whole : slice_range text at (length text) ≡ drop at text = take_all (length text - at) (drop at text) (omega (arith, length-drop at text, c.self.invariant.inside)) in
-    let refused : Refuses text e = rest_refuses text at c.self.invariant e (subst (λ x. RefusesFrom at x e) whole c.in_err-parse_part-in-None.ensures) in
+    let refused : OutOfMemoryOr (Refuses text) e = rest_refuses text at c.self.invariant e (subst (λ x. RefusesFrom at x e) whole c.in_err-parse_part-in-None.ensures) in
     let p = err_from_is_err_and c.from_residual-in_err-parse_part-in-None.result c.from_residual-in_err-parse_part-in-None.ensures.1 in
-    rw (p.1, p.2) (subst (λ (z : Position). Refuses z.text e) c.self.view_is refused)
+    rw (p.1, p.2) (subst (λ (z : Position). OutOfMemoryOr (Refuses z.text) e) c.self.view_is refused)
 
 pub invariant_of-self : goal.invariant_of-self
 invariant_of-self c =
