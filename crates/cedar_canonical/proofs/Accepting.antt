@@ -12,12 +12,13 @@ use Rattle.cedar_tokens.proofs.Longest.{is_token-number}
 use Rattle.cedar_grammar.specs.declared.kind.Kind.TheVariants as K
 use Rattle.cedar_grammar.specs.Kinds.{is, is_closing, begins}
 use Rattle.cedar_grammar.specs.TokenKinds.{kind_of}
-use Rattle.cedar_grammar.specs.Grammar.{G}
+use Rattle.cedar_grammar.specs.KindGrammar.{G}
 use Rattle.cedar_grammar.specs.Laws.{kind_of_decorated}
 use Rattle.cedar_grammar.specs.Numbers.{is_too_large}
 use Rattle.cedar_grammar.specs.Texts.{greatest_depth, only_tokens}
 use Rattle.cedar_grammar.specs.TrailingCommas.{drop_if, plain}
 use Rattle.cedar_grammar.specs.TypedTrees.{set_tree}
+use Rattle.cedar_grammar.proofs.AcceptedKinds.{is_accepted}
 use Rattle.cedar_grammar.proofs.RuleMaps.{each, relabel}
 use Rattle.cedar_grammar.proofs.TextKinds.{plain_texts_agree}
 use Rattle.cedar_grammar.proofs.Relabelling.{relabelled, each_map}
@@ -102,7 +103,7 @@ output_accepted w i x y u o =
     let f = relabel (λ (t : Decorated). t.text) (set_tree kind_of_decorated ps) in
     let g : G kind_of greatest_depth f (each (λ (t : Decorated). t.text) (tokens_of ps)) = relabelled (λ (t : Decorated). t.text) kind_of_decorated kind_of (λ t. refl) greatest_depth (set_tree kind_of_decorated ps) (tokens_of ps) tree.grammar in
     let leaves : each (λ (t : Decorated). t.text) (tokens_of ps) ≡ only_tokens own.units = each_map (λ (t : Decorated). t.text) (tokens_of ps) ∙ (ap (map (λ (t : Decorated). t.text)) (tokens_map o.policies) ∙ sym texts) in
-    (f, record { units = own.units; split = own.split; fitting = fitting; grammar = subst (λ z. G kind_of greatest_depth f z) leaves g })
+    (f, is_accepted y f own.units own.split fitting (subst (λ z. G kind_of greatest_depth f z) leaves g))
 
 pub output_again : OutputIsItsOwn
 output_again w i x y u o =

@@ -6,11 +6,10 @@ use Rattle.cedar_tokens.specs.Listing.{Decorated}
 use Rattle.cedar_layout.specs.Layout.{Doc, nil, line, line_or_nil, hard, text, ◌·◌, nest, group}
 use Rattle.cedar_grammar.specs.TypedTrees.{Tree, NodeKind, PartKind, Clause, name, accesses, variable, parts, tree_yield, conds, policy, name_one, name_more, ref_of, args_one, args_more, init_of, inits_one, inits_more, literal, slot, reference, named, parens, list_empty, list_of, record_empty, record_of, no_access, field, call_empty, call, index, member_of, unsigned, signed, products_one, products_more, mult_of, sums_one, sums_more, add_of, single, compare, has_or_like, is_type, is_in, ands_one, ands_more, ors_one, ors_more, ors_expr, if_expr, variable_bare, variable_is, variable_op, variable_is_op, cond_of, no_cond, conds_more, annotation_bare, annotation_value, no_annotation, annotations_more, policy_of, part_yield, tree_map, map_first, expr}
 use Rattle.cedar_grammar.specs.Trees.{yield}
-use Rattle.cedar_grammar.specs.Laws.{kind_of_decorated}
 use Rattle.cedar_grammar.proofs.FirstLeaf.{map_first_map}
 use Rattle.cedar_grammar.proofs.TreeLaws.{typed_leaves}
 use Rattle.cedar_canonical.specs.Leaves.{part_map}
-use Rattle.cedar_canonical.specs.Table.{space, printed, C, lead, tok, trail, lead_of, table, part_table, break_after_field, break_after_other, between_conds, is_bare, type_part, lines_of_first, bare_token, variables, scope}
+use Rattle.cedar_canonical.specs.Table.{literal_kind, space, printed, C, lead, tok, trail, lead_of, table, part_table, break_after_field, break_after_other, between_conds, is_bare, type_part, lines_of_first, bare_token, variables, scope}
 use Rattle.cedar_canonical.specs.Output.{with_value, tokens_of}
 use Rattle.cedar_canonical.proofs.Values.{value_once}
 
@@ -161,9 +160,9 @@ table_value i (if_expr f c t a e b) = same6 (λ d1 d2 d3 d4 d5 d6. group (d1 · 
 bare_table : {k : NodeKind} (i : ℤ) (t : Tree Decorated k) → table i (map_first bare_token (tree_map with_value t)) ≡ table i (map_first bare_token t)
 bare_table i t = ap (table i) (map_first_map bare_token bare_token with_value (λ a. refl) t) ∙ table_value i (map_first bare_token t)
 
-first_value : {k : NodeKind} (t : Tree Decorated k) → lines_of_first (yield (parts kind_of_decorated (tree_map with_value t))) ≡ lines_of_first (yield (parts kind_of_decorated t))
+first_value : {k : NodeKind} (t : Tree Decorated k) → lines_of_first (yield (parts literal_kind (tree_map with_value t))) ≡ lines_of_first (yield (parts literal_kind t))
 first_value t =
-    ap lines_of_first (typed_leaves kind_of_decorated (tree_map with_value t) ∙ yield_map with_value t) ∙ (go (tree_yield t) ∙ ap lines_of_first (sym (typed_leaves kind_of_decorated t)))
+    ap lines_of_first (typed_leaves literal_kind (tree_map with_value t) ∙ yield_map with_value t) ∙ (go (tree_yield t) ∙ ap lines_of_first (sym (typed_leaves literal_kind t)))
   where
     go : (xs : List Decorated) → lines_of_first (map with_value xs) ≡ lines_of_first xs
     go [] = refl
@@ -202,7 +201,7 @@ scope_value i u c d {p = p} {a = a} {r = r} ht hp ha hr =
 
 -- the body of a condition
 abbrev body : ℤ → Tree Decorated expr → Doc
-body i e = lead_of (lines_of_first (yield (parts kind_of_decorated e))) · group (table i (map_first bare_token e))
+body i e = lead_of (lines_of_first (yield (parts literal_kind e))) · group (table i (map_first bare_token e))
 
 body_value : (i : ℤ) (e : Tree Decorated expr) → body i (tree_map with_value e) ≡ body i e
 body_value i e = same2 (λ x y. x · group y) (ap lead_of (first_value e)) (bare_table i e)

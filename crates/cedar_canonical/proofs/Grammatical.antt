@@ -9,13 +9,17 @@ use Rattle.cedar_grammar.specs.declared.kind.Kind.TheVariants as K
 use Rattle.cedar_grammar.specs.Kinds.{is, is_closing, begins}
 use Rattle.cedar_grammar.specs.TokenKinds.{kind_of}
 use Rattle.cedar_grammar.specs.Trees.{Label, Forest, yield}
-use Rattle.cedar_grammar.specs.Grammar.{G, PolicySet}
+use Rattle.cedar_grammar.specs.Grammar.{IsSyntaxTree}
+use Rattle.cedar_grammar.specs.KindGrammar.{G, PolicySet}
 use Rattle.cedar_grammar.specs.Laws.{kind_of_decorated}
 use Rattle.cedar_grammar.specs.Texts.{greatest_depth, only_tokens, Accepted}
 use Rattle.cedar_grammar.specs.TrailingCommas.{drop_if, plain, without_trailing}
 use Rattle.cedar_grammar.specs.TypedTrees.{Clause, policy, set_tree}
 use Rattle.cedar_grammar.specs.Reader.Reading.{Answer, done, stuck}
 use Rattle.cedar_grammar.specs.Reader.Lines.{set_to}
+use Rattle.cedar_grammar.proofs.AcceptedKinds.{kinds_of}
+use Rattle.cedar_grammar.proofs.SameGrammars.{grammars_agree, texts_are_tokens}
+use Rattle.cedar_grammar.proofs.SameLabels.{sets_agree, label_of_first_byte}
 use Rattle.cedar_grammar.proofs.RuleMaps.{each, relabel, answer_of, set_agrees}
 use Rattle.cedar_grammar.proofs.WholeLaws.{set_sound, set_complete}
 use Rattle.cedar_grammar.proofs.TreeLaws.{list_has_one_tree, leaves_are_plain, every_tree_is_typed, typed_tree_is_unique, typed_leaves_agree}
@@ -23,6 +27,7 @@ use Rattle.cedar_grammar.proofs.TextKinds.{number_kind, trailing_agrees, plain_t
 use Rattle.cedar_grammar.proofs.Relabelling.{relabelled, plain_each, each_map}
 use Rattle.cedar_grammar.proofs.ListingTexts.{listing_texts}
 use Rattle.cedar_canonical.specs.Leaves.{part_map}
+use Rattle.cedar_canonical.specs.Table.{literal_kind}
 use Rattle.cedar_canonical.specs.Output.{with_value, tokens_of}
 use Rattle.cedar_canonical.specs.Canonical.{IsOutputOf}
 use Rattle.cedar_canonical.specs.GrammarTrees.{IsTree, AcceptedHasTree, ListHasOneTree, TreeFits}
@@ -202,13 +207,14 @@ tree_of_accepted x l a s =
     let u : (a.1).units ≡ s.units = split_unique x (a.1).units s.units (a.1).split s.split in
     let texts : map (λ (t : Decorated). t.text) l.tokens ≡ only_tokens (a.1).units = ap (λ (m : Listing). map (λ (t : Decorated). t.text) m.tokens) s.value ∙ (listing_texts s.units ∙ ap only_tokens (sym u)) in
     let ts = only_tokens (a.1).units in
+    let g = kinds_of a.1 in
     let f = without_trailing kind_of a.0 in
-    let p : G kind_of greatest_depth f (plain kind_of ts) = plain_is_in_the_grammar kind_of greatest_depth ts a.0 (a.1).grammar in
+    let p : G kind_of greatest_depth f (plain kind_of ts) = plain_is_in_the_grammar kind_of greatest_depth ts a.0 g in
     let q : G kind_of greatest_depth (without_trailing kind_of f) (plain kind_of ts) =
-    subst (λ z. G kind_of greatest_depth (without_trailing kind_of f) z) (plain_is_plain kind_of greatest_depth ts a.0 (a.1).grammar) (plain_is_in_the_grammar kind_of greatest_depth (plain kind_of ts) f p) in
+    subst (λ z. G kind_of greatest_depth (without_trailing kind_of f) z) (plain_is_plain kind_of greatest_depth ts a.0 g) (plain_is_in_the_grammar kind_of greatest_depth (plain kind_of ts) f p) in
     let w = list_has_one_tree kind_of greatest_depth greatest_depth (plain kind_of ts) (without_trailing kind_of f) f q p in
     let y : yield (without_trailing kind_of a.0) ≡ map (λ (t : Decorated). t.text) (plain_list l.tokens) =
-    leaves_are_plain kind_of greatest_depth (only_tokens (a.1).units) a.0 (a.1).grammar ∙ (ap (plain kind_of) (sym texts) ∙ sym (plain_texts_agree l.tokens)) in
+    leaves_are_plain kind_of greatest_depth (only_tokens (a.1).units) a.0 g ∙ (ap (plain kind_of) (sym texts) ∙ sym (plain_texts_agree l.tokens)) in
     tree_of_texts (plain_list l.tokens) (listed_all x l s) f p.shape w y
 
 pub accepted_has_tree : AcceptedHasTree
@@ -217,17 +223,31 @@ accepted_has_tree x l utf8 a s = tree_of_accepted x l a s
 -- ---- the trees of an output
 
 pub leaves_of : {w : ℕ} {i : ℤ} {x y : List ℕ} (o : IsOutputOf w i x y) → tokens_of o.policies ≡ plain_list o.list.tokens
-leaves_of o = sym (typed_leaves_agree kind_of_decorated o.policies) ∙ o.grammar.leaves
+leaves_of o = sym (typed_leaves_agree literal_kind o.policies) ∙ o.grammar.leaves
+
+-- a literal's label follows from its first byte
+labels_agree : (ps : List (Clause Decorated policy)) → set_tree literal_kind ps ≡ set_tree kind_of_decorated ps
+labels_agree ps = sets_agree literal_kind kind_of_decorated (λ t. label_of_first_byte t.text) ps
+
+by_kinds : (ps : List (Clause Decorated policy)) (ts : List Decorated) → IsSyntaxTree (λ (t : Decorated). t.text) greatest_depth (set_tree literal_kind ps) ts → G kind_of_decorated greatest_depth (set_tree kind_of_decorated ps) ts
+by_kinds ps ts g =
+    let all = texts_are_tokens (λ (t : Decorated). t.text) greatest_depth ts (set_tree literal_kind ps) g in
+    subst (λ z. G kind_of_decorated greatest_depth z ts) (labels_agree ps) ((grammars_agree (λ (t : Decorated). t.text) greatest_depth ts (set_tree literal_kind ps) all).0 g)
+
+by_texts : (ps : List (Clause Decorated policy)) (ts : List Decorated) → AllTokens ts → G kind_of_decorated greatest_depth (set_tree kind_of_decorated ps) ts → IsSyntaxTree (λ (t : Decorated). t.text) greatest_depth (set_tree literal_kind ps) ts
+by_texts ps ts all g =
+    (grammars_agree (λ (t : Decorated). t.text) greatest_depth ts (set_tree literal_kind ps) all).1 (subst (λ z. G kind_of_decorated greatest_depth z ts) (sym (labels_agree ps)) g)
 
 pub trees_of : {w : ℕ} {i : ℤ} {x y : List ℕ} (o : IsOutputOf w i x y) → IsTree o.policies
 trees_of {x = x} o =
     let t = tree_of_accepted x o.list o.accepted o.is_list in
     let g : G kind_of_decorated greatest_depth (set_tree kind_of_decorated t.0) (plain_list o.list.tokens) = subst (λ z. G kind_of_decorated greatest_depth (set_tree kind_of_decorated t.0) z) t.2 t.1.grammar in
-    let same = list_has_one_tree kind_of_decorated greatest_depth greatest_depth (plain_list o.list.tokens) (set_tree kind_of_decorated t.0) (set_tree kind_of_decorated o.policies) g o.grammar in
+    let h = by_kinds o.policies (plain_list o.list.tokens) o.grammar in
+    let same = list_has_one_tree kind_of_decorated greatest_depth greatest_depth (plain_list o.list.tokens) (set_tree kind_of_decorated t.0) (set_tree kind_of_decorated o.policies) g h in
     subst IsTree (typed_tree_is_unique kind_of_decorated t.0 o.policies same) t.1
 
-pub grammar_of : (ps : List (Clause Decorated policy)) (ts : List Decorated) → IsTree ps → tokens_of ps ≡ ts → G kind_of_decorated greatest_depth (set_tree kind_of_decorated ps) ts
-grammar_of ps ts t e = subst (λ z. G kind_of_decorated greatest_depth (set_tree kind_of_decorated ps) z) e t.grammar
+pub grammar_of : (ps : List (Clause Decorated policy)) (ts : List Decorated) → IsTree ps → tokens_of ps ≡ ts → IsSyntaxTree (λ (t : Decorated). t.text) greatest_depth (set_tree literal_kind ps) ts
+grammar_of ps ts t e = subst (λ z. IsSyntaxTree (λ (t : Decorated). t.text) greatest_depth (set_tree literal_kind ps) z) e (by_texts ps (tokens_of ps) t.tokens t.grammar)
 
 -- the leaves fit the table
 pub tree_fits : TreeFits

@@ -8,7 +8,7 @@ use Rattle.cedar_tokens.specs.Listing.{Decorated, Listing, by_value}
 use Rattle.cedar_tokens.proofs.Scanning.{listing_unique}
 use Rattle.cedar_grammar.specs.Trees.{Label, Forest, none, branch, join}
 use Rattle.cedar_grammar.specs.Languages.{Many, no_more, one_more}
-use Rattle.cedar_grammar.specs.Grammar.{Policy}
+use Rattle.cedar_grammar.specs.KindGrammar.{Policy}
 use Rattle.cedar_grammar.specs.Laws.{kind_of_decorated}
 use Rattle.cedar_grammar.specs.Texts.{greatest_depth}
 use Rattle.cedar_grammar.specs.TrailingCommas.{without_trailing}

@@ -9,9 +9,8 @@ use Rattle.cedar_text_laws.specs.Neighbours.{first_or}
 use Rattle.cedar_canonical.specs.Fit.{Opens, Ends, IsMark, IsWord, Fit, PartFit}
 use Rattle.cedar_canonical.proofs.PrintedTokens.{Weave, done, w_space, w_line, w_hard}
 use Rattle.cedar_grammar.specs.TypedTrees.{Tree, name, expr, Clause, variable, cond as a_cond, conds, annotation, annotations, policy, parts, tree_yield, map_first, part_yield, variable_bare, variable_is, variable_op, variable_is_op, cond_of, no_cond, conds_more, annotation_bare, annotation_value, no_annotation, annotations_more, policy_of}
-use Rattle.cedar_canonical.specs.Table.{table, part_table, C, lead_of, space, between_conds, bare_token, lines_of_first, is_bare, variables, comparison, type_part, lead, tok, trail, printed}
+use Rattle.cedar_canonical.specs.Table.{literal_kind, table, part_table, C, lead_of, space, between_conds, bare_token, lines_of_first, is_bare, variables, comparison, type_part, lead, tok, trail, printed}
 use Rattle.cedar_grammar.specs.Trees.{yield}
-use Rattle.cedar_grammar.specs.Laws.{kind_of_decorated}
 use Rattle.cedar_grammar.proofs.TreeLaws.{typed_leaves}
 use Rattle.cedar_canonical.specs.Gaps.{Spelled}
 use Rattle.cedar_canonical.proofs.PrintedNodes.{Run, run_then, run_last, nest_run, group_run, grouped, nested, run_as, line_then, just, mark, operator, weave, blank_opens, blank_apart, word_token, token_then_blank, opening_paren, closing_paren, closing_brace, opens_at_paren, and_false}
@@ -47,9 +46,9 @@ brace_then_line : (c : ℕ) (t : Decorated) → IsMark (codes "{") t → Run Ope
 brace_then_line c t f = token_then_blank line c t (λ c. w_line done) (rw f refl)
 
 -- the body behind `{`: its first token's leading lines stand in front of its group
-body_weave : (i : ℤ) (e : Tree Decorated expr) (c : ℕ) → Opens c → Fit e → Run Ends c (tree_yield e) (lead_of (lines_of_first (yield (parts kind_of_decorated e))) · table i (map_first bare_token e))
+body_weave : (i : ℤ) (e : Tree Decorated expr) (c : ℕ) → Opens c → Fit e → Run Ends c (tree_yield e) (lead_of (lines_of_first (yield (parts literal_kind e))) · table i (map_first bare_token e))
 body_weave i e c o f =
-    subst (λ z. Run Ends c (tree_yield e) (lead_of (lines_of_first z) · table i (map_first bare_token e))) (sym (typed_leaves kind_of_decorated e))
+    subst (λ z. Run Ends c (tree_yield e) (lead_of (lines_of_first z) · table i (map_first bare_token e))) (sym (typed_leaves literal_kind e))
     (run_as (sym (peel i e).same ∙ sym (atoms-dot (lead_of (lines_of_first (tree_yield e))) (table i (map_first bare_token e)))) (weave i e c o f))
 
 cond_weave : (i : ℤ) (k l : Decorated) (e : Tree Decorated expr) (r : Decorated) (c : ℕ) → Opens c → PartFit (cond_of k l e r) → Run Ends c (part_yield (cond_of k l e r)) (part_table i (cond_of k l e r))

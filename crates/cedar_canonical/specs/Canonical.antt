@@ -6,11 +6,10 @@ use Rattle.cedar_layout.specs.Layout.{Choice, text_of_choice, IsTheLayoutAt}
 use Rattle.cedar_tokens.specs.Split.{SplitsInto}
 use Rattle.cedar_tokens.specs.Listing.{Decorated, Listing, IsListing, EqualByValue}
 use Rattle.cedar_tokens.specs.PlainList.{plain_list}
-use Rattle.cedar_grammar.specs.Grammar.{G}
-use Rattle.cedar_grammar.specs.Laws.{kind_of_decorated}
+use Rattle.cedar_grammar.specs.Grammar.{IsSyntaxTree}
 use Rattle.cedar_grammar.specs.TypedTrees.{Clause, policy, set_tree, part_yield}
 use Rattle.cedar_canonical.specs.Leaves.{part_map}
-use Rattle.cedar_canonical.specs.Table.{part_table}
+use Rattle.cedar_canonical.specs.Table.{literal_kind, part_table}
 use Rattle.cedar_canonical.specs.Fit.{PartFit}
 use Rattle.cedar_text_laws.specs.Good.{IsGood}
 use Rattle.cedar_layout.specs.Cleaning.{IsCleaned}
@@ -61,7 +60,7 @@ pub record IsOutputOf (w : ℕ) (i : ℤ) (x y : List ℕ) : Type 0 where
   pub list : Listing
   pub is_list : IsListing x list
   pub policies : List (Clause Decorated policy)
-  pub grammar : G kind_of_decorated greatest_depth (set_tree kind_of_decorated policies) (plain_list list.tokens)
+  pub grammar : IsSyntaxTree (λ t. t.text) greatest_depth (set_tree literal_kind policies) (plain_list list.tokens)
   pub output : IsOutput (IsTheLayoutAt w) i policies list.closing y
 
 -- an accepted text has one output, which is accepted

@@ -14,12 +14,15 @@ use Rattle.cedar_grammar.specs.declared.kind.Kind.TheVariants as K
 use Rattle.cedar_grammar.specs.Kinds.{is}
 use Rattle.cedar_grammar.specs.Trees.{Label, Forest, none, leaf, branch, join, yield}
 use Rattle.cedar_grammar.specs.Languages.{Many, no_more, one_more}
-use Rattle.cedar_grammar.specs.Grammar.{G, Policy}
+use Rattle.cedar_grammar.specs.KindGrammar.{G, Policy}
 use Rattle.cedar_grammar.specs.Numbers.{is_too_large}
 use Rattle.cedar_grammar.specs.Placed.{Placed, with_places, kind_of_placed}
 use Rattle.cedar_grammar.specs.TokenKinds.{kind_of}
 use Rattle.cedar_grammar.specs.TrailingCommas.{without_trailing}
 use Rattle.cedar_grammar.specs.Texts.{greatest_depth, only_tokens, Accepted}
+use Rattle.cedar_grammar.proofs.PlacedKinds.{tree_by_kinds, tree_by_texts}
+use Rattle.cedar_grammar.proofs.SamePlain.{plain_same}
+use Rattle.cedar_grammar.proofs.AcceptedKinds.{is_accepted}
 use Rattle.cedar_grammar.proofs.LanguageLaws.{yield_join}
 use Rattle.cedar_grammar.proofs.ReadingLaws.{join_assoc}
 use Rattle.cedar_grammar.proofs.RuleMaps.{relabel}
@@ -67,8 +70,11 @@ placed_join from us vs =
 -- ---- trees
 
 -- the nodes of a row of trees
+abbrev spans : Forest Label Placed → Erased
+spans f = spanned (λ t. t.text) (λ t. t.span) f
+
 abbrev row_nodes : Forest Label Placed → Erased
-row_nodes f = spanned (λ t. t.text) (λ t. t.span) (without_trailing kind_of_placed f)
+row_nodes f = spans (without_trailing kind_of_placed f)
 
 abbrev Row : Forest Label Placed → Type 0
 Row f = Many (Policy kind_of_placed greatest_depth) f
@@ -111,20 +117,21 @@ from_start text ps h = record {
   split = h.split;
   fitting = h.fitting;
   tree = branch Label.policies h.row none;
-  grammar = record { shape = (h.row, refl, h.among); leaves = append-nil (yield h.row) ∙ h.leaves };
-  nodes = ap (λ z. variant Label.policies z none) h.nodes;
+  grammar = tree_by_texts h.units (branch Label.policies h.row none) (record { shape = (h.row, refl, h.among); leaves = append-nil (yield h.row) ∙ h.leaves });
+  nodes = ap (λ z. variant Label.policies z none) (h.nodes ∙ ap spans (sym (plain_same (λ (t : Placed). t.text) h.row)));
 }
 
 pub to_start : (text : List ℕ) (ps : List (Node Tree.Policy)) → HasPolicies text ps → HasPoliciesFrom 0 text ps
 to_start text ps h =
-    let s = h.grammar.shape in record {
+    let g = tree_by_kinds h.units h.tree h.grammar in
+    let s = g.shape in record {
       units = h.units;
       split = h.split;
       fitting = h.fitting;
       row = s.0;
       among = s.2;
-      leaves = sym (append-nil (yield s.0)) ∙ (sym (ap yield s.1) ∙ h.grammar.leaves);
-      nodes = (let e : variant Label.policies (policy_trees ps) none ≡ variant Label.policies (row_nodes s.0) none = h.nodes ∙ ap (λ z. row_nodes z) s.1 in cc);
+      leaves = sym (append-nil (yield s.0)) ∙ (sym (ap yield s.1) ∙ g.leaves);
+      nodes = (let e : variant Label.policies (policy_trees ps) none ≡ variant Label.policies (row_nodes s.0) none = h.nodes ∙ (ap spans (plain_same (λ (t : Placed). t.text) h.tree) ∙ ap (λ z. row_nodes z) s.1) in cc);
     }
 
 -- a part without bytes has no units
@@ -148,7 +155,7 @@ module _ (from : ℕ) (part : List ℕ) (ps : List (Node Tree.Policy)) (h : HasP
       (relabelled text_of kind_of_placed kind_of (λ _. refl) greatest_depth (branch Label.policies h.row none) (placed_from from h.units) (record { shape = (h.row, refl, h.among); leaves = append-nil (yield h.row) ∙ h.leaves }))
 
   pub part_accepted : Accepted part
-  part_accepted = (branch Label.policies (relabel text_of h.row) none, record { units = h.units; split = h.split; fitting = h.fitting; grammar = part_grammar })
+  part_accepted = (branch Label.policies (relabel text_of h.row) none, is_accepted part (branch Label.policies (relabel text_of h.row) none) h.units h.split h.fitting part_grammar)
 
   row_texts : Many (Policy kind_of greatest_depth) (relabel text_of h.row) × (yield (relabel text_of h.row) ≡ only_tokens h.units)
   row_texts = go part_grammar.shape

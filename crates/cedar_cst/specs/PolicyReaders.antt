@@ -4,11 +4,11 @@ use Rattle.std.specs.List.{list_any}
 use Rattle.std.specs.Str.{IsCharBoundary}
 use Rattle.cedar_tokens.specs.Split.{SplitsInto}
 use Rattle.cedar_grammar.specs.Trees.{Label, Forest, none}
-use Rattle.cedar_grammar.specs.Grammar.{G}
+use Rattle.cedar_grammar.specs.Grammar.{IsSyntaxTree}
 use Rattle.cedar_grammar.specs.Numbers.{is_too_large}
 use Rattle.cedar_grammar.specs.Texts.{greatest_depth, Accepted}
-use Rattle.cedar_grammar.specs.Placed.{Placed, placed, kind_of_placed}
-use Rattle.cedar_grammar.specs.TrailingCommas.{without_trailing}
+use Rattle.cedar_grammar.specs.Placed.{Placed, placed}
+use Rattle.cedar_grammar.specs.PlainTrees.{plain_trees}
 use Rattle.cedar_tree.specs.declared.tree.Node.{Node}
 use Rattle.cedar_tree.specs.declared.tree.Policy.{Policy}
 use Rattle.cedar_tree.specs.declared.tree.Policies.{Policies}
@@ -40,8 +40,8 @@ pub record HasPolicies (text : List ℕ) (policies : List (Node Policy)) : Type 
   pub split : SplitsInto text units
   pub fitting : list_any is_too_large units ≡ false
   pub tree : Forest Label Placed
-  pub grammar : G kind_of_placed greatest_depth tree (placed units)
-  pub nodes : variant Label.policies (policy_trees policies) none ≡ spanned (λ t. t.text) (λ t. t.span) (without_trailing kind_of_placed tree)
+  pub grammar : IsSyntaxTree (λ t. t.text) greatest_depth tree (placed units)
+  pub nodes : variant Label.policies (policy_trees policies) none ≡ spanned (λ t. t.text) (λ t. t.span) (plain_trees (λ t. t.text) tree)
 
 -- the reader is one of this text, and has answered these policies: those of the bytes that it has read
 pub record HasRead (reader : Position) (text : List ℕ) (policies : List (Node Policy)) : Type 0 where

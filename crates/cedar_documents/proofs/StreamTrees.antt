@@ -17,12 +17,14 @@ use Rattle.cedar_grammar.specs.Trees.{Label, none, branch}
 use Rattle.cedar_grammar.specs.declared.kind.Kind.TheVariants as K
 use Rattle.cedar_grammar.specs.Kinds.{is, is_closing}
 use Rattle.cedar_grammar.specs.TokenKinds.{kind_of}
-use Rattle.cedar_grammar.specs.Grammar.{G}
+use Rattle.cedar_grammar.specs.KindGrammar.{G}
 use Rattle.cedar_grammar.specs.Laws.{kind_of_decorated}
 use Rattle.cedar_grammar.specs.Texts.{greatest_depth, only_tokens}
 use Rattle.cedar_grammar.specs.Placed.{Placed, placed, with_places, kind_of_placed}
 use Rattle.cedar_grammar.specs.TrailingCommas.{plain, drop_if, without_trailing}
 use Rattle.cedar_grammar.specs.TypedTrees.{Clause, policy, set_tree, policy_trees, part_yield}
+use Rattle.cedar_grammar.proofs.PlacedKinds.{tree_by_kinds}
+use Rattle.cedar_grammar.proofs.SamePlain.{plain_same}
 use Rattle.cedar_grammar.proofs.RuleMaps.{relabel}
 use Rattle.cedar_grammar.proofs.PlainGrammar.{plain_is_in_the_grammar}
 use Rattle.cedar_grammar.proofs.CommaPairs.{plain_is_plain}
@@ -32,7 +34,7 @@ use Rattle.cedar_grammar.proofs.Relabelling.{relabelled, plain_each, each_map, m
 use Rattle.cedar_layout.specs.Lookups.{Shown, shown}
 use Rattle.cedar_tree.specs.Erased.{erase}
 use Rattle.cedar_tree.specs.Erased as erased
-use Rattle.cedar_tree.specs.NodeTrees.{IsTreeOf}
+use Rattle.cedar_tree.specs.NodeTrees.{spanned, IsTreeOf}
 use Rattle.cedar_tree.specs.declared.tree.Policies.{Policies}
 use Rattle.cedar_canonical.specs.GrammarTrees.{IsTree}
 use Rattle.cedar_canonical.specs.Leaves.{part_map}
@@ -99,13 +101,13 @@ nodes_over text p l old new t is_list e spans kept =
     let all = placed t.units in
     let f = without_trailing kind_of_placed t.tree in
     let at : map place_of ts ≡ plain kind_of_placed all = places_of_bare new ∙ ap (map with_place) kept ∙ sym (places_of_bare (kept_tokens old)) ∙ kept_places old ∙ ap (plain kind_of_placed) (stream_places text old l t.units t.split is_list e spans) in
-    let g : G kind_of_placed greatest_depth f (plain kind_of_placed all) = plain_is_in_the_grammar kind_of_placed greatest_depth all t.tree t.grammar in
-    let twice : plain kind_of_placed (plain kind_of_placed all) ≡ plain kind_of_placed all = plain_is_plain kind_of_placed greatest_depth all t.tree t.grammar in
+    let g : G kind_of_placed greatest_depth f (plain kind_of_placed all) = plain_is_in_the_grammar kind_of_placed greatest_depth all t.tree (tree_by_kinds t.units t.tree t.grammar) in
+    let twice : plain kind_of_placed (plain kind_of_placed all) ≡ plain kind_of_placed all = plain_is_plain kind_of_placed greatest_depth all t.tree (tree_by_kinds t.units t.tree t.grammar) in
     let same_places : map place_of (plain kind_of_shown ts) ≡ map place_of ts =
     sym (each_map place_of (plain kind_of_shown ts)) ∙ sym (plain_each place_of kind_of_shown kind_of_placed (λ _. refl) ts) ∙ ap (plain kind_of_placed) (each_map place_of ts ∙ at) ∙ twice ∙ sym at in
     let same : plain kind_of_shown ts ≡ ts = plain_of_length kind_of_shown ts (sym (map_length place_of (plain kind_of_shown ts)) ∙ ap length same_places ∙ map_length place_of ts) in
     let r = typed_over ts f (subst (λ z. G kind_of_placed greatest_depth f z) (sym at) g) same in
-    let whole : branch (Label.policies, None) (erased.policy_trees p.policies.items) none ≡ branch (Label.policies, None) (nodes_of (policy_trees kind_of_shown r.policies)) none = t.nodes ∙ sym r.nodes in
+    let whole : branch (Label.policies, None) (erased.policy_trees p.policies.items) none ≡ branch (Label.policies, None) (nodes_of (policy_trees kind_of_shown r.policies)) none = t.nodes ∙ (ap (spanned (λ (t : Placed). t.text) (λ (t : Placed). t.span)) (plain_same (λ (t : Placed). t.text) t.tree) ∙ sym r.nodes) in
     record { policies = r.policies; leaves = r.leaves; nodes = cc; grammar = r.grammar; plain = r.plain }
 
 -- the policies over these tokens: their leaves, their nodes, and the trees of the table

@@ -1,11 +1,11 @@
 -- Each node inside a typed tree is a typed tree of its own.
-use Rattle.std.proofs.Common.{◌≡◌, Bool, true, false, List, [], ◌∷◌, refl}
+use Rattle.std.proofs.Common.{◌≡◌, List, [], ◌∷◌, refl}
 use Rattle.std.specs.Prelude.{⊤, if◌then◌else◌}
-use Rattle.cedar_grammar.specs.Kinds.{is}
 use Rattle.cedar_grammar.specs.Trees.{Label, Forest, none, leaf, branch, join}
-use Rattle.cedar_grammar.specs.TypedTrees.{Tree, Clause, parts, part_parts, policy_trees, name_one, name_more, ref_of, args_one, args_more, init_of, inits_one, inits_more, literal, slot, reference, named, parens, list_empty, list_of, record_empty, record_of, no_access, field, call_empty, call, index, member_of, unsigned, signed, products_one, products_more, mult_of, sums_one, sums_more, add_of, single, compare, has_or_like, is_type, is_in, ands_one, ands_more, ors_one, ors_more, ors_expr, if_expr, variable_bare, variable_is, variable_op, variable_is_op, cond_of, no_cond, conds_more, annotation_bare, annotation_value, no_annotation, annotations_more, policy_of}
+use Rattle.cedar_grammar.specs.TypedTrees.{Tree, Clause, literal_label, parts, part_parts, policy_trees, name_one, name_more, ref_of, args_one, args_more, init_of, inits_one, inits_more, literal, slot, reference, named, parens, list_empty, list_of, record_empty, record_of, no_access, field, call_empty, call, index, member_of, unsigned, signed, products_one, products_more, mult_of, sums_one, sums_more, add_of, single, compare, has_or_like, is_type, is_in, ands_one, ands_more, ors_one, ors_more, ors_expr, if_expr, variable_bare, variable_is, variable_op, variable_is_op, cond_of, no_cond, conds_more, annotation_bare, annotation_value, no_annotation, annotations_more, policy_of}
 use Rattle.cedar_grammar.specs.TypedTrees as kind
 use Rattle.cedar_grammar.specs.declared.kind.Kind.{Kind}
+use Rattle.cedar_grammar.specs.declared.kind.Kind.TheVariants as K
 use Rattle.cedar_layout.specs.Lookups.{Shown}
 use Rattle.cedar_leaf_documents.specs.NodeDocuments.{kind_of_shown}
 
@@ -57,10 +57,10 @@ joined none g s t = t
 joined (leaf x f) g s t = joined f g s t
 joined (branch l f h) g s t = (s.0, s.1, joined h g s.2 t)
 
-literal_typed : (a b : Bool) (x : Shown) → IsTyped (if a then Label.number else (if b then Label.string else Label.boolean)) (leaf x none)
-literal_typed true b x = (x, refl)
-literal_typed false true x = (x, refl)
-literal_typed false false x = (x, refl)
+literal_typed : (k : Kind) (x : Shown) → IsTyped (literal_label k) (leaf x none)
+literal_typed K.Number x = (x, refl)
+literal_typed K.Str x = (x, refl)
+literal_typed _ x = (x, refl)
 
 pub typed_tree : {k : kind.NodeKind} (t : Tree Shown k) → AreTyped (parts kind_of_shown t)
 typed_tree (name_one x) = ((x, refl), tt, tt)
@@ -71,7 +71,7 @@ typed_tree (args_more e c r) = ((e, refl), typed_tree e, typed_tree r)
 typed_tree (init_of k c v) = ((k, refl), typed_tree k, ((v, refl), typed_tree v, tt))
 typed_tree (inits_one e) = ((e, refl), typed_tree e, tt)
 typed_tree (inits_more e c r) = ((e, refl), typed_tree e, typed_tree r)
-typed_tree (literal x) = (literal_typed (is Kind.Number (kind_of_shown x)) (is Kind.Str (kind_of_shown x)) x, tt, tt)
+typed_tree (literal x) = (literal_typed (kind_of_shown x) x, tt, tt)
 typed_tree (slot x) = ((x, refl), tt, tt)
 typed_tree (reference r) = ((r, refl), typed_tree r, tt)
 typed_tree (named n) = ((n, refl), typed_tree n, tt)

@@ -7,7 +7,7 @@ use Rattle.std.proofs.lemmas.Bool.{eqb-true}
 use Rattle.cedar_tokens.specs.Listing.{token_value}
 use Rattle.cedar_tokens.specs.declared.token.Span.{Span}
 use Rattle.cedar_grammar.specs.declared.kind.Kind.{Kind}
-use Rattle.cedar_grammar.specs.Kinds.{is}
+use Rattle.cedar_grammar.specs.declared.kind.Kind.TheVariants as K
 use Rattle.cedar_grammar.specs.Trees.{Label, leaf, branch, none, join}
 use Rattle.cedar_grammar.specs.TypedTrees.{Tree, parts, primary, inits, inits_one, inits_more, literal_label, literal, slot, reference, named, parens, list_empty, list_of, record_empty, record_of}
 use Rattle.cedar_layout.specs.Lookups.{Shown}
@@ -68,10 +68,10 @@ if_not x y h = ap (λ z. if z then x else y) h
 
 -- ---- literals
 
-label_is_node : (a b : Bool) → is_node (if a then Label.number else (if b then Label.string else Label.boolean)) ≡ true
-label_is_node true b = refl
-label_is_node false true = refl
-label_is_node false false = refl
+label_is_node : (k : Kind) → is_node (literal_label k) ≡ true
+label_is_node K.Number = refl
+label_is_node K.Str = refl
+label_is_node _ = refl
 
 abbrev heading : Erased → Label × Option Span
 heading none = (Label.policies, None)
@@ -87,7 +87,7 @@ pub opened_literal : (l : Label) (s : Span) (txt : List ℕ) (x : Shown) → bra
 opened_literal l s txt x e =
     let at = span_of text_of (λ t. t.span) (x ∷ []) in
     let h : Some s ≡ (if is_node (literal_label (kind_of_shown x)) then at else None) = ap (λ z. (heading z).1) e in
-    let k : Some s ≡ at = h ∙ ap (λ b. if b then at else None) (label_is_node (is Kind.Number (kind_of_shown x)) (is Kind.Str (kind_of_shown x))) in
+    let k : Some s ≡ at = h ∙ ap (λ b. if b then at else None) (label_is_node (kind_of_shown x)) in
     (starts_here s x [] (sym k), ap first_text e)
 
 -- ---- which primary a node is
@@ -123,13 +123,13 @@ shape (list_of l a r) = lists
 shape (record_empty l r) = records
 shape (record_of l a r) = records
 
-literal_shape : (a b : Bool) → label_shape (if a then Label.number else (if b then Label.string else Label.boolean)) ≡ literals
-literal_shape true b = refl
-literal_shape false true = refl
-literal_shape false false = refl
+literal_shape : (k : Kind) → label_shape (literal_label k) ≡ literals
+literal_shape K.Number = refl
+literal_shape K.Str = refl
+literal_shape _ = refl
 
 tree_shape : (t : Tree Shown primary) → first_shape (nodes_of (parts kind_of_shown t)) ≡ shape t
-tree_shape (literal x) = literal_shape (is Kind.Number (kind_of_shown x)) (is Kind.Str (kind_of_shown x))
+tree_shape (literal x) = literal_shape (kind_of_shown x)
 tree_shape (slot x) = refl
 tree_shape (reference r) = refl
 tree_shape (named n) = refl

@@ -1,7 +1,7 @@
 -- Readers of rules where so many brackets and ifs may still be nested.
 use Rattle.std.specs.Prelude.{◌≡◌, ℕ, zero, suc, true, false, IsTrue, List}
 use Rattle.std.proofs.Common.{refl}
-use Rattle.cedar_grammar.specs.Grammar as G
+use Rattle.cedar_grammar.specs.KindGrammar as G
 use Rattle.cedar_grammar.specs.Reader.Reading.{too_deep}
 use Rattle.cedar_grammar.specs.Reader.Rules.{Rule, core, nullable}
 use Rattle.cedar_grammar.specs.Reader.Lines.{expr_rule, expr_to}

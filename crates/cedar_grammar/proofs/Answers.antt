@@ -3,7 +3,7 @@ use Rattle.std.specs.Prelude.{◌≡◌, ℕ, Bool, true, false, List, [], ◌�
 use Rattle.std.proofs.Common.{refl, sym, ap, ◌∙◌, append-nil, inl, inr}
 use Rattle.cedar_grammar.specs.declared.kind.Kind.{Kind}
 use Rattle.cedar_grammar.specs.Trees.{Label, Forest, yield}
-use Rattle.cedar_grammar.specs.Grammar.{G, PolicySet}
+use Rattle.cedar_grammar.specs.KindGrammar.{G, PolicySet}
 use Rattle.cedar_grammar.specs.Reader.Reading.{Answer, done, stuck}
 use Rattle.cedar_grammar.proofs.RuleEnds.{Samples}
 use Rattle.cedar_grammar.specs.Reader.Lines.{set_to}
@@ -11,8 +11,7 @@ use Rattle.cedar_grammar.proofs.Families
 use Rattle.cedar_grammar.proofs.Families.{Starts, HopelessAt, refused, left_over, unfinished}
 use Rattle.cedar_grammar.proofs.WholeLaws.{set_laws}
 use Rattle.cedar_grammar.proofs.RuleMaps.{each, answer_of, set_agrees}
-use Rattle.cedar_grammar.specs.Beginnings.{Begins}
-use Rattle.cedar_grammar.specs.Reader.Hopeless.{Hopeless, Unfinished}
+use Rattle.cedar_grammar.specs.Reader.Hopeless.{BeginsByKinds, Hopeless, Unfinished}
 
 module _ {A : Type 0} (kind : A → Kind) where
   abbrev pub Says : ℕ → List A → Answer A → Type 0
@@ -22,10 +21,10 @@ module _ {A : Type 0} (kind : A → Kind) where
   Says d ts (stuck b (a ∷ r)) = (front : List A) × Hopeless kind d ts front a r b
 
   module _ (sample : Samples kind) where
-    begins_of : (d : ℕ) (front : List A) → Starts (set_to kind) (PolicySet kind) d front → Begins kind d front
+    begins_of : (d : ℕ) (front : List A) → Starts (set_to kind) (PolicySet kind) d front → BeginsByKinds kind d front
     begins_of d front (rest, (f, x, e)) = record { rest = rest; tree = f; grammar = record { shape = x; leaves = e } }
 
-    of_begins : (d : ℕ) (front : List A) → Begins kind d front → Starts (set_to kind) (PolicySet kind) d front
+    of_begins : (d : ℕ) (front : List A) → BeginsByKinds kind d front → Starts (set_to kind) (PolicySet kind) d front
     of_begins d front b = (b.rest, (b.tree, b.grammar.shape, b.grammar.leaves))
 
     deep_or_plain : (b : Bool) (X : Type 0) → (b ≡ false → ¬ X) → X → IsTrue b
@@ -39,7 +38,7 @@ module _ {A : Type 0} (kind : A → Kind) where
       through = λ x. h.through (of_begins d (front ++ (a ∷ [])) x);
       kind_is = (
         λ deep. let x = h.more_depth deep in (x.0, begins_of x.0 (front ++ (a ∷ [])) x.1),
-        deep_or_plain b ((e : ℕ) × Begins kind e (front ++ (a ∷ []))) (λ plain x. h.no_depth plain x.0 (of_begins x.0 (front ++ (a ∷ [])) x.1)),
+        deep_or_plain b ((e : ℕ) × BeginsByKinds kind e (front ++ (a ∷ []))) (λ plain x. h.no_depth plain x.0 (of_begins x.0 (front ++ (a ∷ [])) x.1)),
       );
     }
 

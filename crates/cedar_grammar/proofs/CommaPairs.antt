@@ -8,7 +8,7 @@ use Rattle.cedar_grammar.specs.declared.kind.Kind.TheVariants as K
 use Rattle.cedar_grammar.specs.Kinds.{is, code, is_closing, begins}
 use Rattle.cedar_grammar.specs.Trees.{Label, Forest, yield, join}
 use Rattle.cedar_grammar.specs.Languages.{Lang, Many, no_more, one_more}
-use Rattle.cedar_grammar.specs.Grammar as G
+use Rattle.cedar_grammar.specs.KindGrammar as G
 use Rattle.cedar_grammar.specs.TrailingCommas.{drop_if, plain}
 use Rattle.cedar_grammar.specs.Reader.Rules.{Rule, never, empty, inner, leaf_of, nested, then, either, star, tail, node, shaped, items, entity, reference}
 use Rattle.cedar_grammar.proofs.RuleMeanings.{means}

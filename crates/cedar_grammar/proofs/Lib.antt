@@ -35,3 +35,11 @@ pub mod WholeLaws
 pub mod Relabelling
 pub mod ListingTexts
 pub mod FirstLeaf
+pub mod TextTests
+pub mod SameLanguages
+pub mod SameGrammars
+pub mod SameBeginnings
+pub mod SameLabels
+pub mod AcceptedKinds
+pub mod SamePlain
+pub mod PlacedKinds

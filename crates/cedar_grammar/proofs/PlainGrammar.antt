@@ -9,7 +9,7 @@ use borrow.Author.Tests.{eqb-true}
 use Rattle.cedar_grammar.specs.Trees.{Label, Forest, none, leaf, branch, join}
 use Rattle.cedar_grammar.specs.Trees as L
 use Rattle.cedar_grammar.specs.Languages.{Lang, Many, no_more, one_more}
-use Rattle.cedar_grammar.specs.Grammar as G
+use Rattle.cedar_grammar.specs.KindGrammar as G
 use Rattle.cedar_grammar.specs.TrailingCommas.{drop_if, closes_next, plain, without_trailing}
 use Rattle.cedar_grammar.specs.Reader.Rules.{Rule, never, empty, inner, leaf_of, nested, then, either, star, tail, node, shaped, items, entity, reference}
 use Rattle.cedar_grammar.proofs.RuleMeanings.{means}

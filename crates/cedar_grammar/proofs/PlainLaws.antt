@@ -9,7 +9,7 @@ use Rattle.cedar_grammar.specs.Kinds.{is, code, is_variable, begins, is_closing}
 use Rattle.cedar_grammar.specs.Trees.{Label, Forest, none, leaf, yield, join}
 use Rattle.cedar_grammar.specs.Trees as L
 use Rattle.cedar_grammar.specs.Languages.{Lang, Many, no_more, one_more}
-use Rattle.cedar_grammar.specs.Grammar as G
+use Rattle.cedar_grammar.specs.KindGrammar as G
 use Rattle.cedar_grammar.specs.Reader.Rules.{Rule, never, empty, inner, leaf_of, nested, then, either, star, tail, node, shaped, items, entity, reference, text_rule, word_of}
 use Rattle.cedar_grammar.proofs.RuleMeanings.{means}
 use Rattle.cedar_grammar.specs.Reader.Lines.{path, expr_rule, policy_rule}

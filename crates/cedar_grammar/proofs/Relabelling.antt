@@ -5,7 +5,7 @@ use Rattle.cedar_grammar.specs.declared.kind.Kind.{Kind}
 use Rattle.cedar_grammar.specs.declared.kind.Kind.TheVariants as K
 use Rattle.cedar_grammar.specs.Kinds.{is, is_closing, begins}
 use Rattle.cedar_grammar.specs.Trees.{Label, Forest, none, leaf, branch, yield}
-use Rattle.cedar_grammar.specs.Grammar.{G}
+use Rattle.cedar_grammar.specs.KindGrammar.{G}
 use Rattle.cedar_grammar.specs.TrailingCommas.{drop_if, plain}
 use Rattle.cedar_grammar.specs.Reader.Reading.{done}
 use Rattle.cedar_grammar.specs.Reader.Lines.{set_to}

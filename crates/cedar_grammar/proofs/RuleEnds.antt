@@ -6,7 +6,7 @@ use Rattle.cedar_grammar.specs.declared.kind.Kind.{Kind}
 use Rattle.cedar_grammar.specs.Kinds.{is, begins}
 use Rattle.cedar_grammar.specs.Trees.{Label, Forest, none, leaf, branch, join}
 use Rattle.cedar_grammar.specs.Languages.{Lang, ◌⋄◌, ◌∪◌, no_more, Of}
-use Rattle.cedar_grammar.specs.Grammar.{One}
+use Rattle.cedar_grammar.specs.KindGrammar.{One}
 use Rattle.cedar_grammar.specs.Reader.Reading.{Answer, Reader, done, stuck, one}
 use Rattle.cedar_grammar.specs.Reader.Regroup.{gather}
 use Rattle.cedar_grammar.proofs.RegroupLaws.{gather_yield}

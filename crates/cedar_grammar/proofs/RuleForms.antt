@@ -8,7 +8,7 @@ use Rattle.cedar_grammar.proofs.KindSets.{within_at, and_left}
 use Rattle.cedar_grammar.specs.Trees.{Label, Forest, none, leaf, branch, join}
 use Rattle.cedar_grammar.specs.Trees as L
 use Rattle.cedar_grammar.specs.Languages.{Lang, ◌⋄◌, ◌∪◌, Many, no_more, one_more, Empty, Never, Branch, Of}
-use Rattle.cedar_grammar.specs.Grammar.{One, Items, Ident, STR, Entity}
+use Rattle.cedar_grammar.specs.KindGrammar.{One, Items, Ident, STR, Entity}
 use Rattle.cedar_grammar.specs.Reader.Regroup.{gather}
 use Rattle.cedar_grammar.specs.Reader.Rules.{Rule, never, empty, inner, leaf_of, nested, then, either, star, tail, node, shaped, items, entity, reference, core}
 use Rattle.cedar_grammar.proofs.RuleMeanings.{TailTo, Tail, Shaped, Reference, means}

@@ -7,7 +7,7 @@ use Rattle.cedar_grammar.specs.Kinds.{is, begins}
 use Rattle.cedar_grammar.specs.Reader.Sets.{no_kind, joined}
 use Rattle.cedar_grammar.specs.Trees.{Label, Forest, none, yield}
 use Rattle.cedar_grammar.specs.Languages.{Lang, ◌⋄◌, ◌∪◌, Many, no_more, one_more, Empty, Branch}
-use Rattle.cedar_grammar.specs.Grammar.{One}
+use Rattle.cedar_grammar.specs.KindGrammar.{One}
 use Rattle.cedar_grammar.specs.Reader.Reading.{Answer, Reader, done, stuck, after, choice, both, skip, nest, repeat, one}
 use Rattle.cedar_grammar.specs.Reader.Regroup.{gather}
 use Rattle.cedar_grammar.proofs.RegroupLaws.{gather_yield}

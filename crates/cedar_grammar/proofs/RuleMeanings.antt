@@ -6,7 +6,7 @@ use Rattle.cedar_grammar.specs.Kinds.{is, is_variable}
 use Rattle.cedar_grammar.specs.Trees.{Label, Forest, none}
 use Rattle.cedar_grammar.specs.Trees as L
 use Rattle.cedar_grammar.specs.Languages.{Lang, ◌⋄◌, ◌∪◌, Many, Empty, Never, Branch, Of}
-use Rattle.cedar_grammar.specs.Grammar.{One, Items, Path, Entity}
+use Rattle.cedar_grammar.specs.KindGrammar.{One, Items, Path, Entity}
 use Rattle.cedar_grammar.specs.Reader.Sets.{no_kind, joined}
 use Rattle.cedar_grammar.specs.Reader.Regroup.{gather}
 use Rattle.cedar_grammar.specs.Reader.Rules.{Rule, never, empty, inner, leaf_of, nested, then, either, star, tail, node, shaped, items, entity, reference, nullable, first}

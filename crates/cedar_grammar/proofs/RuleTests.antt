@@ -4,7 +4,7 @@ use Rattle.std.proofs.Common.{refl}
 use Rattle.cedar_grammar.specs.declared.kind.Kind.{Kind}
 use Rattle.cedar_grammar.proofs.KindSets.{within}
 use Rattle.cedar_grammar.specs.Languages.{Lang}
-use Rattle.cedar_grammar.specs.Grammar as G
+use Rattle.cedar_grammar.specs.KindGrammar as G
 use Rattle.cedar_grammar.specs.Reader.Rules.{core, first, expr_first}
 use Rattle.cedar_grammar.proofs.RuleMeanings.{means, decided, closes, has, covered, clash, expr_clash}
 use Rattle.cedar_grammar.specs.Reader.Lines.{expr_rule, set_rule}

@@ -5,9 +5,8 @@ use Rattle.std.proofs.Common.{refl, sym, ap, ◌∙◌, inl, inr, arith, append_
 use Rattle.cedar_tokens.specs.Units.{is_token}
 use Rattle.cedar_grammar.specs.declared.kind.Kind.{Kind}
 use Rattle.cedar_grammar.specs.Trees.{Label, Forest}
-use Rattle.cedar_grammar.specs.Grammar.{G}
-use Rattle.cedar_grammar.specs.Beginnings.{Begins}
-use Rattle.cedar_grammar.specs.Reader.Hopeless.{Hopeless}
+use Rattle.cedar_grammar.specs.KindGrammar.{G}
+use Rattle.cedar_grammar.specs.Reader.Hopeless.{BeginsByKinds, Hopeless}
 use Rattle.cedar_grammar.specs.Numbers.{is_too_large}
 use Rattle.cedar_grammar.specs.Texts.{only_tokens}
 use Rattle.cedar_grammar.proofs.KindSets.{or_right}
@@ -31,19 +30,19 @@ cuts (c ∷ x) (d ∷ y) a b r s h =
 
 -- One place and one kind.
 module _ {A : Type 0} (kind : A → Kind) where
-  pub begins_less : (d : ℕ) (front : List A) (a : A) (e : List A) → Begins kind d (front ++ (a ∷ e)) → Begins kind d (front ++ (a ∷ []))
+  pub begins_less : (d : ℕ) (front : List A) (a : A) (e : List A) → BeginsByKinds kind d (front ++ (a ∷ e)) → BeginsByKinds kind d (front ++ (a ∷ []))
   begins_less d front a e b = record {
     rest = e ++ b.rest;
     tree = b.tree;
     grammar = subst (λ z. G kind d b.tree z) (append_assoc front (a ∷ e) b.rest ∙ sym (append_assoc front (a ∷ []) (e ++ b.rest))) b.grammar;
   }
 
-  pub whole_begins : (d : ℕ) (f : Forest Label A) (ts : List A) → G kind d f ts → Begins kind d ts
+  pub whole_begins : (d : ℕ) (f : Forest Label A) (ts : List A) → G kind d f ts → BeginsByKinds kind d ts
   whole_begins d f ts g = record { rest = []; tree = f; grammar = subst (λ z. G kind d f z) (sym (append-nil ts)) g }
 
   -- what begins a list has no hopeless place
-  pub not_hopeless : (d : ℕ) (ts front : List A) (a : A) (rest : List A) (deep : Bool) → Begins kind d ts → Hopeless kind d ts front a rest deep → ⊥
-  not_hopeless d ts front a rest deep b h = h.through (begins_less d front a rest (subst (λ z. Begins kind d z) h.split b))
+  pub not_hopeless : (d : ℕ) (ts front : List A) (a : A) (rest : List A) (deep : Bool) → BeginsByKinds kind d ts → Hopeless kind d ts front a rest deep → ⊥
+  not_hopeless d ts front a rest deep b h = h.through (begins_less d front a rest (subst (λ z. BeginsByKinds kind d z) h.split b))
 
   same_truth : (b c : Bool) (X : Type 0) → (IsTrue b → X) → (X → IsTrue b) → (IsTrue c → X) → (X → IsTrue c) → b ≡ c
   same_truth true true X f g h i = refl
@@ -58,11 +57,11 @@ module _ {A : Type 0} (kind : A → Kind) where
       go (inl (e, i)) =
           let same : f1 ++ (a1 ∷ []) ≡ f2 ++ (a2 ∷ []) = ap (λ z. z ++ (a1 ∷ [])) e ∙ ap (λ z. f2 ++ (z ∷ [])) i in (
             e,
-            same_truth b1 b2 ((e : ℕ) × Begins kind e (f1 ++ (a1 ∷ []))) h.kind_is.0 h.kind_is.1
-                (λ t. let x = k.kind_is.0 t in (x.0, subst (λ z. Begins kind x.0 z) (sym same) x.1)) (λ x. k.kind_is.1 (x.0, subst (λ z. Begins kind x.0 z) same x.1)),
+            same_truth b1 b2 ((e : ℕ) × BeginsByKinds kind e (f1 ++ (a1 ∷ []))) h.kind_is.0 h.kind_is.1
+                (λ t. let x = k.kind_is.0 t in (x.0, subst (λ z. BeginsByKinds kind x.0 z) (sym same) x.1)) (λ x. k.kind_is.1 (x.0, subst (λ z. BeginsByKinds kind x.0 z) same x.1)),
           )
-      go (inr (inl (e, i))) = absurd (h.through (begins_less d f1 a1 e (subst (λ z. Begins kind d z) i k.before)))
-      go (inr (inr (e, i))) = absurd (k.through (begins_less d f2 a2 e (subst (λ z. Begins kind d z) i h.before)))
+      go (inr (inl (e, i))) = absurd (h.through (begins_less d f1 a1 e (subst (λ z. BeginsByKinds kind d z) i k.before)))
+      go (inr (inr (e, i))) = absurd (k.through (begins_less d f2 a2 e (subst (λ z. BeginsByKinds kind d z) i h.before)))
 
 -- Numbers.
 abbrev pub Large : List (List ℕ) → Type 0

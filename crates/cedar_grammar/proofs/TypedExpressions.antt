@@ -1,6 +1,7 @@
 -- From forests of the grammar to typed trees.
 use Rattle.std.specs.Prelude.{◌≡◌, ℕ, zero, suc, Bool, true, false, IsTrue, ◌⊎◌, nat_eq, if◌then◌else◌}
 use Rattle.std.proofs.Common.{refl, sym, ap, ◌∙◌, inl, inr}
+use Rattle.cedar_grammar.proofs.SameLabels.{label_is}
 use Rattle.cedar_grammar.proofs.KindSets.{within, within_at, apart_at}
 use Rattle.cedar_grammar.specs.declared.kind.Kind.{Kind}
 use Rattle.cedar_grammar.specs.declared.kind.Kind.TheVariants as K
@@ -9,7 +10,7 @@ use Rattle.cedar_grammar.proofs.ReadingLaws.{join_none, join_assoc}
 use Rattle.cedar_grammar.specs.Trees.{Label, Forest, none, leaf, branch, join}
 use Rattle.cedar_grammar.specs.Trees as L
 use Rattle.cedar_grammar.specs.Languages.{Lang, ◌⋄◌, ◌∪◌, Many, no_more, one_more, Maybe, Branch, Of}
-use Rattle.cedar_grammar.specs.Grammar as G
+use Rattle.cedar_grammar.specs.KindGrammar as G
 use Rattle.cedar_grammar.specs.TrailingCommas.{without_trailing}
 use Rattle.cedar_grammar.specs.TypedTrees as T
 use Rattle.cedar_grammar.specs.TypedTrees.{NodeKind, parts, literal_label}
@@ -37,13 +38,13 @@ module _ {A : Type 0} (kind : A → Kind) where
       )
 
   number_label : (k : Kind) → IsTrue (is K.Number k) → literal_label k ≡ L.number
-  number_label k h = ap (λ b. if b then L.number else (if is K.Str k then L.string else L.boolean)) h
+  number_label k h = label_is k ∙ ap (λ b. if b then L.number else (if is K.Str k then L.string else L.boolean)) h
 
   string_label : (k : Kind) → IsTrue (is K.Str k) → literal_label k ≡ L.string
-  string_label k h = ap (λ b. if b then L.number else (if is K.Str k then L.string else L.boolean)) (apart_at (is K.Str) (is K.Number) refl k h) ∙ ap (λ b. if b then L.string else L.boolean) h
+  string_label k h = label_is k ∙ ap (λ b. if b then L.number else (if is K.Str k then L.string else L.boolean)) (apart_at (is K.Str) (is K.Number) refl k h) ∙ ap (λ b. if b then L.string else L.boolean) h
 
   boolean_label : (k : Kind) → IsTrue (is_boolean k) → literal_label k ≡ L.boolean
-  boolean_label k h = ap (λ b. if b then L.number else (if is K.Str k then L.string else L.boolean)) (apart_at is_boolean (is K.Number) refl k h)
+  boolean_label k h = label_is k ∙ ap (λ b. if b then L.number else (if is K.Str k then L.string else L.boolean)) (apart_at is_boolean (is K.Number) refl k h)
       ∙ ap (λ b. if b then L.string else L.boolean) (apart_at is_boolean (is K.Str) refl k h)
 
   literal : (l : Label) (p : Kind → Bool) → IsTrue (within p is_atom) → ((k : Kind) → IsTrue (p k) → literal_label k ≡ l) → (f : Forest Label A) → Branch L.primary (Branch l (Of kind p)) f → Node L.primary T.primary f

@@ -7,7 +7,7 @@ use Rattle.cedar_grammar.specs.Kinds.{is, is_closing}
 use Rattle.cedar_grammar.specs.Trees.{Label, Forest, none, leaf, branch, join}
 use Rattle.cedar_grammar.specs.Trees as L
 use Rattle.cedar_grammar.specs.Languages.{◌⋄◌, ◌∪◌, Empty, Many, no_more, one_more, Maybe, Branch}
-use Rattle.cedar_grammar.specs.Grammar as G
+use Rattle.cedar_grammar.specs.KindGrammar as G
 use Rattle.cedar_grammar.specs.TrailingCommas.{without_trailing}
 use Rattle.cedar_grammar.specs.TypedTrees as T
 use Rattle.cedar_grammar.specs.TypedTrees.{PartKind, Clause, parts, part_parts, policy_trees, set_tree}

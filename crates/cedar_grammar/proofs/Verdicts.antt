@@ -10,13 +10,14 @@ use Rattle.cedar_tokens.specs.Split.{SplitsInto}
 use Rattle.cedar_grammar.specs.declared.kind.Kind.{Kind}
 use Rattle.cedar_grammar.specs.TokenKinds.{kind_of}
 use Rattle.cedar_grammar.specs.Reader.Hopeless.{Hopeless, Unfinished, IsRefused}
-use Rattle.cedar_grammar.specs.Grammar.{G}
+use Rattle.cedar_grammar.specs.KindGrammar.{G}
 use Rattle.cedar_grammar.specs.Numbers.{is_too_large, IsFirstTooLarge}
 use Rattle.cedar_grammar.specs.Texts.{greatest_depth, only_tokens, Accepted}
 use Rattle.cedar_grammar.specs.Reader.Reading.{Answer, done, stuck}
 use Rattle.cedar_grammar.specs.Reader.Lines.{set_to}
 use Rattle.cedar_grammar.proofs.RuleMaps.{each, answer_of, set_agrees}
 use Rattle.cedar_grammar.proofs.Answers.{Says, says}
+use Rattle.cedar_grammar.proofs.AcceptedKinds.{is_accepted}
 use Rattle.cedar_grammar.proofs.TextKinds.{samples}
 use Rattle.cedar_grammar.proofs.TextLaws.{Large, numbers_or, unit_cut}
 use Rattle.cedar_grammar.proofs.Relabelling.{each_map}
@@ -147,7 +148,7 @@ module _ (text : List ℕ) (units : List (List ℕ)) (s : SplitsInto text units)
       })
 
   answered : list_any is_too_large units ≡ false → (x : Answer (List ℕ)) → set_to kind_of d (only_tokens units) ≡ x → Says kind_of d (only_tokens units) x → Holds text (of_answer units x)
-  answered fit (done f []) e g = (f, record { units = units; split = s; fitting = fit; grammar = subst (λ z. G kind_of z f (only_tokens units)) deep g })
+  answered fit (done f []) e g = (f, is_accepted text f units s fit (subst (λ z. G kind_of z f (only_tokens units)) deep g))
   answered fit (done f (a ∷ r)) e h = hopeless fit h.0 a r false h.1
   answered fit (stuck b []) e h = inr (record { units = units; split = s; fitting = fit; unfinished = subst (λ z. Unfinished kind_of z (only_tokens units)) deep h }, start_past units ∙ sym (split_length units text s), refl)
   answered fit (stuck b (a ∷ r)) e h = hopeless fit h.0 a r b h.1

@@ -5,7 +5,7 @@ use Rattle.cedar_grammar.specs.declared.kind.Kind.{Kind}
 use Rattle.cedar_grammar.proofs.KindSets.{within_at}
 use Rattle.cedar_grammar.specs.Trees.{Label, Forest, yield}
 use Rattle.cedar_grammar.specs.Languages.{Lang, Never}
-use Rattle.cedar_grammar.specs.Grammar as G
+use Rattle.cedar_grammar.specs.KindGrammar as G
 use Rattle.cedar_grammar.specs.Reader.Reading.{Reader, done, too_deep}
 use Rattle.cedar_grammar.proofs.LanguageLaws.{Sound, Complete, sound_more}
 use Rattle.cedar_grammar.proofs.PlaceLaws.{Local, deep_local}

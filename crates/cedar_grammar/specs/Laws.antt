@@ -1,12 +1,14 @@
 -- Laws of the grammar.
-use Rattle.std.specs.Prelude.{◌≡◌, ℕ, suc, List, ◌⊎◌, map}
-use Rattle.std.specs.List.{flat_map}
+use Rattle.std.specs.Prelude.{◌≡◌, ◌↔◌, ℕ, suc, List, ◌⊎◌, map}
+use Rattle.std.specs.List.{AllByRecursion, flat_map}
+use Rattle.cedar_tokens.specs.Units.{IsToken}
 use Rattle.cedar_tokens.specs.Listing.{Decorated}
 use Rattle.cedar_tokens.specs.PlainList.{plain_list, NoNeighbours}
 use Rattle.cedar_grammar.specs.declared.kind.Kind.{Kind}
 use Rattle.cedar_grammar.specs.Kinds.{is}
 use Rattle.cedar_grammar.specs.Trees.{Label, Forest, yield}
-use Rattle.cedar_grammar.specs.Grammar.{G}
+use Rattle.cedar_grammar.specs.Grammar.{IsSyntaxTree}
+use Rattle.cedar_grammar.specs.KindGrammar.{G}
 use Rattle.cedar_grammar.specs.TokenKinds.{kind_of}
 use Rattle.cedar_grammar.specs.TrailingCommas.{plain, without_trailing}
 use Rattle.cedar_grammar.specs.TypedTrees.{Clause, policy, set_tree, part_yield}
@@ -14,6 +16,20 @@ use Rattle.cedar_grammar.specs.TypedTrees.{Clause, policy, set_tree, part_yield}
 -- a decorated token's kind is that of its text
 abbrev pub kind_of_decorated : Decorated → Kind
 kind_of_decorated t = kind_of t.text
+
+-- Of tokens of any type that have a text.
+module _ {A : Type 0} (text : A → List ℕ) where
+  -- each of the list has the text of a token
+  abbrev pub AreTokens : List A → Type 0
+  AreTokens ts = AllByRecursion (λ a. IsToken (text a)) ts
+
+  -- a list of tokens has the same trees in the grammar over texts and in the grammar over kinds, at each depth
+  abbrev pub GrammarsAgree : Type 0
+  GrammarsAgree = (d : ℕ) (ts : List A) (f : Forest Label A) → AreTokens ts → IsSyntaxTree text d f ts ↔ G (λ a. kind_of (text a)) d f ts
+
+  -- a list of the grammar over texts is one of tokens
+  abbrev pub TextsAreTokens : Type 0
+  TextsAreTokens = (d : ℕ) (ts : List A) (f : Forest Label A) → IsSyntaxTree text d f ts → AreTokens ts
 
 -- Of tokens of any type that have a kind.
 module _ {A : Type 0} (kind : A → Kind) where

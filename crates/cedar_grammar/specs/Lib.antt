@@ -3,10 +3,12 @@ pub mod TokenKinds
 pub mod Trees
 pub mod Languages
 pub mod Grammar
+pub mod KindGrammar
 pub mod Beginnings
 pub mod Numbers
 pub mod Texts
 pub mod TrailingCommas
+pub mod PlainTrees
 pub mod TypedTrees
 pub mod Placed
 pub mod Laws

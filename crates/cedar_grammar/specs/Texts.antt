@@ -4,9 +4,8 @@ use Rattle.std.specs.List.{filter, list_any, sum_by}
 use Rattle.cedar_tokens.specs.Units.{is_token}
 use Rattle.cedar_tokens.specs.Split.{SplitsInto}
 use Rattle.cedar_grammar.specs.Trees.{Label, Forest}
-use Rattle.cedar_grammar.specs.Grammar.{G}
+use Rattle.cedar_grammar.specs.Grammar.{IsSyntaxTree}
 use Rattle.cedar_grammar.specs.Numbers.{is_too_large}
-use Rattle.cedar_grammar.specs.TokenKinds.{kind_of}
 use Rattle.cedar_grammar.specs.Beginnings.{Begins}
 
 -- how many ifs and brackets may stand inside each other in a condition
@@ -22,16 +21,16 @@ pub record IsAccepted (text : List ℕ) (tree : Forest Label (List ℕ)) : Type 
   pub units : List (List ℕ)
   pub split : SplitsInto text units
   pub fitting : list_any is_too_large units ≡ false
-  pub grammar : G kind_of greatest_depth tree (only_tokens units)
+  pub grammar : IsSyntaxTree (λ t. t) greatest_depth tree (only_tokens units)
 
 abbrev pub Accepted : List ℕ → Type 0
 Accepted text = (tree : Forest Label (List ℕ)) × IsAccepted text tree
 
 -- How tokens leave the grammar behind those before them: there are no more, and they aren't a list of the grammar; or the next unit is a
 -- token through which no list of the grammar begins, and `deep` says whether only the depth is to blame: at some depth one does.
-abbrev pub Leaves : List (List ℕ) → List (List ℕ) → Bool → Type 0
-Leaves front [] deep = ((tree : Forest Label (List ℕ)) → ¬ (G kind_of greatest_depth tree front)) × (deep ≡ false)
-Leaves front (u ∷ us) deep = (is_token u ≡ true) × ¬ (Begins kind_of greatest_depth (front ++ (u ∷ []))) × (IsTrue deep ↔ ((d : ℕ) × Begins kind_of d (front ++ (u ∷ []))))
+abbrev pub LeaveAfter : List (List ℕ) → List (List ℕ) → Bool → Type 0
+LeaveAfter front [] deep = ((tree : Forest Label (List ℕ)) → ¬ (IsSyntaxTree (λ t. t) greatest_depth tree front)) × (deep ≡ false)
+LeaveAfter front (u ∷ us) deep = (is_token u ≡ true) × ¬ (Begins greatest_depth (front ++ (u ∷ []))) × (IsTrue deep ↔ ((d : ℕ) × Begins d (front ++ (u ∷ []))))
 
 -- the text splits, its numbers fit, and at this byte its tokens leave the grammar: a list of the grammar begins with those before it
 pub record LeavesGrammar (text : List ℕ) (at : ℕ) (deep : Bool) : Type 0 where
@@ -40,5 +39,5 @@ pub record LeavesGrammar (text : List ℕ) (at : ℕ) (deep : Bool) : Type 0 whe
   pub split : SplitsInto text (before ++ after)
   pub fitting : list_any is_too_large (before ++ after) ≡ false
   pub place : at ≡ sum_by length before
-  pub begins : Begins kind_of greatest_depth (only_tokens before)
-  pub leaves : Leaves (only_tokens before) after deep
+  pub begins : Begins greatest_depth (only_tokens before)
+  pub leaves : LeaveAfter (only_tokens before) after deep

@@ -1,7 +1,7 @@
 -- Typed trees: a constructor for each production, every token a leaf; and the trees in a row that each stands for.
-use Rattle.std.specs.Prelude.{List, [], ◌∷◌, ◌++◌, if◌then◌else◌}
+use Rattle.std.specs.Prelude.{List, [], ◌∷◌, ◌++◌}
 use Rattle.cedar_grammar.specs.declared.kind.Kind.{Kind}
-use Rattle.cedar_grammar.specs.Kinds.{is}
+use Rattle.cedar_grammar.specs.declared.kind.Kind.TheVariants.{Number, Str}
 use Rattle.cedar_grammar.specs.Trees.{Label, Forest, none, leaf, branch, join}
 
 -- the kinds of nodes; a plural is a chain or a list with its separators
@@ -71,9 +71,11 @@ pub data Clause (A : Type 0) : PartKind → Type 0 where
   annotations_more : Clause A annotation → Clause A annotations → Clause A annotations
   policy_of : Clause A annotations → A → A → Clause A variable → A → Clause A variable → A → Clause A variable → A → Clause A conds → A → Clause A policy
 
--- a literal's label follows from its token
+-- a literal's label follows from its token's kind
 abbrev pub literal_label : Kind → Label
-literal_label k = if is Kind.Number k then Label.number else (if is Kind.Str k then Label.string else Label.boolean)
+literal_label Number = Label.number
+literal_label Str = Label.string
+literal_label _ = Label.boolean
 
 -- the parts of the node that the tree stands for; of a chain or list the row of its nodes and separators
 abbrev pub parts : {A : Type 0} {k : NodeKind} → (A → Kind) → Tree A k → Forest Label A

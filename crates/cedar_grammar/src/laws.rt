@@ -1,7 +1,23 @@
 //! Laws of the grammar. They speak of the definitions alone, so their bodies do nothing.
+ghost use Rattle.std.specs.Prelude.{ℕ, List};
+ghost use Rattle.cedar_tokens.specs.Listing.{Decorated};
 ghost use Rattle.cedar_grammar.specs.TokenKinds.{kind_of};
-ghost use Rattle.cedar_grammar.specs.Placed.{kind_of_placed};
-ghost use Rattle.cedar_grammar.specs.Laws.{ListHasOneTree, GrammarIsDecidable, DeeperHasMore, LeavesArePlain, PlainIsInTheGrammar, CommasStandAlone, PlainIsPlain, EveryTreeIsTyped, TypedTreeIsUnique, TypedLeavesAgree, PlainTextsAgree, kind_of_decorated};
+ghost use Rattle.cedar_grammar.specs.Placed.{Placed, kind_of_placed};
+ghost use Rattle.cedar_grammar.specs.Laws.{GrammarsAgree, TextsAreTokens, ListHasOneTree, GrammarIsDecidable, DeeperHasMore, LeavesArePlain, PlainIsInTheGrammar, CommasStandAlone, PlainIsPlain, EveryTreeIsTyped, TypedTreeIsUnique, TypedLeavesAgree, PlainTextsAgree, kind_of_decorated};
+
+/// A list of tokens has the same trees in the grammar over texts and in the grammar over kinds, at each depth.
+pub fn grammars_agree()
+    ensures texts { GrammarsAgree {A = List ℕ} (λ t. t) }
+    ensures decorated { GrammarsAgree {A = Decorated} (λ t. t.text) }
+    ensures placed { GrammarsAgree {A = Placed} (λ t. t.text) }
+{}
+
+/// A list of the grammar over texts is one of tokens.
+pub fn texts_are_tokens()
+    ensures texts { TextsAreTokens {A = List ℕ} (λ t. t) }
+    ensures decorated { TextsAreTokens {A = Decorated} (λ t. t.text) }
+    ensures placed { TextsAreTokens {A = Placed} (λ t. t.text) }
+{}
 
 /// A list of tokens has at most one tree, whatever the depth.
 pub fn list_has_one_tree()

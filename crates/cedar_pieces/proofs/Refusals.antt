@@ -14,16 +14,16 @@ use Rattle.cedar_tokens.proofs.Scanning.{split_unique}
 use Rattle.cedar_grammar.specs.declared.kind.Kind.{Kind}
 use Rattle.cedar_grammar.specs.declared.kind.Kind.TheVariants as K
 use Rattle.cedar_grammar.specs.Kinds.{is}
-use Rattle.cedar_grammar.specs.Grammar.{G}
-use Rattle.cedar_grammar.specs.Beginnings.{Begins}
+use Rattle.cedar_grammar.specs.KindGrammar.{G}
 use Rattle.cedar_grammar.specs.Numbers.{is_too_large}
 use Rattle.cedar_grammar.specs.TokenKinds.{fixed_tokens, other_kind, kind_among, kind_of}
 use Rattle.cedar_grammar.specs.Texts.{greatest_depth, only_tokens, Accepted}
-use Rattle.cedar_grammar.specs.Reader.Hopeless.{IsHopeless, IsRefused}
+use Rattle.cedar_grammar.specs.Reader.Hopeless.{BeginsByKinds, IsHopeless, IsRefused}
 use Rattle.cedar_grammar.specs.Trees.{Label, Forest}
 use Rattle.cedar_grammar.proofs.KindSets.{and_left, and_right, or_left, or_right, not_true}
 use Rattle.cedar_grammar.proofs.TreeLaws.{deeper}
 use Rattle.cedar_text_laws.proofs.Scanned.{scans_concat}
+use Rattle.cedar_grammar.proofs.AcceptedKinds.{kinds_of}
 use Rattle.cedar_pieces.specs.Pieces.{IsPiece, HasNoPiece, is_semicolon}
 use Rattle.cedar_pieces.proofs.Prefixes.{concat_length, units_of}
 use Rattle.cedar_pieces.proofs.Lists.{scanned_front, piece_units}
@@ -111,7 +111,7 @@ parts_fit text n us p s h =
 pub rest_is_empty : (text : List ℕ) → HasNoPiece text → Accepted text → (us : List (List ℕ)) × SplitsInto text us × (only_tokens us ≡ []) × (list_any is_too_large us ≡ false)
 rest_is_empty text h (tree, a) =
     let r = scanned_front h.units a.units text h.rest h.scans a.split in
-    (a.units, a.split, no_semicolon kind_of greatest_depth tree (only_tokens a.units) (no_kind a.units (ap (λ z. list_any is_semicolon z) (r.1 ∙ same r.0 r.2) ∙ h.none)) a.grammar, a.fitting)
+    (a.units, a.split, no_semicolon kind_of greatest_depth tree (only_tokens a.units) (no_kind a.units (ap (λ z. list_any is_semicolon z) (r.1 ∙ same r.0 r.2) ∙ h.none)) (kinds_of a), a.fitting)
   where
     same : (ws : List (List ℕ)) → SplitsInto h.rest ws → h.units ++ ws ≡ h.units
     same [] s = append-nil h.units
@@ -129,17 +129,17 @@ module _ (front : List (List ℕ)) where
       → ((f : Forest Label (List ℕ)) × G kind_of d f whole) × ((g : Forest Label (List ℕ)) × G kind_of d g ts)
   parts d tree ts g = list_parts kind_of d tree front (codes ";") ts refl (subst (λ z. G kind_of d tree z) (regroup ts) g)
 
-  behind : (d : ℕ) (ts : List (List ℕ)) → Begins kind_of d (whole ++ ts) → Begins kind_of d ts
+  behind : (d : ℕ) (ts : List (List ℕ)) → BeginsByKinds kind_of d (whole ++ ts) → BeginsByKinds kind_of d ts
   behind d ts b = let q = parts d b.tree (ts ++ b.rest) (subst (λ z. G kind_of d b.tree z) (append_assoc whole ts b.rest) b.grammar) in record { rest = b.rest; tree = q.1.0; grammar = q.1.1 }
 
-  onto : (d : ℕ) (tree : Forest Label (List ℕ)) (ts : List (List ℕ)) → G kind_of d tree whole → Begins kind_of d ts → Begins kind_of d (whole ++ ts)
+  onto : (d : ℕ) (tree : Forest Label (List ℕ)) (ts : List (List ℕ)) → G kind_of d tree whole → BeginsByKinds kind_of d ts → BeginsByKinds kind_of d (whole ++ ts)
   onto d tree ts g b =
       let q = lists_join kind_of d tree b.tree whole (ts ++ b.rest) g b.grammar in
       record { rest = b.rest; tree = q.0; grammar = subst (λ z. G kind_of d q.0 z) (sym (append_assoc whole ts b.rest)) q.1 }
 
 -- the place of a hopeless token, where further units follow
 abbrev Through : List (List ℕ) → List ℕ → Bool → Type 0
-Through front token deep = Begins kind_of greatest_depth front × (¬ (Begins kind_of greatest_depth (front ++ (token ∷ [])))) × (IsTrue deep ↔ ((e : ℕ) × Begins kind_of e (front ++ (token ∷ []))))
+Through front token deep = BeginsByKinds kind_of greatest_depth front × (¬ (BeginsByKinds kind_of greatest_depth (front ++ (token ∷ [])))) × (IsTrue deep ↔ ((e : ℕ) × BeginsByKinds kind_of e (front ++ (token ∷ []))))
 
 hopeless_at : (text : List ℕ) (before : List (List ℕ)) (token : List ℕ) (after : List (List ℕ)) (at : ℕ) (deep : Bool) → SplitsInto text (before ++ (token ∷ after)) → list_any is_too_large (before ++ (token ∷ after)) ≡ false
     → at ≡ sum_by length before → is_token token ≡ true → Through (only_tokens before) token deep → IsHopeless text at deep
@@ -185,12 +185,12 @@ rest_refused text n at deep us p s fit (tree, a) r = go r
     front = only_tokens p.before
 
     accepted : G kind_of greatest_depth tree (front ++ (codes ";" ∷ []))
-    accepted = subst (λ z. G kind_of greatest_depth tree z) (ap only_tokens (split_unique (take n text) a.units (units_of p) a.split q.2) ∙ piece_tokens text n p) a.grammar
+    accepted = subst (λ z. G kind_of greatest_depth tree z) (ap only_tokens (split_unique (take n text) a.units (units_of p) a.split q.2) ∙ piece_tokens text n p) (kinds_of a)
 
     tokens_are : (vs : List (List ℕ)) → only_tokens (units_of p ++ vs) ≡ (front ++ (codes ";" ∷ [])) ++ only_tokens vs
     tokens_are vs = tokens_join (units_of p) vs ∙ ap (λ z. z ++ only_tokens vs) (piece_tokens text n p)
 
-    onto_deeper : (e : ℕ) (ts : List (List ℕ)) → Begins kind_of e ts → (d : ℕ) × Begins kind_of d ((front ++ (codes ";" ∷ [])) ++ ts)
+    onto_deeper : (e : ℕ) (ts : List (List ℕ)) → BeginsByKinds kind_of e ts → (d : ℕ) × BeginsByKinds kind_of d ((front ++ (codes ";" ∷ [])) ++ ts)
     onto_deeper e ts b = (
       e + greatest_depth,
       onto front (e + greatest_depth) tree ts (deeper kind_of e greatest_depth (front ++ (codes ";" ∷ [])) tree accepted) (record {
@@ -208,11 +208,11 @@ rest_refused text n at deep us p s fit (tree, a) r = go r
     through : (hb : List (List ℕ)) (ht : List ℕ) (t : List (List ℕ)) → t ≡ (front ++ (codes ";" ∷ [])) ++ only_tokens hb → Through (only_tokens hb) ht deep → Through t ht deep
     through hb ht t e h =
         let same : t ++ (ht ∷ []) ≡ (front ++ (codes ";" ∷ [])) ++ (only_tokens hb ++ (ht ∷ [])) = ap (λ z. z ++ (ht ∷ [])) e ∙ append_assoc (front ++ (codes ";" ∷ [])) (only_tokens hb) (ht ∷ []) in (
-          subst (λ z. Begins kind_of greatest_depth z) (sym e) (onto front greatest_depth tree (only_tokens hb) accepted h.0),
-          λ b. h.1 (behind front greatest_depth (only_tokens hb ++ (ht ∷ [])) (subst (λ z. Begins kind_of greatest_depth z) same b)),
+          subst (λ z. BeginsByKinds kind_of greatest_depth z) (sym e) (onto front greatest_depth tree (only_tokens hb) accepted h.0),
+          λ b. h.1 (behind front greatest_depth (only_tokens hb ++ (ht ∷ [])) (subst (λ z. BeginsByKinds kind_of greatest_depth z) same b)),
           (
-            λ i. let x = h.2.0 i in let y = onto_deeper x.0 (only_tokens hb ++ (ht ∷ [])) x.1 in (y.0, subst (λ z. Begins kind_of y.0 z) (sym same) y.1),
-            λ x. h.2.1 (x.0, behind front x.0 (only_tokens hb ++ (ht ∷ [])) (subst (λ z. Begins kind_of x.0 z) same x.1)),
+            λ i. let x = h.2.0 i in let y = onto_deeper x.0 (only_tokens hb ++ (ht ∷ [])) x.1 in (y.0, subst (λ z. BeginsByKinds kind_of y.0 z) (sym same) y.1),
+            λ x. h.2.1 (x.0, behind front x.0 (only_tokens hb ++ (ht ∷ [])) (subst (λ z. BeginsByKinds kind_of x.0 z) same x.1)),
           ),
         )
 
@@ -232,7 +232,7 @@ rest_refused text n at deep us p s fit (tree, a) r = go r
             split = s;
             fitting = fit;
             unfinished = record {
-              before = subst (λ z. Begins kind_of greatest_depth z) (sym same) (onto front greatest_depth tree (only_tokens h.units) accepted h.unfinished.before);
+              before = subst (λ z. BeginsByKinds kind_of greatest_depth z) (sym same) (onto front greatest_depth tree (only_tokens h.units) accepted h.unfinished.before);
               not_whole = λ f g. let x = parts front greatest_depth f (only_tokens h.units) (subst (λ z. G kind_of greatest_depth f z) same g) in h.unfinished.not_whole x.1.0 x.1.1;
             };
           },

@@ -11,7 +11,7 @@ use Rattle.cedar_grammar.specs.Kinds.{is, code}
 use Rattle.cedar_grammar.specs.Trees.{Label, Forest, none, branch, yield, join}
 use Rattle.cedar_grammar.specs.Trees as L
 use Rattle.cedar_grammar.specs.Languages.{Lang, Many, no_more, one_more}
-use Rattle.cedar_grammar.specs.Grammar as G
+use Rattle.cedar_grammar.specs.KindGrammar as G
 use Rattle.cedar_grammar.specs.Reader.Rules.{Rule, never, empty, inner, leaf_of, nested, then, either, star, tail, node, shaped, items, entity, reference}
 use Rattle.cedar_grammar.specs.Reader.Lines.{expr_rule, policy_rule}
 use Rattle.cedar_grammar.proofs.KindSets.{apart, within, and_left, and_right, or_right, not_true, apart_at, within_at}

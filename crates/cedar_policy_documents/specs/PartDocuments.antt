@@ -5,7 +5,6 @@ use Rattle.cedar_tokens.specs.declared.token.Span.{Span}
 use Rattle.cedar_tokens.specs.declared.token.WrappedToken.{WrappedToken}
 use Rattle.cedar_grammar.specs.TypedTrees.{Tree, PartKind, Clause, parts, part_parts, tree_map, map_first, part_yield, add, variable, expr}
 use Rattle.cedar_grammar.specs.Trees.{yield}
-use Rattle.cedar_grammar.specs.Laws.{kind_of_decorated}
 use Rattle.cedar_layout.specs.Layout.{Doc, ◌·◌, group, line, nest}
 use Rattle.cedar_layout.specs.Lookups.{Shown}
 use Rattle.cedar_layout.specs.declared.layout.Document.{Document}
@@ -15,7 +14,7 @@ use Rattle.cedar_tree.specs.declared.tree.Node.{Node}
 use Rattle.cedar_tree.specs.declared.tree.Policy.{Policy}
 use Rattle.cedar_tree.specs.declared.tree.VariableDef.{VariableDef}
 use Rattle.cedar_canonical.specs.Leaves.{part_map}
-use Rattle.cedar_canonical.specs.Table.{part_table, is_bare}
+use Rattle.cedar_canonical.specs.Table.{literal_kind, part_table, is_bare}
 use Rattle.cedar_canonical.specs.Table as table
 use Rattle.cedar_leaf_documents.specs.NodeDocuments.{text_of, kind_of_shown, as_leaf, nodes_of, document, IsAt, Shows}
 
@@ -51,7 +50,7 @@ scope_document i p c a d r =
 
 -- the document of an expression between braces: the leading lines of its first token, and then the rest
 abbrev pub body_document : ℤ → Tree Shown expr → Doc
-body_document i t = table.lead_of (table.lines_of_first (yield (parts kind_of_decorated (tree_map as_leaf t)))) · group (table.table i (map_first table.bare_token (tree_map as_leaf t)))
+body_document i t = table.lead_of (table.lines_of_first (yield (parts literal_kind (tree_map as_leaf t)))) · group (table.table i (map_first table.bare_token (tree_map as_leaf t)))
 
 -- the same between its braces
 abbrev pub braced_document : ℤ → Shown → Tree Shown expr → Shown → Doc

@@ -6,13 +6,17 @@ use Rattle.cedar_tokens.specs.PlainList.{plain_list}
 use Rattle.cedar_tokens.specs.declared.token.Span.{Span}
 use Rattle.cedar_tokens.proofs.Scanning.{listing_unique}
 use Rattle.cedar_grammar.specs.Trees.{Label, Forest, none, leaf, branch, yield}
-use Rattle.cedar_grammar.specs.Grammar.{G}
+use Rattle.cedar_grammar.specs.KindGrammar.{G}
 use Rattle.cedar_grammar.specs.TokenKinds.{kind_of}
 use Rattle.cedar_grammar.specs.Texts.{Accepted, greatest_depth, only_tokens}
 use Rattle.cedar_grammar.specs.Placed.{Placed, placed, kind_of_placed}
 use Rattle.cedar_grammar.specs.TrailingCommas.{plain, without_trailing}
 use Rattle.cedar_grammar.specs.Reader.Reading.{Answer, done, stuck}
 use Rattle.cedar_grammar.specs.Reader.Lines.{set_to}
+use Rattle.cedar_grammar.specs.PlainTrees.{plain_trees}
+use Rattle.cedar_grammar.proofs.PlacedKinds.{tree_by_kinds, tree_by_texts}
+use Rattle.cedar_grammar.proofs.SamePlain.{plain_same}
+use Rattle.cedar_grammar.proofs.AcceptedKinds.{kinds_of}
 use Rattle.cedar_grammar.proofs.RuleMaps.{each, relabel, answer_of, set_agrees}
 use Rattle.cedar_grammar.proofs.WholeLaws.{set_sound, set_complete}
 use Rattle.cedar_grammar.proofs.TreeLaws.{list_has_one_tree}
@@ -20,7 +24,7 @@ use Rattle.cedar_grammar.proofs.PlainGrammar.{plain_is_in_the_grammar}
 use Rattle.cedar_grammar.proofs.TextKinds.{plain_texts_agree}
 use Rattle.cedar_grammar.proofs.Relabelling.{relabelled, relabel_yield, plain_each, each_map, map_map}
 use Rattle.cedar_grammar.proofs.ListingTexts.{listing_texts}
-use Rattle.cedar_tree.specs.Erased.{Erased, without_spans}
+use Rattle.cedar_tree.specs.Erased.{erase, Erased, without_spans}
 use Rattle.cedar_tree.specs.NodeTrees.{IsTreeOf, is_node, span_of, spanned}
 use Rattle.cedar_tree.specs.Laws.{NodesHaveThePlainTexts}
 use Rattle.cedar_canonical.specs.Canonical.{OutputHasTheList, OutputIsAccepted}
@@ -109,13 +113,17 @@ values_tree units f a =
     ∙ (ap (map token_value) texts ∙ map_map token_value (λ (d : Decorated). d.text) (plain_list (listing units).tokens))) in
     subst (λ z. G kind_of greatest_depth (relabel value_of (without_trailing kind_of_placed f)) z) same r
 
+-- the nodes of a tree without trailing commas
+plain_nodes : (nodes : Erased) (tree : Forest Label Placed) → nodes ≡ spanned text_of place_of (plain_trees text_of tree) → nodes ≡ spanned text_of place_of (without_trailing kind_of_placed tree)
+plain_nodes nodes tree e = e ∙ ap (spanned text_of place_of) (plain_same text_of tree)
+
 -- ---- the law
 
 pub outputs_keep_the_policies : NodesHaveThePlainTexts → OutputIsAccepted → OutputHasTheList → OutputsKeepThePolicies
 outputs_keep_the_policies texts accepted has_list w i x y p u o t =
     let a = accepted w i x y u o in
     let units = (a.1).units in
-    let f = placed_tree units a.0 (a.1).grammar in
+    let f = placed_tree units a.0 (kinds_of a.1) in
     let fx = without_trailing kind_of_placed t.tree in
     let fy = without_trailing kind_of_placed f.0 in
     let ly : IsListing y (listing units) = record { units = units; split = (a.1).split; value = refl } in
@@ -123,9 +131,9 @@ outputs_keep_the_policies texts accepted has_list w i x y p u o t =
     let same : plain_values (listing units) ≡ plain_values (listing t.units) = same_values has_list w i x y u o (listing units) ly ∙ ap plain_values (listing_unique x o.list (listing t.units) o.is_list lx) in
     let e : relabel value_of fy ≡ relabel value_of fx =
     list_has_one_tree kind_of greatest_depth greatest_depth (plain_values (listing t.units)) (relabel value_of fy) (relabel value_of fx)
-    (subst (λ z. G kind_of greatest_depth (relabel value_of fy) z) same (values_tree units f.0 f.1)) (values_tree t.units t.tree t.grammar) in
-    let q = respanned p (subst (λ z. Alike (spanned text_of place_of fy) z) (sym t.nodes) (spanned_alike fy fx e)) in
-    let s : IsTreeOf y q.0 = record { units = units; split = (a.1).split; fitting = (a.1).fitting; tree = f.0; grammar = f.1; nodes = q.1 } in
+    (subst (λ z. G kind_of greatest_depth (relabel value_of fy) z) same (values_tree units f.0 f.1)) (values_tree t.units t.tree (tree_by_kinds t.units t.tree t.grammar)) in
+    let q = respanned p (subst (λ z. Alike (spanned text_of place_of fy) z) (sym (plain_nodes (erase p) t.tree t.nodes)) (spanned_alike fy fx e)) in
+    let s : IsTreeOf y q.0 = record { units = units; split = (a.1).split; fitting = (a.1).fitting; tree = f.0; grammar = tree_by_texts units f.0 f.1; nodes = q.1 ∙ ap (spanned text_of place_of) (sym (plain_same text_of f.0)) } in
     (q.0, s, same_policies texts has_list w i x y u o p q.0 t s)
 
 -- ---- of texts without policies in memory
@@ -134,20 +142,20 @@ outputs_keep_the_policies texts accepted has_list w i x y p u o t =
 nodes_of_accepted : (text : List ℕ) → Accepted text → (f : Erased) × HasNodes text f
 nodes_of_accepted text a =
     let units = (a.1).units in
-    let f = placed_tree units a.0 (a.1).grammar in
-    (spanned text_of place_of (without_trailing kind_of_placed f.0), record { units = units; split = (a.1).split; fitting = (a.1).fitting; tree = f.0; grammar = f.1; value = refl })
+    let f = placed_tree units a.0 (kinds_of a.1) in
+    (spanned text_of place_of (plain_trees text_of f.0), record { units = units; split = (a.1).split; fitting = (a.1).fitting; tree = f.0; grammar = tree_by_texts units f.0 f.1; value = refl })
 
 -- the tree by value, and its leaves
 abbrev by_value : {text : List ℕ} {f : Erased} → HasNodes text f → Forest Label (List ℕ)
 by_value x = relabel value_of (without_trailing kind_of_placed x.tree)
 
 by_value_is : {text : List ℕ} (f : Erased) (x : HasNodes text f) → without_spans f ≡ by_value x
-by_value_is f x = ap without_spans x.value ∙ spanless (without_trailing kind_of_placed x.tree)
+by_value_is f x = ap without_spans (plain_nodes f x.tree x.value) ∙ spanless (without_trailing kind_of_placed x.tree)
 
 values_are : (text : List ℕ) (f : Erased) (l : Listing) (x : HasNodes text f) → IsListing text l → plain_values l ≡ yield (by_value x)
 values_are text f l x is_list =
     let lx : IsListing text (listing x.units) = record { units = x.units; split = x.split; value = refl } in
-    ap plain_values (listing_unique text l (listing x.units) is_list lx) ∙ sym (values_tree x.units x.tree x.grammar).leaves
+    ap plain_values (listing_unique text l (listing x.units) is_list lx) ∙ sym (values_tree x.units x.tree (tree_by_kinds x.units x.tree x.grammar)).leaves
 
 -- an output has the policies of its text
 pub outputs_keep_the_trees : OutputIsAccepted → OutputHasTheList → OutputsKeepTheTrees
@@ -160,7 +168,7 @@ outputs_keep_the_trees accepted has_list w i x y u o =
     ap plain_values (listing_unique x (listing f.1.units) o.list lx o.is_list) ∙ sym (same_values has_list w i x y u o (listing g.1.units) ly) in
     let e : by_value f.1 ≡ by_value g.1 =
     list_has_one_tree kind_of greatest_depth greatest_depth (plain_values (listing g.1.units)) (by_value f.1) (by_value g.1)
-    (subst (λ z. G kind_of greatest_depth (by_value f.1) z) same (values_tree f.1.units f.1.tree f.1.grammar)) (values_tree g.1.units g.1.tree g.1.grammar) in
+    (subst (λ z. G kind_of greatest_depth (by_value f.1) z) same (values_tree f.1.units f.1.tree (tree_by_kinds f.1.units f.1.tree f.1.grammar))) (values_tree g.1.units g.1.tree (tree_by_kinds g.1.units g.1.tree g.1.grammar)) in
     (f.0, g.0, f.1, g.1, by_value_is f.0 f.1 ∙ e ∙ sym (by_value_is g.0 g.1))
 
 pub kept_policies_have_the_same_tokens : KeptPoliciesHaveTheSameTokens

@@ -15,7 +15,7 @@ use Rattle.cedar_grammar.specs.Kinds.{is, code, is_closing}
 use Rattle.cedar_grammar.specs.Trees.{Label, Forest, none, branch}
 use Rattle.cedar_grammar.specs.Trees as F
 use Rattle.cedar_grammar.specs.Languages.{Many, no_more, one_more}
-use Rattle.cedar_grammar.specs.Grammar.{Policy}
+use Rattle.cedar_grammar.specs.KindGrammar.{Policy}
 use Rattle.cedar_grammar.specs.Laws.{kind_of_decorated}
 use Rattle.cedar_grammar.specs.Texts.{Accepted, greatest_depth, only_tokens}
 use Rattle.cedar_grammar.specs.TrailingCommas.{without_trailing}

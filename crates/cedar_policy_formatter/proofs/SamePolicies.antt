@@ -4,11 +4,13 @@ use Rattle.std.specs.Str.{IsUtf8}
 use Rattle.cedar_tokens.specs.Listing.{Decorated, Listing, IsListing, listing, token_value}
 use Rattle.cedar_tokens.specs.PlainList.{plain_list}
 use Rattle.cedar_grammar.specs.Trees.{Label, Forest, none, leaf, branch}
-use Rattle.cedar_grammar.specs.Grammar.{G, PolicySet}
+use Rattle.cedar_grammar.specs.KindGrammar.{G, PolicySet}
 use Rattle.cedar_grammar.specs.TokenKinds.{kind_of}
 use Rattle.cedar_grammar.specs.Texts.{greatest_depth}
 use Rattle.cedar_grammar.specs.Placed.{Placed, placed, kind_of_placed}
 use Rattle.cedar_grammar.specs.TrailingCommas.{plain, without_trailing}
+use Rattle.cedar_grammar.proofs.PlacedKinds.{tree_by_kinds}
+use Rattle.cedar_grammar.proofs.SamePlain.{plain_same}
 use Rattle.cedar_grammar.proofs.RuleMaps.{relabel}
 use Rattle.cedar_grammar.proofs.PlainGrammar.{plain_is_in_the_grammar}
 use Rattle.cedar_grammar.proofs.Relabelling.{relabelled, map_map}
@@ -36,9 +38,9 @@ spanless (branch l f g) = ap (λ z. branch l z (without_spans (spanned (λ (t : 
 values_tree : NodesHaveThePlainTexts → (text : List ℕ) (p : Policies) (l : Listing) → IsTreeOf text p → IsListing text l → G kind_of greatest_depth (without_spans (erase p)) (plain_values l)
 values_tree texts text p l t is_list =
     let f = without_trailing kind_of_placed t.tree in
-    let g = plain_is_in_the_grammar kind_of_placed greatest_depth (placed t.units) t.tree t.grammar in
+    let g = plain_is_in_the_grammar kind_of_placed greatest_depth (placed t.units) t.tree (tree_by_kinds t.units t.tree t.grammar) in
     let r = relabelled value_of kind_of_placed kind_of (λ t. value_kind t.text) greatest_depth f (plain kind_of_placed (placed t.units)) g in
-    let e : without_spans (erase p) ≡ relabel value_of f = ap without_spans t.nodes ∙ spanless f in
+    let e : without_spans (erase p) ≡ relabel value_of f = ap without_spans (t.nodes ∙ ap (spanned (λ (t : Placed). t.text) (λ (t : Placed). t.span)) (plain_same (λ (t : Placed). t.text) t.tree)) ∙ spanless f in
     record { shape = subst (λ z. PolicySet kind_of greatest_depth z) (sym e) r.shape; leaves = leaves_without_spans (erase p) ∙ texts text p l t is_list }
 
 -- the output's tokens are those of the text's plain list by value

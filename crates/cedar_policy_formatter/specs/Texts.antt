@@ -2,11 +2,11 @@
 use Rattle.std.specs.Prelude.{◌≡◌, ◌⊎◌, ℕ, false, List, map, ⊤}
 use Rattle.std.specs.List.{list_any}
 use Rattle.cedar_tokens.specs.Split.{SplitsInto}
-use Rattle.cedar_grammar.specs.Grammar.{G}
+use Rattle.cedar_grammar.specs.Grammar.{IsSyntaxTree}
 use Rattle.cedar_grammar.specs.Numbers.{is_too_large}
-use Rattle.cedar_grammar.specs.Placed.{Placed, placed, kind_of_placed}
+use Rattle.cedar_grammar.specs.Placed.{Placed, placed}
 use Rattle.cedar_grammar.specs.Texts.{Accepted, greatest_depth}
-use Rattle.cedar_grammar.specs.TrailingCommas.{without_trailing}
+use Rattle.cedar_grammar.specs.PlainTrees.{plain_trees}
 use Rattle.cedar_grammar.specs.Trees.{Label, Forest}
 use Rattle.cedar_tokens.specs.Listing.{IsListing, Listing, token_value}
 use Rattle.cedar_tokens.specs.PlainList.{plain_list}
@@ -26,8 +26,8 @@ pub record HasNodes (text : List ℕ) (nodes : Erased) : Type 0 where
   pub split : SplitsInto text units
   pub fitting : list_any is_too_large units ≡ false
   pub tree : Forest Label Placed
-  pub grammar : G kind_of_placed greatest_depth tree (placed units)
-  pub value : nodes ≡ spanned (λ t. t.text) (λ t. t.span) (without_trailing kind_of_placed tree)
+  pub grammar : IsSyntaxTree (λ t. t.text) greatest_depth tree (placed units)
+  pub value : nodes ≡ spanned (λ t. t.text) (λ t. t.span) (plain_trees (λ t. t.text) tree)
 
 -- both texts are accepted, and their trees of nodes are equal but for spans
 abbrev pub KeepsPolicies : List ℕ → List ℕ → Type 0

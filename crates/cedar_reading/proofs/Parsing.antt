@@ -14,12 +14,14 @@ use Rattle.cedar_reading.specs.declared.lexeme.Lexeme.{Lexeme}
 use Rattle.cedar_tree.specs.declared.tree.Policies.{Policies}
 use Rattle.cedar_grammar.specs.Kinds.{is, is_closing}
 use Rattle.cedar_grammar.specs.Trees.{Label, Forest, none, leaf, branch, yield}
-use Rattle.cedar_grammar.specs.Grammar.{G}
+use Rattle.cedar_grammar.specs.KindGrammar.{G}
 use Rattle.cedar_grammar.specs.TokenKinds.{kind_of}
 use Rattle.cedar_grammar.specs.Reader.Hopeless.{Hopeless, Unfinished, IsRefused}
 use Rattle.cedar_grammar.specs.Numbers.{is_too_large}
 use Rattle.cedar_grammar.specs.Texts.{greatest_depth, only_tokens}
 use Rattle.cedar_grammar.specs.TrailingCommas.{drop_if, closes_next, without_trailing}
+use Rattle.cedar_grammar.proofs.PlacedKinds.{tree_by_texts}
+use Rattle.cedar_grammar.proofs.SamePlain.{plain_same}
 use Rattle.cedar_tree.specs.Erased.{erase}
 use Rattle.cedar_tree.specs.NodeTrees.{is_node, end_of, span_of, spanned, IsTreeOf}
 use Rattle.cedar_grammar.specs.Placed.{Placed, with_places, placed, kind_of_placed}
@@ -248,8 +250,8 @@ module _ (text : List ℕ) (ls : List Lexeme) (are : AreLexemes text ls) (d : �
         split = are.split;
         fitting = are.fitting;
         tree = relabel as_placed f;
-        grammar = subst (λ z. G kind_of_placed z (relabel as_placed f) (placed are.units)) deep t.0;
-        nodes = same ∙ t.1;
+        grammar = tree_by_texts are.units (relabel as_placed f) (subst (λ z. G kind_of_placed z (relabel as_placed f) (placed are.units)) deep t.0);
+        nodes = same ∙ (t.1 ∙ ap (spanned (λ (t : Placed). t.text) (λ (t : Placed). t.span)) (sym (plain_same (λ (t : Placed). t.text) (relabel as_placed f))));
       }
 
   answered : (x : Answer Checked) → set_to kind_at d cs ≡ x → Says kind_of d (each text_of cs) (answer_of text_of x) → Outcome text (answer_of (λ (c : Checked). c.0) x)

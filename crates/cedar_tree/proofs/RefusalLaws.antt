@@ -6,12 +6,12 @@ use Rattle.cedar_tokens.specs.Split.{SplitsInto, IsFirstFault, fault_kind, Split
 use Rattle.cedar_tokens.specs.declared.lexer.LexFaultKind.TheVariants as Fault
 use Rattle.cedar_tree.specs.declared.error.FormatError.{FormatError}
 use Rattle.cedar_tree.specs.declared.error.FormatError.TheVariants.{UnknownCharacter, UnfinishedString, NumberTooLarge, Grammar, TooDeep, NoDocument, Unsound, OutOfMemory}
-use Rattle.cedar_grammar.specs.Grammar.{G}
+use Rattle.cedar_grammar.specs.KindGrammar.{G}
 use Rattle.cedar_grammar.specs.TokenKinds.{kind_of}
-use Rattle.cedar_grammar.specs.Beginnings.{Begins}
-use Rattle.cedar_grammar.specs.Reader.Hopeless.{Hopeless, Unfinished, IsHopeless, IsUnfinished, IsRefused}
+use Rattle.cedar_grammar.specs.Reader.Hopeless.{BeginsByKinds, Hopeless, Unfinished, IsHopeless, IsUnfinished, IsRefused}
 use Rattle.cedar_grammar.specs.Numbers.{is_too_large, IsFirstTooLarge}
 use Rattle.cedar_grammar.specs.Texts.{greatest_depth, only_tokens, Accepted, LeavesGrammar}
+use Rattle.cedar_grammar.proofs.AcceptedKinds.{is_accepted, kinds_of}
 use Rattle.cedar_grammar.proofs.Leaving.{leaves_grammar, is_refused}
 use Rattle.cedar_tree.specs.Refusals.{Refuses}
 use Rattle.cedar_tree.specs.Laws.{TextIsJudged, AcceptedIsNotRefused, RefusalIsUnique}
@@ -44,7 +44,7 @@ judge d deep text units s = go (numbers_or units)
         )
 
     answer : list_any is_too_large units ≡ false → (x : Answer (List ℕ)) → set_to kind_of d (only_tokens units) ≡ x → Says kind_of d (only_tokens units) x → Accepted text ⊎ ((e : FormatError) × Refuses text e)
-    answer fit (done f []) e g = inl (f, record { units = units; split = s; fitting = fit; grammar = subst (λ z. G kind_of z f (only_tokens units)) deep g })
+    answer fit (done f []) e g = inl (f, is_accepted text f units s fit (subst (λ z. G kind_of z f (only_tokens units)) deep g))
     answer fit (done f (a ∷ r)) e h = let w = hopeless fit h.0 a r false h.1 in inr (Grammar w.0, w.1)
     answer fit (stuck b []) e h = inr (Grammar (length text), leaves_grammar text (length text) false (inr (record { units = units; split = s; fitting = fit; unfinished = subst (λ z. Unfinished kind_of z (only_tokens units)) deep h }, refl, refl)))
     answer fit (stuck true (a ∷ r)) e h = let w = hopeless fit h.0 a r true h.1 in inr (TooDeep w.0, w.1)
@@ -80,7 +80,7 @@ module _ (split_unique : SplitIsUnique) (fault_unique : FaultIsUnique) (fault_pr
   unfinished_hopeless : (text : List ℕ) (at : ℕ) (b : Bool) → IsUnfinished text → IsHopeless text at b → ⊥
   unfinished_hopeless text at b u h =
       let same = split_unique text u.units (h.before ++ (h.token ∷ h.after)) u.split h.split in
-      not_hopeless kind_of greatest_depth (only_tokens (h.before ++ (h.token ∷ h.after))) (only_tokens h.before) h.token (only_tokens h.after) b (subst (λ z. Begins kind_of greatest_depth (only_tokens z)) same u.unfinished.before) h.hopeless
+      not_hopeless kind_of greatest_depth (only_tokens (h.before ++ (h.token ∷ h.after))) (only_tokens h.before) h.token (only_tokens h.after) b (subst (λ z. BeginsByKinds kind_of greatest_depth (only_tokens z)) same u.unfinished.before) h.hopeless
 
   refused_same : (text : List ℕ) (at bt : ℕ) (b c : Bool) → IsRefused text at b → IsRefused text bt c → (at ≡ bt) × (b ≡ c)
   refused_same text at bt b c (inl h) (inl k) =
@@ -150,10 +150,10 @@ module _ (split_unique : SplitIsUnique) (fault_unique : FaultIsUnique) (fault_pr
   accepted_refused text at b (f, a) (inl h) =
       let same = split_unique text a.units (h.before ++ (h.token ∷ h.after)) a.split h.split in
       not_hopeless kind_of greatest_depth (only_tokens (h.before ++ (h.token ∷ h.after))) (only_tokens h.before) h.token (only_tokens h.after) b
-      (subst (λ z. Begins kind_of greatest_depth (only_tokens z)) same (whole_begins kind_of greatest_depth f (only_tokens a.units) a.grammar)) h.hopeless
+      (subst (λ z. BeginsByKinds kind_of greatest_depth (only_tokens z)) same (whole_begins kind_of greatest_depth f (only_tokens a.units) (kinds_of a))) h.hopeless
   accepted_refused text at b (f, a) (inr h) =
       let same = split_unique text a.units h.0.units a.split h.0.split in
-      h.0.unfinished.not_whole f (subst (λ z. G kind_of greatest_depth f (only_tokens z)) same a.grammar)
+      h.0.unfinished.not_whole f (subst (λ z. G kind_of greatest_depth f (only_tokens z)) same (kinds_of a))
 
   pub accepted_is_not_refused : AcceptedIsNotRefused
   accepted_is_not_refused text (UnknownCharacter at) (f, a) x = fault_split text at a.units x.0 a.split

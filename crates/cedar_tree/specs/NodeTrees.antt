@@ -6,11 +6,11 @@ use Rattle.cedar_tokens.specs.Listing.{token_value}
 use Rattle.cedar_tokens.specs.declared.token.Span.{Span}
 use Rattle.cedar_tree.specs.declared.tree.Policies.{Policies}
 use Rattle.cedar_grammar.specs.Trees.{Label, Forest, none, leaf, branch, yield}
-use Rattle.cedar_grammar.specs.Grammar.{G}
+use Rattle.cedar_grammar.specs.Grammar.{IsSyntaxTree}
 use Rattle.cedar_grammar.specs.Numbers.{is_too_large}
 use Rattle.cedar_grammar.specs.Texts.{greatest_depth}
-use Rattle.cedar_grammar.specs.Placed.{Placed, placed, kind_of_placed}
-use Rattle.cedar_grammar.specs.TrailingCommas.{without_trailing}
+use Rattle.cedar_grammar.specs.Placed.{Placed, placed}
+use Rattle.cedar_grammar.specs.PlainTrees.{plain_trees}
 use Rattle.cedar_tree.specs.Erased.{Erased, erase}
 
 -- whether trees of this label are nodes of the Rust types, which have spans
@@ -50,5 +50,5 @@ pub record IsTreeOf (text : List ℕ) (policies : Policies) : Type 0 where
   pub split : SplitsInto text units
   pub fitting : list_any is_too_large units ≡ false
   pub tree : Forest Label Placed
-  pub grammar : G kind_of_placed greatest_depth tree (placed units)
-  pub nodes : erase policies ≡ spanned (λ t. t.text) (λ t. t.span) (without_trailing kind_of_placed tree)
+  pub grammar : IsSyntaxTree (λ t. t.text) greatest_depth tree (placed units)
+  pub nodes : erase policies ≡ spanned (λ t. t.text) (λ t. t.span) (plain_trees (λ t. t.text) tree)

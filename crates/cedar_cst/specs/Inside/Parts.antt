@@ -5,7 +5,7 @@ use Rattle.cedar_tokens.specs.Split.{SplitsInto}
 use Rattle.cedar_tokens.specs.Places.{token_spans}
 use Rattle.cedar_tokens.specs.declared.token.Span.{Span}
 use Rattle.cedar_grammar.specs.Languages.{Many}
-use Rattle.cedar_grammar.specs.Grammar.{Policy}
+use Rattle.cedar_grammar.specs.KindGrammar.{Policy}
 use Rattle.cedar_grammar.specs.Numbers.{is_too_large}
 use Rattle.cedar_grammar.specs.Placed.{Placed, with_places, kind_of_placed}
 use Rattle.cedar_grammar.specs.Texts.{greatest_depth, only_tokens, LeavesGrammar}

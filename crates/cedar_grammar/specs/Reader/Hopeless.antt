@@ -5,24 +5,29 @@ use Rattle.cedar_tokens.specs.Units.{is_token}
 use Rattle.cedar_tokens.specs.Split.{SplitsInto}
 use Rattle.cedar_grammar.specs.declared.kind.Kind.{Kind}
 use Rattle.cedar_grammar.specs.Trees.{Label, Forest}
-use Rattle.cedar_grammar.specs.Grammar.{G}
-use Rattle.cedar_grammar.specs.Beginnings.{Begins}
+use Rattle.cedar_grammar.specs.KindGrammar.{G}
 use Rattle.cedar_grammar.specs.Numbers.{is_too_large}
 use Rattle.cedar_grammar.specs.TokenKinds.{kind_of}
 use Rattle.cedar_grammar.specs.Texts.{greatest_depth, only_tokens}
 
 module _ {A : Type 0} (kind : A → Kind) where
+  -- some list of the grammar over kinds at depth d begins with these tokens
+  pub record BeginsByKinds (d : ℕ) (front : List A) : Type 0 where
+    pub rest : List A
+    pub tree : Forest Label A
+    pub grammar : G kind d tree (front ++ rest)
+
   -- `at` is the first token through which no list of the grammar at depth d begins;
   -- `deep` says whether only the depth is to blame: at some depth a list begins with the tokens through it
   pub record Hopeless (d : ℕ) (tokens front : List A) (at : A) (rest : List A) (deep : Bool) : Type 0 where
     pub split : tokens ≡ front ++ (at ∷ rest)
-    pub before : Begins kind d front
-    pub through : ¬ (Begins kind d (front ++ (at ∷ [])))
-    pub kind_is : IsTrue deep ↔ ((e : ℕ) × Begins kind e (front ++ (at ∷ [])))
+    pub before : BeginsByKinds d front
+    pub through : ¬ (BeginsByKinds d (front ++ (at ∷ [])))
+    pub kind_is : IsTrue deep ↔ ((e : ℕ) × BeginsByKinds e (front ++ (at ∷ [])))
 
   -- a list of the grammar begins with all the tokens, but they are none
   pub record Unfinished (d : ℕ) (tokens : List A) : Type 0 where
-    pub before : Begins kind d tokens
+    pub before : BeginsByKinds d tokens
     pub not_whole : (tree : Forest Label A) → ¬ (G kind d tree tokens)
 
 -- the text splits, its numbers fit, and `at` is where its first token begins through which no list of the grammar begins:

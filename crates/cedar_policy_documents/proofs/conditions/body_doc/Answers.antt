@@ -1,7 +1,6 @@
 use Rattle.std.proofs.Common.{◌≡◌, true, false, w64, List, [], ◌∷◌, ◌++◌, map, refl, ap, sym, subst, ◌∙◌}
 use Rattle.std.proofs.lemmas.Int.{to_z-of_z}
 use Rattle.cedar_grammar.specs.Trees.{yield}
-use Rattle.cedar_grammar.specs.Laws.{kind_of_decorated}
 use Rattle.cedar_grammar.specs.TypedTrees.{map_first, parts, tree_map, tree_yield}
 use Rattle.cedar_grammar.proofs.TreeLaws.{typed_leaves}
 use Rattle.cedar_tree.specs.Erased.{expr_parts}
@@ -12,7 +11,7 @@ use Rattle.cedar_layout.specs.declared.layout.Document.TheViews.{Seq}
 use Rattle.cedar_leaf_documents.specs.Found.{has_its_tokens}
 use Rattle.cedar_leaf_documents.specs.NodeDocuments.{IsAt, as_leaf}
 use Rattle.cedar_policy_documents.specs.PartDocuments.{body_document}
-use Rattle.cedar_canonical.specs.Table.{bare_token, lines_of_first, table}
+use Rattle.cedar_canonical.specs.Table.{literal_kind, bare_token, lines_of_first, table}
 use Rattle.cedar_canonical.proofs.ByValue.{yield_map}
 use Rattle.cedar_leaf_documents.proofs.Flat.{flat}
 use Rattle.cedar_leaf_documents.proofs.Found.{as_before, missed}
@@ -39,8 +38,8 @@ returns-clause-shows c t at e before after s = go (tree_yield t) refl at
         let u : IsAt c.args.expr.now.span (unled x ∷ xs) = a in
         let r = c.in_ok-expr_doc.ensures.shows (map_first unled t) (subst (λ z. IsAt c.args.expr.now.span z) (sym y) u) (unled_nodes _ t e) before after (p.1 ∙ ap (λ z. before ++ (z ++ after)) (sym y)) in
         let body : doc_of c.in_ok-expr_doc.field-0 ≡ table c.args.indent (map_first bare_token (tree_map as_leaf t)) = r.0 ∙ ap (λ z. table z (tree_map as_leaf (map_first unled t))) (to_z-of_z w64 c.args.indent c.ranges.indent) ∙ ap (table c.args.indent) (sym (unled_leaves t)) in
-        let lines : doc_of c.in_ok-lines.lines ≡ lead_of (lines_of_first (yield (parts kind_of_decorated (tree_map as_leaf t)))) =
-        c.in_ok-lines.ensures x.comment.leading p.0 ∙ ap (λ z. lead_of (lines_of_first z)) (sym (typed_leaves kind_of_decorated (tree_map as_leaf t) ∙ (yield_map as_leaf t ∙ ap (map as_leaf) q))) in
+        let lines : doc_of c.in_ok-lines.lines ≡ lead_of (lines_of_first (yield (parts literal_kind (tree_map as_leaf t)))) =
+        c.in_ok-lines.ensures x.comment.leading p.0 ∙ ap (λ z. lead_of (lines_of_first z)) (sym (typed_leaves literal_kind (tree_map as_leaf t) ∙ (yield_map as_leaf t ∙ ap (map as_leaf) q))) in
         (rw (flat c.in_ok-vec.field-0 _ c.in_ok-vec.ensures.items, c.in_ok-body.ensures, lines, body) refl, r.1 ∙ ap (λ z. (before ++ map emptied z) ++ after) y ∙ ap (λ z. (before ++ map emptied z) ++ after) (sym q))
 
 pub returns-in_err-lines-clause-kept : goal.returns-in_err-lines-clause-kept

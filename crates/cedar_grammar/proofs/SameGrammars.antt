@@ -8,12 +8,12 @@ use Rattle.cedar_grammar.specs.declared.kind.Kind.TheVariants as K
 use Rattle.cedar_grammar.specs.Kinds.{is, is_any_word, is_ident, is_comparison, is_boolean, is_variable, is_effect, is_cond_word}
 use Rattle.cedar_grammar.specs.Trees.{Label}
 use Rattle.cedar_grammar.specs.Languages.{Lang, ◌∪◌, Of}
-use Rattle.cedar_grammar.specs.Grammar as G
+use Rattle.cedar_grammar.specs.KindGrammar as G
 use Rattle.cedar_grammar.specs.TokenKinds.{kind_of}
-use Rattle.cedar_text_grammar.specs.TextGrammar as T
-use Rattle.cedar_text_grammar.specs.Laws.{AreTokens, GrammarsAgree, TextsAreTokens}
-use Rattle.cedar_text_grammar.proofs.TextTests.{has_text, number_agrees, string_agrees, any_word_agrees, ident_agrees, number_is_token, string_is_token, word_is_token, ident_is_token}
-use Rattle.cedar_text_grammar.proofs.SameLanguages.{Same, same_leaf, same_tok, one, ◌either◌, same_set, ◌then◌, ◌or◌, maybe, many, same_branch, same_never, same_room}
+use Rattle.cedar_grammar.specs.Grammar as T
+use Rattle.cedar_grammar.specs.Laws.{AreTokens, GrammarsAgree, TextsAreTokens}
+use Rattle.cedar_grammar.proofs.TextTests.{has_text, number_agrees, string_agrees, any_word_agrees, ident_agrees, number_is_token, string_is_token, word_is_token, ident_is_token}
+use Rattle.cedar_grammar.proofs.SameLanguages.{Same, same_leaf, same_tok, one, ◌either◌, same_set, ◌then◌, ◌or◌, maybe, many, same_branch, same_never, same_room}
 
 module _ {A : Type 0} (text : A → List ℕ) where
   abbrev kind : A → Kind

@@ -1,19 +1,21 @@
 -- What begins a list of the grammar over texts, and of the grammar over kinds.
 use Rattle.std.proofs.Common.{◌≡◌, ℕ, Bool, true, false, cond, ◌||◌, ◌==◌, List, [], ◌∷◌, ◌++◌, refl, ap, sym, ◌∙◌, subst}
-use Rattle.std.specs.Prelude.{codes}
+use Rattle.std.specs.Prelude.{◌↔◌, codes}
 use Rattle.std.specs.Char.{is_ascii_digit}
 use Rattle.std.specs.Str.{bytes_eq}
 use Rattle.cedar_tokens.specs.Units.{IsToken, is_token, is_one_of}
 use Rattle.cedar_grammar.specs.declared.kind.Kind.{Kind}
 use Rattle.cedar_grammar.specs.declared.kind.Kind.TheVariants as K
 use Rattle.cedar_grammar.specs.TokenKinds.{fixed_tokens, other_kind, kind_among, kind_of}
-use Rattle.cedar_grammar.specs.Grammar.{G}
+use Rattle.cedar_grammar.specs.KindGrammar.{G}
 use Rattle.cedar_grammar.proofs.RuleMaps.{each, relabel}
 use Rattle.cedar_grammar.proofs.Relabelling.{relabelled}
-use Rattle.cedar_text_grammar.specs.Laws.{AreTokens, BeginningsAgree}
-use Rattle.cedar_text_grammar.proofs.TextTests.{texts_of, fixed_texts, fixed_is_token}
-use Rattle.cedar_text_grammar.proofs.SameLanguages.{whole}
-use Rattle.cedar_text_grammar.proofs.SameGrammars.{grammars_agree, texts_are_tokens}
+use Rattle.cedar_grammar.specs.Laws.{AreTokens}
+use Rattle.cedar_grammar.specs.Beginnings.{Begins}
+use Rattle.cedar_grammar.specs.Reader.Hopeless.{BeginsByKinds}
+use Rattle.cedar_grammar.proofs.TextTests.{texts_of, fixed_texts, fixed_is_token}
+use Rattle.cedar_grammar.proofs.SameLanguages.{whole}
+use Rattle.cedar_grammar.proofs.SameGrammars.{grammars_agree, texts_are_tokens}
 
 -- a token of the kind that the table's other texts have
 abbrev stand_in : List ℕ → List ℕ
@@ -82,7 +84,8 @@ front_kept : (front rest : List (List ℕ)) → AreTokens (λ t. t) front → ea
 front_kept [] rest h = refl
 front_kept (t ∷ ts) rest h = ap (λ z. z ∷ each as_token (ts ++ rest)) (token_kept t h.0) ∙ ap (λ z. t ∷ z) (front_kept ts rest h.1)
 
-pub beginnings_agree : BeginningsAgree
+-- tokens begin a list of the grammar over texts exactly if they begin one of the grammar over kinds
+pub beginnings_agree : (d : ℕ) (front : List (List ℕ)) → AreTokens (λ t. t) front → Begins d front ↔ BeginsByKinds kind_of d front
 beginnings_agree d front h = (
   λ b. record { rest = b.rest; tree = b.tree; grammar = (grammars_agree (λ t. t) d (front ++ b.rest) b.tree (texts_are_tokens (λ t. t) d (front ++ b.rest) b.tree b.grammar)).0 b.grammar },
   λ b. record {

@@ -12,7 +12,7 @@ use Rattle.cedar_grammar.specs.declared.kind.Kind.{Kind}
 use Rattle.cedar_grammar.specs.declared.kind.Kind.TheVariants as K
 use Rattle.cedar_grammar.specs.Kinds.{is, is_any_word, is_ident}
 use Rattle.cedar_grammar.specs.TokenKinds.{fixed_tokens, other_kind, kind_among, kind_of}
-use Rattle.cedar_text_grammar.specs.TextGrammar.{reserved}
+use Rattle.cedar_grammar.specs.Grammar.{reserved}
 
 -- ---- the table of tokens that have one text
 
@@ -38,7 +38,7 @@ agree_on p q [] = true
 agree_on p q (f ∷ fs) = equal (p f.1) (q f.0) && agree_on p q fs
 
 -- tests that agree on the table and on all other texts agree
-agrees : (p : Kind → Bool) (q : List ℕ → Bool) (fs : List (List ℕ × Kind)) (t : List ℕ) → agree_on p q fs ≡ true
+pub agrees : (p : Kind → Bool) (q : List ℕ → Bool) (fs : List (List ℕ × Kind)) (t : List ℕ) → agree_on p q fs ≡ true
     → (is_one_of (texts_of fs) t ≡ false → p (other_kind t) ≡ q t) → p (kind_among fs t) ≡ q t
 agrees p q [] t a h = h refl
 agrees p q (f ∷ fs) t a h = let both = and_parts (equal (p f.1) (q f.0)) (agree_on p q fs) a in go (bytes_eq f.0 t) refl both.0 (agrees p q fs t both.1) h

@@ -11,9 +11,9 @@ use Rattle.cedar_grammar.specs.Trees.{Label, Forest, none, leaf, branch, yield, 
 use Rattle.cedar_grammar.specs.Languages.{Lang, ◌⋄◌, ◌∪◌, Many, no_more, one_more, Maybe, Branch, Never, Empty, Of}
 use Rattle.cedar_grammar.specs.TokenKinds.{kind_of}
 use Rattle.cedar_grammar.proofs.KindSets.{within, within_at, or_first, or_second}
-use Rattle.cedar_text_grammar.specs.TextGrammar.{Leaf, Tok}
-use Rattle.cedar_text_grammar.specs.Laws.{AreTokens}
-use Rattle.cedar_text_grammar.proofs.TextTests.{has_text, text_agrees, text_is_fixed, fixed_is_token}
+use Rattle.cedar_grammar.specs.Grammar.{Leaf, Tok}
+use Rattle.cedar_grammar.specs.Laws.{AreTokens}
+use Rattle.cedar_grammar.proofs.TextTests.{has_text, text_agrees, text_is_fixed, fixed_is_token}
 
 yield_join : {A : Type 0} (f g : Forest Label A) → yield (join f g) ≡ yield f ++ yield g
 yield_join none g = refl

@@ -1,3 +1,0 @@
-pub mod TextGrammar
-pub mod AcceptedTexts
-pub mod Laws
