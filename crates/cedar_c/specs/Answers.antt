@@ -5,8 +5,8 @@ use Rattle.cedar_grammar.specs.Texts.{Accepted}
 use Rattle.cedar_tree.specs.Refusals.{OutOfMemoryOr, Refuses}
 use Rattle.cedar_tree.specs.declared.error.FormatError.{FormatError}
 use Rattle.cedar_tree.specs.declared.error.FormatError.TheVariants.{UnknownCharacter, UnfinishedString, NumberTooLarge, Grammar, TooDeep, NoDocument, Unsound, OutOfMemory}
-use Rattle.cedar_canonical.specs.Canonical.{IsOutputOf}
-use Rattle.cedar_places.specs.Places.{line_at, column_at}
+use Rattle.cedar_laws.specs.Canonical.{IsOutputOf}
+use Rattle.cedar_policy_formatter.specs.Places.{line_at, column_at}
 use Rattle.cedar_policy_formatter.specs.Compared.{HaveEqualLists}
 use Rattle.cedar_policy_formatter.specs.Refused.{RefusesOne}
 use Rattle.cedar_c.specs.declared.answer.Answer.{Answer}

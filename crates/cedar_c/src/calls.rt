@@ -5,8 +5,7 @@ ghost use Rattle.cedar_c.specs.Answers.{TellsFormat, TellsIsFormatted, TellsPlac
 ghost use Rattle.cedar_c.specs.declared.answer.CallFault.TheVariants.{NotUtf8};
 
 use crate::answer::{CallFault, NOT_UTF8, PlaceAnswer, RESULT};
-use cedar_places::place;
-use cedar_policy_formatter::{Config, is_formatted, policies_str_to_pretty, same_layout};
+use cedar_policy_formatter::{Config, is_formatted, place, policies_str_to_pretty, same_layout};
 use std::alloc::Global;
 
 /// Writes the layout of the policies `bytes` to the start of `out`: its length in bytes.

@@ -1,6 +1,6 @@
 -- An operand without any operator.
-use Rattle.std.specs.Prelude.{◌≡◌, List, [], ◌∷◌}
-use Rattle.std.proofs.Common.{ap, ◌∙◌}
+use Rattle.std.specs.Prelude.{◌≡◌, List, [], Result, Ok, Err, MatchResult, box_value}
+use Rattle.std.proofs.Common.{ap, subst, ◌∙◌}
 use Rattle.cedar_grammar.specs.Trees.{Label, none}
 use Rattle.cedar_tree.specs.Erased.{node, relation_parts}
 use Rattle.cedar_tree.specs.NodeLists.{and_parts}
@@ -9,19 +9,23 @@ use Rattle.cedar_tree.specs.declared.tree.Add as Add
 use Rattle.cedar_tree.specs.declared.tree.Relation as Relation
 use Rattle.cedar_tree.specs.declared.tree.And as And
 use Rattle.cedar_tree.specs.declared.tree.Or as Or
-use Rattle.cedar_reading.specs.Inside.ReadingParts.{IsLoneOrOf}
-use Rattle.cedar_nodes.specs.Inside.ReadingExprs.{IsLoneRelationOf, IsAndOf, IsOrOf}
+use Rattle.cedar_parser_steps.specs.Inside.ReadingParts.{IsLoneOrOf}
+use Rattle.cedar_parser_steps.specs.declared.reading.Refusal.{Refusal}
+use Rattle.cedar_parser_steps.specs.declared.reading.Refusal.TheVariants.{OutOfMemory}
+use Rattle.cedar_parser_expressions.specs.Inside.ReadingItems.{Boxed}
+use Rattle.cedar_parser_expressions.specs.Inside.ReadingExprs.{IsLoneRelationOf, IsAndOf, IsOrOf}
 
 -- the operators between no operands
-none_more : (o : Node Add.Add) (r : Node Relation.Relation) (a : Node And.And) (n : Node Or.Or) → IsLoneRelationOf o r → IsAndOf r [] a → IsOrOf a [] n → IsLoneOrOf o n
+none_more : (o : Boxed Add.Add) (r : Boxed Relation.Relation) (a : Boxed And.And) (n : Boxed Or.Or) → IsLoneRelationOf o r → IsAndOf r [] a → IsOrOf a [] n → IsLoneOrOf (box_value o) (box_value n)
 none_more o r a n i j k =
-    let s : a.span ≡ o.span = j.1 ∙ i.1 in (
-      k.0 ∙ ap (λ z. node Label.and z (and_parts a.inner) none) s
-          ∙ ap (λ z. node Label.and o.span z none) (j.0 ∙ ap (λ z. node Label.relation z (relation_parts r.inner) none) i.1 ∙ ap (λ z. node Label.relation o.span z none) i.0),
+    let s : (box_value a).span ≡ (box_value o).span = j.1 ∙ i.1 in (
+      k.0 ∙ ap (λ z. node Label.and z (and_parts (box_value a).inner) none) s
+          ∙ ap (λ z. node Label.and (box_value o).span z none)
+          (j.0 ∙ ap (λ z. node Label.relation z (relation_parts (box_value r).inner) none) i.1 ∙ ap (λ z. node Label.relation (box_value o).span z none) i.0),
       k.1 ∙ s,
     )
 
-pub lone_or : (o : Node Add.Add) (r : Node Relation.Relation) (a : Node And.And) (n : Node Or.Or) (v : List (Node Relation.Relation)) (w : List (Node And.And)) → v ≡ [] → w ≡ [] → IsLoneRelationOf o r → IsAndOf r v a → IsOrOf a w n → IsLoneOrOf o n
-lone_or o r a n [] [] e f i j k = none_more o r a n i j k
-lone_or o r a n (x ∷ v) w e f i j k = absurd cc
-lone_or o r a n [] (x ∷ w) e f i j k = absurd cc
+pub lone_or : (x : Node Add.Add) (o : Boxed Add.Add) (r : Boxed Relation.Relation) (a : Boxed And.And) (v : List (Node Relation.Relation)) (w : List (Node And.And)) (result : Result (Boxed Or.Or) Refusal) → box_value o ≡ x → v ≡ [] → w ≡ [] → IsLoneRelationOf o r → IsAndOf r v a
+    → MatchResult result (IsOrOf a w) (λ e. e ≡ OutOfMemory) → MatchResult result (λ b. IsLoneOrOf x (box_value b)) (λ e. e ≡ OutOfMemory)
+lone_or x o r a v w (Ok n) d e f i j k = subst (λ z. IsLoneOrOf z (box_value n)) d (none_more o r a n i (subst (λ z. IsAndOf r z a) e j) (subst (λ z. IsOrOf a z n) f k))
+lone_or x o r a v w (Err q) d e f i j k = k

@@ -3,12 +3,12 @@ use Rattle.std.specs.Prelude.{◌≡◌, ◌≤◌, ◌<◌, ℕ, zero, suc, ◌
 use Rattle.std.specs.List.{slice_get, sum_by, AllByRecursion}
 use Rattle.std.proofs.Common.{get_or, refl, sym, ap, ◌∙◌, arith, inl, inr, subst, append-nil}
 use Rattle.std.proofs.lemmas.List.{length-map, drop_all, take_all}
-use Rattle.std.proofs.lemmas.List.Sums.{sum_by-cons}
+use Rattle.std.proofs.lemmas.List.Sums.{sum_by-cons, sum_by-append}
 use Rattle.cedar_tokens.specs.Units.{is_token}
 use Rattle.cedar_tokens.specs.Places.{token_spans}
 use Rattle.cedar_tokens.specs.declared.token.Span.{Span}
 use Rattle.cedar_grammar.specs.TokenKinds.{kind_of}
-use Rattle.cedar_grammar.specs.Texts.{greatest_depth, only_tokens}
+use Rattle.cedar_grammar.specs.Texts.{greatest_depth, only_tokens, LeavesGrammar}
 use Rattle.cedar_grammar.specs.Trees.{Label, Forest, none, leaf, branch, yield}
 use Rattle.cedar_grammar.specs.KindGrammar.{G}
 use Rattle.cedar_grammar.specs.Placed.{Placed, kind_of_placed}
@@ -17,20 +17,23 @@ use Rattle.cedar_grammar.specs.Reader.Reading.{Answer, done, stuck}
 use Rattle.cedar_grammar.specs.Reader.Lines.{set_to}
 use Rattle.cedar_grammar.proofs.RuleMaps.{each, relabel, answer_of, set_agrees}
 use Rattle.cedar_grammar.proofs.Relabelling.{each_map, map_map}
-use Rattle.cedar_tree.specs.declared.error.FormatError.TheVariants as E
 use Rattle.cedar_tree.specs.declared.tree.Policies.{Policies}
 use Rattle.cedar_tree.specs.Erased.{erase, variant, policy_trees}
 use Rattle.cedar_tree.specs.NodeTrees.{spanned}
-use Rattle.cedar_reading.specs.declared.lexeme.Lexeme.{Lexeme}
-use Rattle.cedar_reading.specs.declared.reading.Refusal.{Refusal}
-use Rattle.cedar_reading.specs.declared.reading.Refusal.TheVariants.{Grammar, TooDeep, OutOfMemory}
-use Rattle.cedar_reading.specs.Inside.Lexemes.{AreLexemes}
-use Rattle.cedar_reading.specs.Inside.Reading.{kind, AreRight, start_or, place_of}
-use Rattle.cedar_reading.proofs.Parsing.{placed_tree}
+use Rattle.cedar_parser_steps.specs.declared.lexeme.Lexeme.{Lexeme}
+use Rattle.cedar_parser_steps.specs.declared.reading.Refusal.{Refusal}
+use Rattle.cedar_parser_steps.specs.declared.reading.Refusal.TheVariants.{Grammar, TooDeep, OutOfMemory}
+use Rattle.cedar_parser_steps.specs.Inside.Lexemes.{AreLexemes}
+use Rattle.cedar_parser_steps.specs.Inside.Reading.{kind, AreRight, start_or, place_of}
+use Rattle.cedar_parser_steps.proofs.Parsing.{placed_tree}
 use Rattle.cedar_pieces.proofs.Prefixes.{units_length}
-use Rattle.cedar_cst.specs.Inside.Parts.{moved_span, moved_lexeme, place_before, placed_from, HasPoliciesFrom, RefusesFrom}
+use Rattle.cedar_cst.specs.Inside.Parts.{moved_span, moved_lexeme, place_before, placed_from, HasPoliciesFrom}
 use Rattle.cedar_cst.specs.Inside.ReadingSet.{GivesSet}
 use Rattle.cedar_cst.proofs.Whole.{are_right, whole_grammar, whole_deep}
+
+-- a part is refused within it or at its end
+refused_within : (part : List ℕ) (p : ℕ) (deep : Bool) → LeavesGrammar part p deep → p ≤ length part
+refused_within part p deep h = omega (arith, h.place, units_length (h.before ++ h.after) part h.split, sum_by-append length h.before h.after)
 
 module _ (n : ℕ) where
   abbrev moved : Lexeme → Lexeme
@@ -123,15 +126,22 @@ module _ (n : ℕ) where
               nodes = cc;
             }
 
-    place_moved : (end left : ℕ) → end ≡ n + length part → place_before end (map moved ls) left ≡ n + place_of part ls left
-    place_moved end left i = ap (λ k. start_or end (slice_get (map moved ls) (k - left))) (length-map ls moved) ∙ start_moved ls (length ls - left) (length part) end i
+    place_moved : (left : ℕ) → place_before (n + length part) (map moved ls) left ≡ n + place_of part ls left
+    place_moved left = ap (λ k. start_or (n + length part) (slice_get (map moved ls) (k - left))) (length-map ls moved) ∙ start_moved ls (length ls - left) (length part) (n + length part) refl
 
-    -- the grammar refuses the part, with the place in the text
-    pub part_grammar : (end left : ℕ) → end ≡ n + length part → GivesSet (Err (Grammar left)) (set_to kind greatest_depth (map moved ls)) → RefusesFrom n part (E.Grammar (place_before end (map moved ls) left))
-    part_grammar end left i h = (place_of part ls left, place_moved end left i, whole_grammar part ls are left (set_unmoved (Grammar left) (set_to kind greatest_depth ls) (subst (GivesSet (Err (Grammar left))) agrees h)))
+    -- the grammar refuses the part, and this is the place, moved as the lexemes are
+    abbrev MovedRefusal : ℕ → Bool → Type 0
+    MovedRefusal place deep = (q : ℕ) × (place ≡ n + q) × LeavesGrammar part q deep × (q ≤ length part)
 
-    pub part_deep : (end left : ℕ) → end ≡ n + length part → GivesSet (Err (TooDeep left)) (set_to kind greatest_depth (map moved ls)) → RefusesFrom n part (E.TooDeep (place_before end (map moved ls) left))
-    part_deep end left i h = (place_of part ls left, place_moved end left i, whole_deep part ls are left (set_unmoved (TooDeep left) (set_to kind greatest_depth ls) (subst (GivesSet (Err (TooDeep left))) agrees h)))
+    pub part_grammar : (tokens : List Lexeme) (left place : ℕ) → tokens ≡ map moved ls → place ≡ place_before (n + length part) tokens left → GivesSet (Err (Grammar left)) (set_to kind greatest_depth tokens) → MovedRefusal place false
+    part_grammar tokens left place m e h =
+        let r = whole_grammar part ls are left (set_unmoved (Grammar left) (set_to kind greatest_depth ls) (subst (GivesSet (Err (Grammar left))) agrees (subst (λ z. GivesSet (Err (Grammar left)) (set_to kind greatest_depth z)) m h))) in
+        (place_of part ls left, e ∙ (ap (λ z. place_before (n + length part) z left) m ∙ place_moved left), r, refused_within part (place_of part ls left) false r)
+
+    pub part_deep : (tokens : List Lexeme) (left place : ℕ) → tokens ≡ map moved ls → place ≡ place_before (n + length part) tokens left → GivesSet (Err (TooDeep left)) (set_to kind greatest_depth tokens) → MovedRefusal place true
+    part_deep tokens left place m e h =
+        let r = whole_deep part ls are left (set_unmoved (TooDeep left) (set_to kind greatest_depth ls) (subst (GivesSet (Err (TooDeep left))) agrees (subst (λ z. GivesSet (Err (TooDeep left)) (set_to kind greatest_depth z)) m h))) in
+        (place_of part ls left, e ∙ (ap (λ z. place_before (n + length part) z left) m ∙ place_moved left), r, refused_within part (place_of part ls left) true r)
 
 -- ---- bounds
 
@@ -159,6 +169,15 @@ ends_by from end (u ∷ us) ls e i k d h = go (is_token u) ls e k h (λ ms f j m
 -- the lexemes of a part end within it
 pub lexeme_inside : (part : List ℕ) (ls : List Lexeme) → AreLexemes part ls → (k : ℕ) (d : Lexeme) → k < length ls → ((get_or ls k d).span.start ≤ (get_or ls k d).span.end) × ((get_or ls k d).span.end ≤ length part)
 lexeme_inside part ls are k d h = ends_by 0 (length part) are.units ls are.places (units_length are.units part are.split ∙ omega arith) k d h
+
+-- moved by nothing
+pub unmoved : (ls : List Lexeme) → ls ≡ map (moved_lexeme 0) ls
+unmoved [] = refl
+unmoved (l ∷ ls) =
+    let a : 0 + l.span.start ≡ l.span.start = omega arith in
+    let b : 0 + l.span.end ≡ l.span.end = omega arith in
+    let same : moved_lexeme 0 l ≡ l = rw (a, b) refl in
+    ap (λ z. l ∷ z) (unmoved ls) ∙ ap (λ z. z ∷ map (moved_lexeme 0) ls) (sym same)
 
 -- a vector whose items were moved has them
 pub given_moved : (n len : ℕ) (items lent new now : List Lexeme) → lent ≡ items → length lent ≡ len → new ≡ map (moved_lexeme n) lent → now ≡ take len (new ++ drop (length new) items) → now ≡ map (moved_lexeme n) items

@@ -33,7 +33,7 @@ use Rattle.cedar_tree.specs.declared.tree.Policy as Tree
 use Rattle.cedar_tree.specs.Erased.{Erased, variant, policy_parts, policy_trees}
 use Rattle.cedar_tree.specs.NodeTrees.{spanned}
 use Rattle.cedar_tree.proofs.NodeLaws.{placed_texts}
-use Rattle.cedar_reading.proofs.Parsing.{spans_length}
+use Rattle.cedar_parser_steps.proofs.Parsing.{spans_length}
 use Rattle.cedar_pieces.specs.Pieces.{IsPiece, is_semicolon}
 use Rattle.cedar_pieces.proofs.Prefixes.{units_of, units_length}
 use Rattle.cedar_pieces.proofs.Lists.{piece_splits, piece_units}
@@ -139,9 +139,9 @@ pub no_units : (us : List (List ℕ)) → SplitsInto [] us → us ≡ []
 no_units [] s = refl
 no_units (u ∷ us) s = absurd (empty_begins_none u s.0.kind s.0.begins)
 
--- a text without bytes has no policies
-pub none_from : (from : ℕ) → HasPoliciesFrom from [] []
-none_from from = record { units = []; split = refl; fitting = refl; row = none; among = no_more none refl; leaves = refl; nodes = refl }
+-- a part without tokens has no policies
+pub none_from : (from : ℕ) (part : List ℕ) (us : List (List ℕ)) → SplitsInto part us → only_tokens us ≡ [] → list_any is_too_large us ≡ false → HasPoliciesFrom from part []
+none_from from part us s e f = record { units = us; split = s; fitting = f; row = none; among = no_more none refl; leaves = sym (ap (λ z. with_places z (token_spans from us)) e); nodes = refl }
 
 -- ---- tokens alone
 
@@ -231,6 +231,24 @@ firsts (p ∷ ps) (i ∷ items) rest e =
     ap (λ z. branch z (policy_parts i.inner) (policy_trees (take (length ps) items))) label
     ∙ (ap (λ z. branch (Label.policy, Some p.span) z (policy_trees (take (length ps) items))) parts
     ∙ ap (branch (Label.policy, Some p.span) (policy_parts p.inner)) (firsts ps items rest others))
+
+no_row : (f : Forest Label Placed) → Row f → ◌≡◌ {A = Erased} none (row_nodes f) → f ≡ none
+no_row f (no_more i e) h = e
+no_row f (one_more i u v e (x, k, y) m) h =
+    let same : f ≡ branch Label.policy x v = e ∙ ap (λ z. join z v) k in
+    let w : ◌≡◌ {A = Erased} none (row_nodes (branch Label.policy x v)) = h ∙ ap (λ z. row_nodes z) same in
+    absurd cc
+
+ends_in_one : {X : Type 0} (xs : List X) (x : X) → [] ≡ xs ++ (x ∷ []) → ⊥
+ends_in_one [] x e = absurd cc
+ends_in_one (y ∷ ys) x e = absurd cc
+
+-- a piece has policies
+pub has_some : (text : List ℕ) (n : ℕ) → IsPiece text n → HasPoliciesFrom 0 (take n text) [] → ⊥
+has_some text n p h =
+    let end = placed_piece 0 p.before p.line (no_tokens p.line p.behind.no_token) in
+    let tokens : yield h.row ≡ placed_from 0 p.before ++ (end.0 ∷ []) = h.leaves ∙ (ap (placed_from 0) (split_unique (take n text) h.units (units_of p) h.split (piece_splits text n p)) ∙ end.1) in
+    ends_in_one (placed_from 0 p.before) end.0 (sym (ap yield (no_row h.row h.among h.nodes)) ∙ tokens)
 
 -- the policies of a piece are the first of the text
 piece_first : (text : List ℕ) (n : ℕ) (ps items : List (Node Tree.Policy)) → IsPiece text n → HasPoliciesFrom 0 (take n text) ps → HasPoliciesFrom 0 text items → policy_trees (take (length ps) items) ≡ policy_trees ps

@@ -4,6 +4,7 @@ use Rattle.std.specs.Prelude.{Option, slice_range}
 use Rattle.std.specs.List.{list_any}
 use Rattle.std.specs.Str.{IsCharBoundary}
 use Rattle.std.proofs.lemmas.List.{length-take-le, length-drop}
+use Rattle.std.proofs.lemmas.Str.{IsCharBoundary-from_rest}
 use Rattle.cedar_tokens.specs.Split.{SplitsInto}
 use Rattle.cedar_tokens.proofs.Scanning.{fault_prevents, split_unique}
 use Rattle.cedar_grammar.specs.Numbers.{is_too_large}
@@ -15,17 +16,16 @@ use Rattle.cedar_tree.specs.declared.error.FormatError.TheVariants.{UnknownChara
 use Rattle.cedar_tree.specs.declared.tree.Node.{Node}
 use Rattle.cedar_tree.specs.declared.tree.Policy.{Policy}
 use Rattle.cedar_tree.specs.Refusals.{OutOfMemoryOr, Refuses}
-use Rattle.cedar_reading.specs.Tokens.{HasTokens}
-use Rattle.cedar_reading.proofs.Walking.{part_unit}
+use Rattle.cedar_parser_steps.specs.Tokens.{HasTokens}
 use Rattle.cedar_pieces.specs.Pieces.{IsPiece, HasNoPiece, IsFirstPiece}
 use Rattle.cedar_pieces.proofs.Accepted.{accepted_join, accepted_empty}
 use Rattle.cedar_pieces.proofs.Scans.{piece_more}
-use Rattle.cedar_pieces.proofs.Prefixes.{through, piece_inside, piece_before, piece_behind, piece_within, units_of}
+use Rattle.cedar_pieces.proofs.Prefixes.{through, piece_positive, piece_inside, piece_before, piece_behind, piece_within, units_of}
 use Rattle.cedar_pieces.proofs.Lists.{piece_splits, units_follow}
 use Rattle.cedar_pieces.proofs.Refusals.{parts_fit, rest_is_empty, piece_refused, rest_refused}
-use Rattle.cedar_cst.specs.Inside.Parts.{HasPoliciesFrom, RefusesFrom}
-use Rattle.cedar_cst.specs.PolicyReaders.{EndsPiece, HasPolicies, HasRead, IsBehindPolicies}
-use Rattle.cedar_cst.proofs.PartLaws.{parts_join, from_start, to_start, none_from, no_units, part_accepted, has_none, has_one}
+use Rattle.cedar_cst.specs.Inside.Parts.{HasPoliciesFrom, RefusesFrom, IsNext, IsPolicyFrom}
+use Rattle.cedar_cst.specs.PolicyReaders.{Position, EndsPiece, HasPolicies, HasRead, HasEnded, GoesOn, IsBehindPolicies}
+use Rattle.cedar_cst.proofs.PartLaws.{parts_join, from_start, to_start, none_from, no_units, part_accepted, has_one, has_some}
 
 -- ---- two parts of a text
 
@@ -81,16 +81,20 @@ pub reader_begins : (text : List ℕ) → HasTokens text → IsCharBoundary text
 reader_begins text t b = record { tokens = t; inside = omega arith; boundary = b; ends = inl refl; accepted = accepted_empty [] [] refl refl refl }
 
 pub read_none : (text : List ℕ) → HasRead (record { text = text; at = 0 }) text []
-read_none text = record { of_text = refl; ends = inl refl; read = from_start [] [] (none_from 0) }
+read_none text = record { of_text = refl; ends = inl refl; read = from_start [] [] (none_from 0 [] [] refl refl refl) }
 
--- the reader goes on by a piece that has policies
-pub reader_goes_on : (text : List ℕ) (at n : ℕ) (qs : List (Node Policy)) → IsBehindPolicies text at → IsPiece (drop at text) n → HasPoliciesFrom at (take n (drop at text)) qs → IsCharBoundary text (at + n) → IsBehindPolicies text (at + n)
-reader_goes_on text at n qs b q h c = record {
+-- the next piece lies within the text
+pub next_inside : (text : List ℕ) (at : ℕ) (piece : List ℕ) → at ≤ length text → IsNext (record { text = text; at = at }) piece → at + length piece ≤ length text
+next_inside text at piece b x = omega (arith, piece_inside (drop at text) (length piece) x.first.piece, length-drop at text, b)
+
+-- the reader goes on by the next piece, which has a policy
+pub reader_goes_on : (text : List ℕ) (at by : ℕ) (piece : List ℕ) (q : Node Policy) → IsBehindPolicies text at → IsNext (record { text = text; at = at }) piece → IsPolicyFrom by piece q → IsBehindPolicies text (at + length piece)
+reader_goes_on text at by piece q b x (p, h, e) = record {
   tokens = b.tokens;
-  inside = omega (arith, piece_inside (drop at text) n q, length-drop at text, b.inside);
-  boundary = c;
-  ends = ends_more text at n b.ends q;
-  accepted = accepted_more text at n b.ends q b.accepted (part_accepted at (take n (drop at text)) qs h);
+  inside = next_inside text at piece b.inside x;
+  boundary = x.boundary;
+  ends = ends_more text at (length piece) b.ends x.first.piece;
+  accepted = accepted_more text at (length piece) b.ends x.first.piece b.accepted (subst Accepted x.bytes (part_accepted by piece p.policies.items h));
 }
 
 -- what the reader of a text has read, in that text
@@ -100,21 +104,43 @@ ends_of text at ps all r = subst (λ x. EndsPiece x at) (sym r.of_text) r.ends
 reads_of : (text : List ℕ) (at : ℕ) (ps : List (Node Policy)) (all : List ℕ) → HasRead (record { text = text; at = at }) all ps → HasPoliciesFrom 0 (take at text) ps
 reads_of text at ps all r = to_start (take at text) ps (subst (λ x. HasPolicies (take at x) ps) (sym r.of_text) r.read)
 
-pub read_more : (text : List ℕ) (at n : ℕ) (ps qs : List (Node Policy)) (all : List ℕ) → HasRead (record { text = text; at = at }) all ps → IsPiece (drop at text) n → HasPoliciesFrom at (take n (drop at text)) qs
-    → HasRead (record { text = text; at = at + n }) all (ps ++ qs)
-read_more text at n ps qs all r q h = record {
-  of_text = r.of_text;
-  ends = subst (λ x. EndsPiece x (at + n)) r.of_text (ends_more text at n (ends_of text at ps all r) q);
-  read = subst (λ x. HasPolicies (take (at + n) x) (ps ++ qs)) r.of_text (from_start (take (at + n) text) (ps ++ qs) (reads_more text at n ps qs (ends_of text at ps all r) q (reads_of text at ps all r) h));
-}
+pub read_more : (text : List ℕ) (at : ℕ) (piece : List ℕ) (ps : List (Node Policy)) (q : Node Policy) (all : List ℕ) → HasRead (record { text = text; at = at }) all ps → IsNext (record { text = text; at = at }) piece → IsPolicyFrom at piece q
+    → HasRead (record { text = text; at = at + length piece }) all (ps ++ q ∷ [])
+read_more text at piece ps q all r x (p, h, e) =
+    let n = length piece in
+    let all_read : HasPoliciesFrom 0 (take (at + n) text) (ps ++ p.policies.items) = reads_more text at n ps p.policies.items (ends_of text at ps all r) x.first.piece (reads_of text at ps all r) (subst (λ z. HasPoliciesFrom at z p.policies.items) x.bytes h) in
+    record {
+      of_text = r.of_text;
+      ends = subst (λ z. EndsPiece z (at + n)) r.of_text (ends_more text at n (ends_of text at ps all r) x.first.piece);
+      read = subst (λ z. HasPolicies (take (at + n) z) (ps ++ q ∷ [])) r.of_text (subst (λ z. HasPolicies (take (at + n) text) (ps ++ z)) e (from_start (take (at + n) text) (ps ++ p.policies.items) all_read));
+    }
 
--- where no piece follows, the policies are those of the text
-pub read_all : (text : List ℕ) (at : ℕ) (ps qs : List (Node Policy)) (all : List ℕ) → HasRead (record { text = text; at = at }) all ps → HasNoPiece (drop at text) → HasPoliciesFrom at (drop at text) qs → HasPolicies all ps
-read_all text at ps qs all r q h =
-    let none_left = rest_is_empty (drop at text) q (part_accepted at (drop at text) qs h) in
-    let none : qs ≡ [] = has_none at (drop at text) qs h none_left.0 none_left.1 none_left.2 in
-    subst (λ x. HasPolicies x ps) r.of_text
-    (subst (HasPolicies text) (ap (λ z. ps ++ z) none ∙ append-nil ps) (from_start text (ps ++ qs) (reads_join text at ps qs (ends_of text at ps all r) (reads_of text at ps all r) h)))
+-- where nothing more is read, the policies are those of the text
+pub read_all : (text : List ℕ) (at : ℕ) (ps : List (Node Policy)) (all : List ℕ) → HasRead (record { text = text; at = at }) all ps → HasEnded (record { text = text; at = at }) → HasPolicies all ps
+read_all text at ps all r x =
+    let left = rest_is_empty (drop at text) x.none x.rest in
+    let none : HasPoliciesFrom at (drop at text) [] = none_from at (drop at text) left.0 left.1 left.2 left.3 in
+    subst (λ z. HasPolicies z ps) r.of_text
+    (subst (HasPolicies text) (append-nil ps) (from_start text (ps ++ []) (reads_join text at ps [] (ends_of text at ps all r) (reads_of text at ps all r) none)))
+
+-- where no piece follows and the rest is accepted, the reader has ended
+pub reader_ends : (text : List ℕ) (at by : ℕ) (qs : List (Node Policy)) → IsBehindPolicies text at → HasNoPiece (drop at text) → HasPoliciesFrom by (drop at text) qs → HasEnded (record { text = text; at = at })
+reader_ends text at by qs b n h =
+    let rest = part_accepted by (drop at text) qs h in
+    record { none = n; rest = rest; accepted = accepted_both text at b.ends b.accepted rest }
+
+-- a reader that has answered no policies has read nothing
+pub read_nothing : (reader : Position) (text : List ℕ) → HasRead reader text [] → reader.at ≡ 0
+read_nothing reader text r = go r.ends
+  where
+    go : EndsPiece text reader.at → reader.at ≡ 0
+    go (inl e) = e
+    go (inr p) = absurd (has_some text reader.at p (to_start (take reader.at text) [] r.read))
+
+-- a reader that goes on has less left
+pub goes_further : (old new : Position) (piece : List ℕ) → GoesOn old new piece → length new.text - new.at < length old.text - old.at
+goes_further old new piece g =
+    omega (arith, ap length g.of_text, g.further, piece_positive (drop old.at old.text) (length piece) g.first.piece, piece_inside (drop old.at old.text) (length piece) g.first.piece, length-drop old.at old.text)
 
 -- ---- refusals
 
@@ -147,6 +173,10 @@ module _ (text : List ℕ) (at : ℕ) (b : IsBehindPolicies text at) where
   rest_moves (inr q) p deep r =
       leaves_grammar text (at + p) deep (rest_refused text at p deep b.tokens.units q b.tokens.split b.tokens.fitting b.accepted (is_refused (drop at text) p deep r))
 
+  -- the tokens of the rest can be parsed
+  pub rest_tokens : HasTokens (drop at text)
+  rest_tokens = let f = rest_fits b.ends in record { units = f.0; split = f.1; fitting = f.2 }
+
   -- a refusal of the rest is one of the text
   pub rest_refuses : (e : FormatError) → RefusesFrom at (drop at text) e → OutOfMemoryOr (Refuses text) e
   rest_refuses e r = let f = rest_fits b.ends in only_grammar at (drop at text) text f.0 f.1 f.2 (rest_moves b.ends) e r
@@ -166,10 +196,25 @@ only_item len items q o e l v =
     let one : len ≡ 1 = l ∙ ap length e in
     v q (omega (arith, one)) ∙ (ap (λ z. Some (get_or z (len - 1) q)) e ∙ ap (λ k. Some (get_or (q ∷ []) (k - 1) q)) one)
 
+-- the first bytes of a slice
+pub front : (text : List ℕ) (n : ℕ) → slice_range text 0 n ≡ take n text
+front text n = let e : n - 0 ≡ n = omega arith in rw e refl
+
 -- the last of a first piece's policies is its only one
-pub only_policy : (text rest : List ℕ) (at n : ℕ) (len : ℕ) (items : List (Node Policy)) (o : Option (Node Policy)) → rest ≡ drop at text → IsFirstPiece rest n → HasPoliciesFrom at (slice_range text at (at + n)) items → len ≡ length items
+pub only_policy : (part : List ℕ) (by : ℕ) (len : ℕ) (items : List (Node Policy)) (o : Option (Node Policy)) (rest : List ℕ) (n : ℕ) → part ≡ take n rest → IsFirstPiece rest n → HasPoliciesFrom by part items → len ≡ length items
     → ((d : Node Policy) → 0 < len → o ≡ Some (get_or items (len - 1) d)) → (q : Node Policy) × (o ≡ Some q) × (items ≡ q ∷ [])
-only_policy text rest at n len items o e p h l v =
-    let first : IsFirstPiece (drop at text) n = subst (λ z. IsFirstPiece z n) e p in
-    let one = has_one at (drop at text) n items first.piece first.first (subst (λ x. HasPoliciesFrom at x items) (part_unit text at n) h) in
+only_policy part by len items o rest n e p h l v =
+    let one = has_one by rest n items p.piece p.first (subst (λ z. HasPoliciesFrom by z items) e h) in
     (one.0, only_item len items one.0 o one.1 l v, one.1)
+
+-- the next piece of a reader's text
+pub next_piece : (text : List ℕ) (at n : ℕ) (rest piece : List ℕ) → at ≤ length text → rest ≡ drop at text → piece ≡ take n rest → IsFirstPiece rest n → IsCharBoundary rest n → IsNext (record { text = text; at = at }) piece
+next_piece text at n rest piece inside r t p b =
+    let first : IsFirstPiece (drop at text) n = subst (λ z. IsFirstPiece z n) r p in
+    let bytes : piece ≡ take n (drop at text) = t ∙ ap (take n) r in
+    let long : length piece ≡ n = ap length bytes ∙ length-take-le n (drop at text) (piece_inside (drop at text) n first.piece) in
+    record {
+      first = subst (λ k. IsFirstPiece (drop at text) k) (sym long) first;
+      bytes = bytes ∙ ap (λ k. take k (drop at text)) (sym long);
+      boundary = subst (λ k. IsCharBoundary text (at + k)) (sym long) (IsCharBoundary-from_rest text at n inside (subst (λ z. IsCharBoundary z n) r b));
+    }

@@ -13,12 +13,12 @@ use Rattle.cedar_grammar.specs.Reader.Reading.{Answer, done, stuck}
 use Rattle.cedar_grammar.specs.Reader.Lines.{set_to}
 use Rattle.cedar_grammar.proofs.DepthLaws.{Beyond}
 use Rattle.cedar_grammar.proofs.WholeLaws.{set_sound, set_local, set_deeper}
-use Rattle.cedar_reading.specs.declared.lexeme.Lexeme.{Lexeme}
-use Rattle.cedar_reading.specs.declared.reading.Refusal.TheVariants.{Grammar, TooDeep}
-use Rattle.cedar_reading.specs.Inside.Lexemes.{AreLexemes}
-use Rattle.cedar_reading.specs.Inside.Reading.{kind, IsRight, AreRight, start_or, place_of}
+use Rattle.cedar_parser_steps.specs.declared.lexeme.Lexeme.{Lexeme}
+use Rattle.cedar_parser_steps.specs.declared.reading.Refusal.TheVariants.{Grammar, TooDeep}
+use Rattle.cedar_parser_steps.specs.Inside.Lexemes.{AreLexemes}
+use Rattle.cedar_parser_steps.specs.Inside.Reading.{kind, IsRight, AreRight, start_or, place_of}
 use Rattle.cedar_cst.specs.Inside.ReadingSet.{GivesSet}
-use Rattle.cedar_reading.proofs.Parsing.{parsed}
+use Rattle.cedar_parser_steps.proofs.Parsing.{parsed}
 
 -- Lexemes of a text are right.
 all_tokens : (us : List (List ℕ)) (xs : List Lexeme) → map (λ (l : Lexeme). l.text.now) xs ≡ filter is_token us → AllByRecursion (λ (l : Lexeme). is_token l.text.now ≡ true) xs

@@ -1,8 +1,12 @@
--- How far a reader of policies has come, and the policies that it has answered.
-use Rattle.std.specs.Prelude.{◌≡◌, ◌≤◌, ℕ, false, List, ◌⊎◌, ◌↔◌, length, take}
-use Rattle.std.specs.List.{list_any}
+-- How far a reader of policies has come, and the policies and the pieces of its text that it has answered.
+use Rattle.std.specs.Prelude.{◌≡◌, ◌≤◌, ◌+◌, ℕ, false, List, [], ◌∷◌, ◌⊎◌, ◌↔◌, length, map, take, drop}
+use Rattle.std.specs.List.{list_any, AllByRecursion}
 use Rattle.std.specs.Str.{IsCharBoundary}
 use Rattle.cedar_tokens.specs.Split.{SplitsInto}
+use Rattle.cedar_tokens.specs.Listing.{IsListing}
+use Rattle.cedar_tokens.specs.Places.{AreTokenSpans}
+use Rattle.cedar_tokens.specs.Tokens.{decorated, StandsIn}
+use Rattle.cedar_tokens.specs.declared.token.WrappedToken.{WrappedToken}
 use Rattle.cedar_grammar.specs.Trees.{Label, Forest, none}
 use Rattle.cedar_grammar.specs.Grammar.{IsSyntaxTree}
 use Rattle.cedar_grammar.specs.Numbers.{is_too_large}
@@ -14,8 +18,8 @@ use Rattle.cedar_tree.specs.declared.tree.Policy.{Policy}
 use Rattle.cedar_tree.specs.declared.tree.Policies.{Policies}
 use Rattle.cedar_tree.specs.Erased.{variant, policy_trees}
 use Rattle.cedar_tree.specs.NodeTrees.{spanned, IsTreeOf}
-use Rattle.cedar_reading.specs.Tokens.{HasTokens}
-use Rattle.cedar_pieces.specs.Pieces.{IsPiece}
+use Rattle.cedar_parser_steps.specs.Tokens.{HasTokens}
+use Rattle.cedar_pieces.specs.Pieces.{IsPiece, IsFirstPiece, HasNoPiece}
 
 -- a place in a text: so many of its bytes are read
 pub record Position : Type 0 where
@@ -48,6 +52,30 @@ pub record HasRead (reader : Position) (text : List ℕ) (policies : List (Node 
   pub of_text : reader.text ≡ text
   pub ends : EndsPiece text reader.at
   pub read : HasPolicies (take reader.at text) policies
+
+-- the text is accepted, and this is the only policy of its tree
+abbrev pub IsPolicyOf : List ℕ → Node Policy → Type 0
+IsPolicyOf text policy = (p : Policies) × IsTreeOf text p × (p.policies.items ≡ policy ∷ [])
+
+-- the tokens are those of the text with their comments, each at its place
+pub record AreTokensOf (text : List ℕ) (tokens : List WrappedToken) : Type 0 where
+  pub closing : List (List ℕ)
+  pub listing : IsListing text (record { tokens = map decorated tokens; closing = closing })
+  pub spans : AreTokenSpans text (map (λ t. t.span) tokens)
+  pub slices : AllByRecursion (StandsIn text) tokens
+
+-- the reader goes on over these bytes: the first piece of what was left of its text
+pub record GoesOn (old new : Position) (piece : List ℕ) : Type 0 where
+  pub of_text : new.text ≡ old.text
+  pub further : new.at ≡ old.at + length piece
+  pub first : IsFirstPiece (drop old.at old.text) (length piece)
+  pub bytes : piece ≡ take (length piece) (drop old.at old.text)
+
+-- no piece and no token is left of the reader's text, and all of it is accepted
+pub record HasEnded (reader : Position) : Type 0 where
+  pub none : HasNoPiece (drop reader.at reader.text)
+  pub rest : Accepted (drop reader.at reader.text)
+  pub accepted : Accepted reader.text
 
 -- a text has the policies of its tree of nodes
 abbrev pub TreeHasThePolicies : Type 0

@@ -7,15 +7,14 @@ mod policies;
 mod reader;
 mod scopes;
 
-pub use crate::cst::reader::{PolicyReader, parse_at_once};
+pub use crate::cst::reader::{Piece, PolicyReader};
 pub use crate::laws;
 use crate::laws::tree_has_the_policies;
-pub use cedar_same_tree::compare::same_tree;
 pub use cedar_tree::error::FormatError;
 pub use cedar_tree::tree::{
     Add, AddOp, And, Annotation, Cond, Expr, Ident, Literal, MemAccess, Member, Mult, MultOp, Name,
     NegOp, Node, Or, Policies, Policy, Primary, RecInit, Ref, RelOp, Relation, Slot, Str, Unary,
-    VariableDef,
+    VariableDef, same_tree,
 };
 use std::alloc::Global;
 

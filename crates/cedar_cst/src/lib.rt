@@ -1,4 +1,4 @@
-// Trees of Cedar policies, and the parser that makes them.
+//! The parser of policies, and the reader of one policy after the other.
 #![tactic(auto)]
 
 pub mod cst;

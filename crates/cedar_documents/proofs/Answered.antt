@@ -18,16 +18,16 @@ use Rattle.cedar_layout.specs.declared.layout.Document.{Document}
 use Rattle.cedar_tree.specs.Erased.{Erased, literal_text, variant_label}
 use Rattle.cedar_tree.specs.declared.tree.Literal.{Literal}
 use Rattle.cedar_tree.specs.NodeTrees.{is_node, span_of}
-use Rattle.cedar_leaf_documents.specs.Found.{Finds, has_its_tokens, places, starts}
+use Rattle.cedar_document_rows.specs.Found.{Finds, has_its_tokens, places, starts}
 use Rattle.cedar_documents.specs.ShownNodes.{answer_of}
-use Rattle.cedar_leaf_documents.specs.Kept.{KeepsTokens}
-use Rattle.cedar_leaf_documents.specs.NodeDocuments.{IsAt, IsNodeOf, Shows, as_leaf, document, kind_of_shown, nodes_of, text_of}
-use Rattle.cedar_policy_documents.specs.PartDocuments.{IsPartOf, part_document}
+use Rattle.cedar_document_rows.specs.Kept.{KeepsTokens}
+use Rattle.cedar_document_rows.specs.NodeDocuments.{IsAt, IsNodeOf, Shows, as_leaf, document, kind_of_shown, nodes_of, text_of}
+use Rattle.cedar_documents.specs.PartDocuments.{IsPartOf, part_document}
 use Rattle.cedar_documents.specs.ShownNodes.{IsNodeWith, IsPartWith, IsRowWith, IsLeafWith, ShowsPart}
-use Rattle.cedar_canonical.specs.Table as table
-use Rattle.cedar_leaf_documents.specs.declared.made.NoDocument.{NoDocument}
-use Rattle.cedar_leaf_documents.specs.declared.made.NoDocument.TheVariants.{NoToken, OutOfMemory}
-use Rattle.cedar_leaf_documents.proofs.Keeping.{order_stays, refilled}
+use Rattle.cedar_laws.specs.Table as table
+use Rattle.cedar_document_rows.specs.declared.made.NoDocument.{NoDocument}
+use Rattle.cedar_document_rows.specs.declared.made.NoDocument.TheVariants.{NoToken, OutOfMemory}
+use Rattle.cedar_document_rows.proofs.Keeping.{order_stays, refilled}
 use Rattle.cedar_documents.proofs.OwnTokens.{AreSigned, Within, first_starts, own, signed_tree}
 
 -- A document that a function made of the tokens of a context, and its answer: the slice is that of the n tokens before, `left` is what

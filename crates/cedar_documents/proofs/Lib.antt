@@ -1,3 +1,8 @@
+pub mod ScopeTrees
+pub mod PolicyParts
+pub mod PolicyRows
+pub mod FirstToken
+pub mod WholePolicies
 pub mod TypedNodes
 pub mod OwnTokens
 pub mod ShownTrees

@@ -19,7 +19,7 @@ use Rattle.cedar_grammar.proofs.PlainGrammar.{plain_is_in_the_grammar}
 use Rattle.cedar_grammar.proofs.Relabelling.{relabel_yield, each_map}
 use Rattle.cedar_layout.specs.Lookups.{Shown}
 use Rattle.cedar_tree.specs.NodeTrees.{is_node, spanned, span_of, end_of}
-use Rattle.cedar_leaf_documents.specs.NodeDocuments.{text_of, kind_of_shown, nodes_of}
+use Rattle.cedar_document_rows.specs.NodeDocuments.{text_of, kind_of_shown, nodes_of}
 
 -- a token's text and its place
 abbrev pub place_of : Shown → Placed

@@ -36,15 +36,15 @@ use Rattle.cedar_tree.specs.Erased.{erase}
 use Rattle.cedar_tree.specs.Erased as erased
 use Rattle.cedar_tree.specs.NodeTrees.{spanned, IsTreeOf}
 use Rattle.cedar_tree.specs.declared.tree.Policies.{Policies}
-use Rattle.cedar_canonical.specs.GrammarTrees.{IsTree}
-use Rattle.cedar_canonical.specs.Leaves.{part_map}
-use Rattle.cedar_leaf_documents.specs.NodeDocuments.{kind_of_shown, as_leaf, nodes_of}
-use Rattle.cedar_canonical.specs.Output.{tokens_of}
-use Rattle.cedar_canonical.proofs.ByValue.{part_yield_map}
-use Rattle.cedar_canonical.proofs.FittingTrees.{AllTokens}
-use Rattle.cedar_text_laws.proofs.GoodLists.{every_list_good, plain_list_good}
-use Rattle.cedar_canonical.proofs.Grammatical.{plain_of_length, map_length, good_tokens}
-use Rattle.cedar_canonical.proofs.Relabelled.{set_tree_map, without_map}
+use Rattle.cedar_laws.specs.GrammarTrees.{IsTree}
+use Rattle.cedar_laws.specs.Leaves.{part_map}
+use Rattle.cedar_document_rows.specs.NodeDocuments.{kind_of_shown, as_leaf, nodes_of}
+use Rattle.cedar_laws.specs.Output.{tokens_of}
+use Rattle.cedar_laws.proofs.ByValue.{part_yield_map}
+use Rattle.cedar_laws.proofs.FittingTrees.{AllTokens}
+use Rattle.cedar_laws.proofs.GoodLists.{every_list_good, plain_list_good}
+use Rattle.cedar_laws.proofs.Grammatical.{plain_of_length, map_length, good_tokens}
+use Rattle.cedar_laws.proofs.Relabelled.{set_tree_map, without_map}
 use Rattle.cedar_documents.proofs.ShownTrees.{typed_over, place_of}
 
 -- ---- the tokens with their places

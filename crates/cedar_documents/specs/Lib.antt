@@ -1,2 +1,3 @@
+pub mod PartDocuments
 pub mod ShownNodes
 pub mod OwnTokens

@@ -9,12 +9,12 @@ use Rattle.cedar_layout.specs.Lookups.{Shown, shown, emptied}
 use Rattle.cedar_layout.specs.Value.{doc_of}
 use Rattle.cedar_layout.specs.declared.layout.Document.{Document}
 use Rattle.cedar_tree.specs.Erased.{Erased}
-use Rattle.cedar_canonical.specs.Table.{printed as leaf_of}
+use Rattle.cedar_laws.specs.Table.{printed as leaf_of}
 use Rattle.std.specs.declared.alloc.AllocError.{AllocError}
-use Rattle.cedar_leaf_documents.specs.declared.made.NoDocument.{NoDocument}
-use Rattle.cedar_leaf_documents.specs.declared.made.NoDocument.TheVariants.{NoToken, OutOfMemory}
-use Rattle.cedar_leaf_documents.specs.NodeDocuments.{text_of, as_leaf, IsNodeOf, document, IsAt}
-use Rattle.cedar_policy_documents.specs.PartDocuments.{IsPartOf, part_document}
+use Rattle.cedar_document_rows.specs.declared.made.NoDocument.{NoDocument}
+use Rattle.cedar_document_rows.specs.declared.made.NoDocument.TheVariants.{NoToken, OutOfMemory}
+use Rattle.cedar_document_rows.specs.NodeDocuments.{text_of, as_leaf, IsNodeOf, document, IsAt}
+use Rattle.cedar_documents.specs.PartDocuments.{IsPartOf, part_document}
 
 -- a node with this span and these parts is the tree of the tokens ts, and the table's document of that tree is doc
 abbrev pub IsNodeWith : (k : NodeKind) → Span → Erased → ℤ → List Shown → Doc → Type 0

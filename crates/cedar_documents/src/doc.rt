@@ -1,5 +1,5 @@
 //! The document of each node: its tokens, each between its comments, with the places where a line may break.
-#![tactic(auto, using(cedar_leaf_documents::proofs::Keeping::all_kept))]
+#![tactic(auto, using(cedar_document_rows::proofs::Keeping::all_kept))]
 
 ghost use Rattle.std.specs.Prelude.{◌≡◌, ℤ, List, [], Some, None, Ok, codes, true, IfOk, is_some};
 ghost use Rattle.cedar_grammar.specs.Trees.{Label, branch, leaf, none};
@@ -9,25 +9,25 @@ ghost use Rattle.cedar_layout.specs.Value.{doc_of};
 ghost use Rattle.cedar_tree.specs.Erased as erased;
 ghost use Rattle.cedar_tree.specs.NodeLists as lists;
 ghost use Rattle.cedar_layout.specs.Lookups.{AreInOrder, Shown};
-ghost use Rattle.cedar_leaf_documents.specs.Found.{has_its_tokens, places};
-ghost use Rattle.cedar_leaf_documents.specs.Kept.{KeepsTokens};
+ghost use Rattle.cedar_document_rows.specs.Found.{has_its_tokens, places};
+ghost use Rattle.cedar_document_rows.specs.Kept.{KeepsTokens};
 ghost use Rattle.cedar_documents.specs.ShownNodes.{IsLeafWith, IsNodeWith, IsPartWith, IsRowWith, ShowsPart, answer_of};
 ghost use Rattle.cedar_tree.specs.Erased.{annotation_parts, cond_parts, variable_parts};
 
+use crate::conditions::cond_doc;
 use crate::config::Context;
 pub use crate::laws::{every_gap_holds, raw_layouts_read_back};
-use cedar_expression_documents::expressions::{
+use crate::policies::{annotation_doc, policy_doc};
+use crate::scopes::variable_doc;
+use cedar_document_expressions::expressions::{
     access_doc, add_doc, and_doc, expr_doc, init_doc, member_doc, mult_doc, or_doc, primary_doc,
     relation_doc, unary_doc,
 };
-use cedar_layout::layout::Document;
-use cedar_leaf_documents::made::{Made, NoDocument};
-use cedar_leaf_documents::names::{
+use cedar_document_rows::made::{Made, NoDocument};
+use cedar_document_rows::names::{
     add_op_text, leaf_doc, literal_text, name_doc, ref_doc, slot_text,
 };
-use cedar_policy_documents::conditions::cond_doc;
-use cedar_policy_documents::policies::{annotation_doc, policy_doc};
-use cedar_policy_documents::scopes::variable_doc;
+use cedar_layout::layout::Document;
 use cedar_tree::tree::{
     Add, AddOp, And, Annotation, Cond, Expr, Ident, Literal, MemAccess, Member, Mult, MultOp, Name,
     Node, Or, Policy, Primary, RecInit, Ref, Relation, Slot, Str, Unary, VariableDef,

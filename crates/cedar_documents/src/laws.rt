@@ -1,12 +1,12 @@
 //! The laws of documents, cleaning and outputs.
 ghost use Rattle.cedar_documents.specs.OwnTokens.{NodesMeetTheirTokens, PoliciesMeetTheirTokens};
 
-pub use cedar_canonical::laws::{
+pub use cedar_laws::laws::{
     accepted_texts_have_trees, every_gap_holds, every_layout_reads_back, last_width_decides,
     outputs_are_canonical, outputs_are_determined, outputs_have_the_trees, policies_stand_alone,
     raw_layouts_read_back,
 };
-pub use cedar_text_laws::laws::{
+pub use cedar_laws::text_laws::{
     cleaning_is_unique, cleaning_keeps_the_list, cleaning_takes_blanks, every_list_is_good,
     lists_join,
 };

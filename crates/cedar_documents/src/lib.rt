@@ -1,6 +1,10 @@
-//! The document of every node of a policy, with the laws of documents, cleaning and outputs.
+//! The documents of policies, the trait for the document of every node, and the laws of outputs.
 #![tactic(auto)]
 
+mod comments;
+pub mod conditions;
 pub mod config;
 pub mod doc;
 pub mod laws;
+pub mod policies;
+pub mod scopes;

@@ -10,7 +10,7 @@ use Rattle.cedar_tokens.specs.Listing.{Decorated, IsListing, Listing, ListingIsU
 use Rattle.cedar_tokens.specs.PlainList.{is_trailing_comma, plain_from, plain_list, touches, with_lines_of, with_trailing_of}
 use Rattle.cedar_tokens.specs.Tokens.{decorated, leading_lines, trailing_text}
 use Rattle.cedar_tokens.specs.declared.token.WrappedToken.{WrappedToken}
-use Rattle.cedar_canonical.specs.Canonical.{IsOutputOf, OutputHasTheList, OutputIsAccepted, plain_listing}
+use Rattle.cedar_laws.specs.Canonical.{IsOutputOf, OutputHasTheList, OutputIsAccepted, plain_listing}
 use Rattle.cedar_examples.specs.Comments.{AreCommentsOf, HaveEqualComments, comments_in}
 use Rattle.cedar_examples.specs.Keys.{IsKeyOf}
 

@@ -2,7 +2,7 @@
 use Rattle.std.specs.Prelude.{◌≡◌, ◌↔◌, ◌⊎◌, ℕ, pos, List, Contains}
 use Rattle.std.specs.Str.{IsUtf8}
 use Rattle.cedar_grammar.specs.Texts.{Accepted}
-use Rattle.cedar_canonical.specs.Canonical.{IsOutputOf}
+use Rattle.cedar_laws.specs.Canonical.{IsOutputOf}
 use Rattle.cedar_policy_formatter.specs.Compared.{HaveEqualLists}
 
 -- the text's key: its output at 80 columns a line and 2 a level

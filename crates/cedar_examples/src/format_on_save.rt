@@ -2,7 +2,7 @@
 ghost use Rattle.std.specs.Prelude.{◌≡◌, IfErr, OnErr, OnOk, string_bytes};
 ghost use Rattle.cedar_grammar.specs.Texts.{Accepted};
 ghost use Rattle.cedar_tree.specs.Refusals.{OutOfMemoryOr, Refuses};
-ghost use Rattle.cedar_canonical.specs.Canonical.{IsOutputOf};
+ghost use Rattle.cedar_laws.specs.Canonical.{IsOutputOf};
 
 use cedar_policy_formatter::{Config, FormatError, policies_str_to_pretty};
 use std::alloc::Global;

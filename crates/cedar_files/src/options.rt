@@ -1,6 +1,6 @@
 //! The words of the command line.
-use cedar_command_line::VERSION;
 use cedar_policy_formatter::Config;
+use cedar_program_words::VERSION;
 use clap::{Arg, ArgAction, ArgMatches, Command, Error, value_parser};
 use std::alloc::{AllocError, Global};
 

@@ -3,7 +3,7 @@ use Rattle.std.proofs.Common.{◌≡◌, ◌≢◌, ◌∙◌, ℕ, List, Bool, 
 use Rattle.std.specs.Prelude.{◌↔◌, IsTrue}
 use Rattle.std.specs.Str.{IsUtf8}
 use Rattle.cedar_tokens.specs.Listing.{ListingIsUnique, by_value}
-use Rattle.cedar_canonical.specs.Canonical.{IsOutputOf, OutputIsItsOwn, OutputsTellLists, plain_listing}
+use Rattle.cedar_laws.specs.Canonical.{IsOutputOf, OutputIsItsOwn, OutputsTellLists, plain_listing}
 use Rattle.cedar_documents.specs.declared.config.Config.{Config}
 use Rattle.cedar_policy_formatter.specs.Outputs.{HasOutput}
 use Rattle.cedar_folder.specs.Runs.{IsUnformatted}

@@ -5,7 +5,7 @@ use Rattle.std.specs.List.{AllByRecursion}
 use Rattle.std.specs.declared.alloc.Global.{Global}
 use Rattle.std.proofs.lemmas.List.{map-append, take-append-drop, take_all, take_more}
 use Rattle.cedar_tokens.specs.Listing.{ListingIsUnique}
-use Rattle.cedar_canonical.specs.Canonical.{OutputIsItsOwn, OutputsTellLists}
+use Rattle.cedar_laws.specs.Canonical.{OutputIsItsOwn, OutputsTellLists}
 use Rattle.cedar_documents.specs.declared.config.Config.{Config}
 use Rattle.cedar_folder.specs.Folders.{Names, Picture, Reports, Since, Stored}
 use Rattle.cedar_policy_formatter.specs.Outputs.{HasOutput}

@@ -1,4 +1,4 @@
-// The grammar of Cedar policies as a definition, and its laws.
+//! The grammar of Cedar policies as a definition, and its laws.
 #![tactic(auto)]
 
 pub mod kind;

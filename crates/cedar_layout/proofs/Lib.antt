@@ -4,6 +4,7 @@ pub mod Values
 pub mod Contents
 pub mod Laid
 pub mod Atoms
+pub mod Printable
 pub mod Width
 pub mod Cuts
 pub mod Choices

@@ -6,6 +6,7 @@ ghost use Rattle.cedar_layout.specs.Inside.Computed.{laid};
 ghost use Rattle.cedar_layout.specs.Nodes.{nodes};
 ghost use Rattle.cedar_layout.specs.Value.{doc_of, docs_of, interspersed};
 
+mod columns;
 mod measure;
 mod print;
 mod release;

@@ -1,5 +1,4 @@
-//! Documents and their layout, and what the documents of a policy are made with: comments of tokens, and the cleaning
-//! of a layout.
+//! Documents and their layout, the documents of comments, and the cleaning of a layout.
 #![tactic(auto)]
 
 pub mod laws;

@@ -14,12 +14,12 @@ use Rattle.cedar_tokens.proofs.Prefixes.{longest_unique, and_parts}
 use Rattle.cedar_tokens.proofs.CommentLines.{comments_nil}
 use Rattle.cedar_tokens.proofs.PlainSteps.{plain_other}
 use Rattle.cedar_tokens.proofs.Scanning.{empty_begins_none, split_unique}
-use Rattle.cedar_text_laws.proofs.Scanned.{scans_append, scans_concat}
-use Rattle.cedar_text_laws.proofs.Spaces.{scans_shorter}
-use Rattle.cedar_text_laws.proofs.Listed.{gaps_skip}
-use Rattle.cedar_text_laws.proofs.Joined.{before_join, after_cons}
-use Rattle.cedar_text_laws.proofs.TrimmedUnits.{after_free}
-use Rattle.cedar_text_laws.proofs.BlankLines.{concat_append, feedless, feedless_append}
+use Rattle.cedar_laws.proofs.Scanned.{scans_append, scans_concat}
+use Rattle.cedar_laws.proofs.Spaces.{scans_shorter}
+use Rattle.cedar_laws.proofs.Listed.{gaps_skip}
+use Rattle.cedar_laws.proofs.Joined.{before_join, after_cons}
+use Rattle.cedar_laws.proofs.TrimmedUnits.{after_free}
+use Rattle.cedar_laws.proofs.BlankLines.{concat_append, feedless, feedless_append}
 use Rattle.cedar_pieces.proofs.Prefixes.{concat_length}
 use Rattle.cedar_pieces.specs.Pieces.{HaveNoFeed, EndInFeed, BeginsNoBlank, IsRestOfLine, IsPiece}
 

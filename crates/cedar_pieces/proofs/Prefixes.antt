@@ -8,8 +8,8 @@ use Rattle.std.proofs.lemmas.List.Sums.{sum_by-append, sum_by-cons}
 use Rattle.cedar_tokens.specs.Units.{IsFirstUnit}
 use Rattle.cedar_tokens.specs.Split.{Scans, SplitsInto}
 use Rattle.cedar_tokens.proofs.Scanning.{empty_begins_none}
-use Rattle.cedar_text_laws.proofs.Scanned.{scans_concat, first_within}
-use Rattle.cedar_text_laws.proofs.Spaces.{scans_shorter}
+use Rattle.cedar_laws.proofs.Scanned.{scans_concat, first_within}
+use Rattle.cedar_laws.proofs.Spaces.{scans_shorter}
 use Rattle.cedar_pieces.specs.Pieces.{IsPiece, BeginsNoBlank, EndInFeed, HaveNoFeed}
 
 -- the units of a piece

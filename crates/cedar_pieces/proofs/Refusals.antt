@@ -22,7 +22,7 @@ use Rattle.cedar_grammar.specs.Reader.Hopeless.{BeginsByKinds, IsHopeless, IsRef
 use Rattle.cedar_grammar.specs.Trees.{Label, Forest}
 use Rattle.cedar_grammar.proofs.KindSets.{and_left, and_right, or_left, or_right, not_true}
 use Rattle.cedar_grammar.proofs.TreeLaws.{deeper}
-use Rattle.cedar_text_laws.proofs.Scanned.{scans_concat}
+use Rattle.cedar_laws.proofs.Scanned.{scans_concat}
 use Rattle.cedar_grammar.proofs.AcceptedKinds.{kinds_of}
 use Rattle.cedar_pieces.specs.Pieces.{IsPiece, HasNoPiece, is_semicolon}
 use Rattle.cedar_pieces.proofs.Prefixes.{concat_length, units_of}
@@ -30,7 +30,7 @@ use Rattle.cedar_pieces.proofs.Lists.{scanned_front, piece_units}
 use Rattle.cedar_pieces.proofs.Sequences.{list_parts, lists_join, no_semicolon}
 
 -- Tokens of units.
-semicolon_token : is_token (codes ";") ≡ true
+pub semicolon_token : is_token (codes ";") ≡ true
 unfolding slots punctuators keywords
 semicolon_token = refl
 
@@ -40,7 +40,7 @@ tokens_join us vs = filter-append is_token us vs
 tokens_one : (u : List ℕ) (us : List (List ℕ)) → is_token u ≡ true → only_tokens (u ∷ us) ≡ u ∷ only_tokens us
 tokens_one u us h = rw h refl
 
-tokens_cut : (us : List (List ℕ)) (t : List ℕ) (vs : List (List ℕ)) → is_token t ≡ true → only_tokens (us ++ (t ∷ vs)) ≡ only_tokens us ++ (t ∷ only_tokens vs)
+pub tokens_cut : (us : List (List ℕ)) (t : List ℕ) (vs : List (List ℕ)) → is_token t ≡ true → only_tokens (us ++ (t ∷ vs)) ≡ only_tokens us ++ (t ∷ only_tokens vs)
 tokens_cut us t vs h = tokens_join us (t ∷ vs) ∙ ap (λ z. only_tokens us ++ z) (tokens_one t vs h)
 
 -- units that are no tokens have none
@@ -94,7 +94,7 @@ no_kind (u ∷ us) h =
     go x y false = y
 
 -- Numbers of units.
-fit_parts : (us vs : List (List ℕ)) → list_any is_too_large (us ++ vs) ≡ false → (list_any is_too_large us ≡ false) × (list_any is_too_large vs ≡ false)
+pub fit_parts : (us vs : List (List ℕ)) → list_any is_too_large (us ++ vs) ≡ false → (list_any is_too_large us ≡ false) × (list_any is_too_large vs ≡ false)
 fit_parts us vs h =
     let e : (list_any is_too_large us || list_any is_too_large vs) ≡ false = sym (list_any-append is_too_large us vs) ∙ h in
     (or_left (list_any is_too_large us) (list_any is_too_large vs) e, or_right (list_any is_too_large us) (list_any is_too_large vs) e)

@@ -3,7 +3,7 @@ use Rattle.std.proofs.Common.{◌≡◌, ℕ, ◌+◌, List, ◌∷◌, ◌++◌
 use Rattle.std.specs.Prelude.{codes}
 use Rattle.std.proofs.lemmas.List.{drop-drop}
 use Rattle.std.proofs.lemmas.List.Sums.{sum_by-append}
-use Rattle.cedar_text_laws.proofs.Scanned.{scans_append}
+use Rattle.cedar_laws.proofs.Scanned.{scans_append}
 use Rattle.cedar_pieces.specs.Pieces.{IsPiece}
 
 -- a piece, and a piece of what follows it, are a piece together

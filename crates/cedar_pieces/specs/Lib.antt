@@ -1,2 +1,3 @@
+pub mod SameTokens
 pub mod Pieces
 pub mod Inside

@@ -1,5 +1,5 @@
-//! The pieces of a text: each goes through a `;` and the rest of its line. A text's tokens, its policies and its layout are
-//! those of its pieces, one after the other.
+//! The pieces of a text, one for each policy, and whether a text has given tokens.
 #![tactic(auto)]
 
+pub mod check;
 pub mod pieces;

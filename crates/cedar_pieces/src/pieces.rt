@@ -1,41 +1,66 @@
-//! Where the first piece of a text ends.
-ghost use Rattle.std.specs.Prelude.{◌≡◌, ◌≤◌, ◌<◌, length, MatchOption, IfSome};
+//! The first piece of a text and its lexemes, in one reading.
+ghost use Rattle.std.specs.Prelude.{◌≡◌, ◌≤◌, ◌<◌, length, take, MatchOption, IfSome, IfOk};
 ghost use Rattle.std.specs.Str.{IsCharBoundary};
+ghost use Rattle.cedar_parser_steps.specs.Tokens.{HasTokens};
+ghost use Rattle.cedar_parser_steps.specs.Inside.Lexemes.{AreLexemes};
 ghost use Rattle.cedar_pieces.specs.Pieces.{IsFirstPiece, HasNoPiece};
-ghost use Rattle.cedar_pieces.specs.Inside.Steps.{EndsInSemicolon, EndsLine};
+ghost use Rattle.cedar_pieces.specs.Inside.Steps.{EndsLine, LexesToSemicolon};
 
-use cedar_tokens::lexer::{UnitKind, first_unit};
+use cedar_grammar::kind::kind_of;
+use cedar_parser_steps::lexeme::Lexeme;
+use cedar_tokens::lexer::UnitKind;
+use cedar_tokens::token::Span;
+use cedar_tokens::units::Units;
+use std::alloc::AllocError;
 
-/// The bytes of the first piece of `text`: through its first `;` and the rest of that line, the line feed too. What stands
-/// behind the `;` on its line belongs to it, up to the next token. `None` where no `;` stands before the end of `text` or the
-/// first place where no unit begins.
-pub fn first_piece(text: &str) -> Option<usize>
-    ensures piece { MatchOption result (HasNoPiece text.now) (IsFirstPiece text.now) }
-    ensures boundary { IfSome result (λ n. IsCharBoundary text.now n) }
-    ensures nonempty { IfSome result (λ n. 0 < n) }
-    ensures within { IfSome result (λ n. n ≤ length text.now) }
+/// The bytes of the first piece of `text`, and in `lexemes` the piece's lexemes. A piece goes through its first `;` and the rest of
+/// that line, the line feed too, up to the next token. Where there is none, the answer is `None`, and the lexemes are those of the
+/// whole text. What `lexemes` held before is dropped, and its room is used again.
+pub fn read_piece<'src>(
+    text: &'src str,
+    lexemes: &mut Vec<Lexeme<'src>>,
+) -> Result<Option<usize>, AllocError>
+    requires { HasTokens text.now }
+    ensures piece { IfOk result (λ len. MatchOption len (HasNoPiece text.now) (IsFirstPiece text.now)) }
+    ensures lexemes { IfOk result (λ len. MatchOption len (AreLexemes text.now lexemes.new.items) (λ n. AreLexemes (take n text.now) lexemes.new.items)) }
+    ensures boundary { IfOk result (λ len. IfSome len (λ n. IsCharBoundary text.now n)) }
+    ensures nonempty { IfOk result (λ len. IfSome len (λ n. 0 < n)) }
+    ensures within { IfOk result (λ len. IfSome len (λ n. n ≤ length text.now)) }
 {
-    let end = semicolon_end(text)?;
-    Some(end + rest_of_line(&text[end..]))
+    let Some(end) = lex_to_semicolon(text, lexemes)? else {
+        return Ok(None);
+    };
+    Ok(Some(end + rest_of_line(&text[end..])))
 }
 
-// The bytes through the first `;`.
-fn semicolon_end(text: &str) -> Option<usize>
-    ensures semicolon { MatchOption result (HasNoPiece text.now) (EndsInSemicolon text.now) }
-    ensures boundary { IfSome result (λ n. IsCharBoundary text.now n) }
-    ensures nonempty { IfSome result (λ n. 0 < n) }
-    ensures within { IfSome result (λ n. n ≤ length text.now) }
+// The bytes through the first `;`, and the lexemes up to there; where there is none, all lexemes.
+fn lex_to_semicolon<'src>(
+    text: &'src str,
+    lexemes: &mut Vec<Lexeme<'src>>,
+) -> Result<Option<usize>, AllocError>
+    requires { HasTokens text.now }
+    ensures none { IfOk result (λ end. MatchOption end (HasNoPiece text.now) (λ n. 0 < n)) }
+    ensures lexemes { IfOk result (λ end. MatchOption end (AreLexemes text.now lexemes.new.items) (λ n. LexesToSemicolon text.now n lexemes.new.items)) }
+    ensures boundary { IfOk result (λ end. IfSome end (λ n. IsCharBoundary text.now n)) }
+    ensures within { IfOk result (λ end. IfSome end (λ n. n ≤ length text.now)) }
 {
-    let mut at = 0;
-    'units: while at < text.len() {
-        let (_, len) = first_unit(&text[at..])?;
-        let end = at + len;
-        if &text[at..end] == ";" {
-            return Some(end);
+    lexemes.clear();
+    let mut end = 0;
+    for unit in Units::new(text) {
+        let start = end;
+        end += unit.text.len();
+        if unit.kind == UnitKind::Token {
+            lexemes.push(Lexeme {
+                kind: kind_of(unit.text),
+                text: unit.text,
+                span: Span { start, end },
+            })?;
+            if unit.text == ";" {
+                return Ok(Some(end));
+            }
         }
-        at = end;
     }
-    None
+    Ok(None)
 }
 
 // The bytes of blanks and comments at the start of `text`, through the first line feed.
@@ -44,19 +69,15 @@ fn rest_of_line(text: &str) -> usize
     ensures boundary { IsCharBoundary text.now result }
     ensures within { result ≤ length text.now }
 {
-    let mut at = 0;
-    'units: while at < text.len() {
-        let Some((kind, len)) = first_unit(&text[at..]) else {
-            return at;
-        };
-        if kind == UnitKind::Token {
-            return at;
-        }
-        let end = at + len;
-        if &text[at..end] == "\n" {
+    let mut end = 0;
+    for unit in Units::new(text) {
+        if unit.kind == UnitKind::Token {
             return end;
         }
-        at = end;
+        end += unit.text.len();
+        if unit.text == "\n" {
+            return end;
+        }
     }
-    at
+    end
 }

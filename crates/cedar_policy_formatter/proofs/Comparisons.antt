@@ -3,7 +3,7 @@ use Rattle.std.proofs.Common.{◌≡◌, ℕ, ℤ, List, Bool, ap, ◌∙◌, su
 use Rattle.std.specs.Prelude.{IsTrue, ◌↔◌}
 use Rattle.std.specs.Str.{IsUtf8}
 use Rattle.cedar_tokens.specs.Listing.{ListingIsUnique, by_value}
-use Rattle.cedar_canonical.specs.Canonical.{IsOutputOf, OutputsTellLists, plain_listing}
+use Rattle.cedar_laws.specs.Canonical.{IsOutputOf, OutputsTellLists, plain_listing}
 use Rattle.cedar_policy_formatter.specs.Compared.{HaveEqualLists}
 
 module _ (tell : OutputsTellLists) (unique : ListingIsUnique) (w : ℕ) (i : ℤ) where

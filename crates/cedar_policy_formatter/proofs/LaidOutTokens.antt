@@ -1,6 +1,5 @@
 -- A text's output has the tokens of its plain list, so the last check never fails.
-use Rattle.std.proofs.Common.{◌≡◌, ℕ, ℤ, List, Result, Ok, Err, map, refl, sym, ap, ◌∙◌, subst}
-use Rattle.std.specs.Prelude.{MatchResult, IfOk}
+use Rattle.std.proofs.Common.{◌≡◌, ℕ, ℤ, List, map, refl, sym, ap, ◌∙◌}
 use Rattle.std.specs.Str.{IsUtf8}
 use Rattle.cedar_tokens.specs.Listing.{Decorated, Listing, IsListing, listing, token_value}
 use Rattle.cedar_tokens.specs.Tokens.{bare, decorated, token_text}
@@ -9,17 +8,13 @@ use Rattle.cedar_tokens.specs.declared.token.Token.{Token}
 use Rattle.cedar_tokens.specs.declared.token.Span.{Span}
 use Rattle.cedar_tokens.specs.declared.token.WrappedToken.{WrappedToken}
 use Rattle.cedar_tokens.proofs.Scanning.{listing_unique}
-use Rattle.cedar_grammar.specs.Texts.{Accepted}
 use Rattle.cedar_grammar.proofs.ListingTexts.{listing_texts}
 use Rattle.cedar_grammar.proofs.Relabelling.{map_map}
-use Rattle.cedar_tree.specs.Refusals.{OutOfMemoryOr, Refuses}
-use Rattle.cedar_tree.specs.declared.error.FormatError.{FormatError}
-use Rattle.cedar_leaf_documents.specs.Kept.{KeepsTokens}
-use Rattle.cedar_leaf_documents.proofs.Keeping.{kept_bare}
-use Rattle.cedar_same_tokens.specs.SameTokens.{HasTheTokens, value_of}
-use Rattle.cedar_canonical.specs.Canonical.{IsOutputOf, OutputHasTheList, OutputIsAccepted}
+use Rattle.cedar_document_rows.specs.Kept.{KeepsTokens}
+use Rattle.cedar_document_rows.proofs.Keeping.{kept_bare}
+use Rattle.cedar_pieces.specs.SameTokens.{HasTheTokens, value_of}
+use Rattle.cedar_laws.specs.Canonical.{IsOutputOf, OutputHasTheList, OutputIsAccepted}
 use Rattle.cedar_policy_formatter.specs.Texts.{plain_values}
-use Rattle.cedar_policy_formatter.specs.Refused.{IsMemory}
 use Rattle.cedar_policy_formatter.specs.Inside.Written.{IsPlainStream}
 use Rattle.cedar_policy_formatter.proofs.SamePolicies.{listed_values}
 
@@ -31,8 +26,8 @@ kept_values : (old new : List WrappedToken) → KeepsTokens old new → map valu
 kept_values old new k = bare_values old ∙ ap (map (λ (b : Token × Span). token_value (token_text b.0))) (sym (kept_bare old new k)) ∙ sym (bare_values new)
 
 -- the values of a stream without trailing commas are those of the plain list
-stream_values : (text : List ℕ) (ws : List WrappedToken) (closing : List (List ℕ)) (l : Listing) → IsListing text l → IsPlainStream text ws closing → plain_values l ≡ map value_of ws
-stream_values text ws closing l is_l s =
+stream_values : (text : List ℕ) (ws : List WrappedToken) (l : Listing) → IsListing text l → IsPlainStream text ws → plain_values l ≡ map value_of ws
+stream_values text ws l is_l s =
     let value : Decorated → List ℕ = λ d. token_value d.text in
     ap plain_values (listing_unique text l s.list is_l s.is_list)
     ∙ ap (λ z. map value (plain_list z)) s.listed
@@ -40,9 +35,9 @@ stream_values text ws closing l is_l s =
     ∙ map_map value decorated ws
 
 -- the output has the tokens of the text's stream
-pub has_them : OutputHasTheList → OutputIsAccepted → (w : ℕ) (i : ℤ) (x y : List ℕ) (old new : List WrappedToken) (closing : List (List ℕ))
-    → IsUtf8 x → IsOutputOf w i x y → IsPlainStream x old closing → KeepsTokens old new → HasTheTokens y new
-has_them has_list is_accepted w i x y old new closing utf8 o s k =
+pub has_them : OutputHasTheList → OutputIsAccepted → (w : ℕ) (i : ℤ) (x y : List ℕ) (old new : List WrappedToken)
+    → IsUtf8 x → IsOutputOf w i x y → IsPlainStream x old → KeepsTokens old new → HasTheTokens y new
+has_them has_list is_accepted w i x y old new utf8 o s k =
     let b = (is_accepted w i x y utf8 o).1 in
     let m = listing b.units in
     let is_m : IsListing y m = record { units = b.units; split = b.split; value = refl } in
@@ -51,14 +46,5 @@ has_them has_list is_accepted w i x y old new closing utf8 o s k =
       split = b.split;
       same = ap (map token_value) (sym (listing_texts b.units)) ∙ map_map token_value (λ (d : Decorated). d.text) m.tokens
           ∙ listed_values has_list w i x y utf8 o m is_m
-          ∙ stream_values x old closing o.list o.is_list s ∙ kept_values old new k;
+          ∙ stream_values x old o.list o.is_list s ∙ kept_values old new k;
     }
-
--- what is answered where an accepted text is laid out
-pub laid_out_answers : {A : Type 0} (P : A → Type 0) (x : List ℕ) (r : Result A FormatError) → Accepted x → MatchResult r P IsMemory → MatchResult r (λ _. Accepted x) (OutOfMemoryOr (Refuses x))
-laid_out_answers P x (Ok out) a m = a
-laid_out_answers P x (Err e) a m = subst (OutOfMemoryOr (Refuses x)) (sym m) tt
-
-pub laid_out_bytes : {A : Type 0} (P : A → Type 0) (r : Result A FormatError) → MatchResult r P IsMemory → IfOk r P
-laid_out_bytes P (Ok out) m = m
-laid_out_bytes P (Err e) m = tt

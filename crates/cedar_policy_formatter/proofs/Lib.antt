@@ -1,3 +1,4 @@
+mod PlaceLaws
 pub mod Checked
 pub mod Outputs
 pub mod Comparisons

@@ -27,8 +27,8 @@ use Rattle.cedar_grammar.proofs.ListingTexts.{listing_texts}
 use Rattle.cedar_tree.specs.Erased.{erase, Erased, without_spans}
 use Rattle.cedar_tree.specs.NodeTrees.{IsTreeOf, is_node, span_of, spanned}
 use Rattle.cedar_tree.specs.Laws.{NodesHaveThePlainTexts}
-use Rattle.cedar_canonical.specs.Canonical.{OutputHasTheList, OutputIsAccepted}
-use Rattle.cedar_canonical.proofs.Grammatical.{value_kind}
+use Rattle.cedar_laws.specs.Canonical.{OutputHasTheList, OutputIsAccepted}
+use Rattle.cedar_laws.proofs.Grammatical.{value_kind}
 use Rattle.cedar_policy_formatter.specs.Texts.{HasNodes, KeptPoliciesHaveTheSameTokens, plain_values}
 use Rattle.cedar_policy_formatter.specs.OutputPolicies.{OutputsKeepThePolicies, OutputsKeepTheTrees}
 use Rattle.cedar_policy_formatter.proofs.SamePolicies.{value_of, spanless, same_values, same_policies}

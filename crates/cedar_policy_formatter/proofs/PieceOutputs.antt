@@ -25,11 +25,11 @@ use Rattle.cedar_grammar.proofs.ReadingLaws.{join_assoc}
 use Rattle.cedar_grammar.proofs.TextKinds.{closing_agrees}
 use Rattle.cedar_grammar.proofs.TreeLaws.{typed_tree_is_unique, typed_leaves_agree}
 use Rattle.cedar_grammar.proofs.TypedPolicies.{typed_set}
-use Rattle.cedar_canonical.specs.Output.{paragraphs, closing_text, PolicyTexts, tokens_of}
-use Rattle.cedar_canonical.specs.GrammarTrees.{IsTree}
-use Rattle.cedar_canonical.specs.Canonical.{IsOutputOf}
-use Rattle.cedar_canonical.proofs.FittingTrees.{AllTokens}
-use Rattle.cedar_canonical.proofs.Grammatical.{trees_of, leaves_of, grammar_of}
+use Rattle.cedar_laws.specs.Output.{paragraphs, closing_text, PolicyTexts, tokens_of}
+use Rattle.cedar_laws.specs.GrammarTrees.{IsTree}
+use Rattle.cedar_laws.specs.Canonical.{IsOutputOf}
+use Rattle.cedar_laws.proofs.FittingTrees.{AllTokens}
+use Rattle.cedar_laws.proofs.Grammatical.{trees_of, leaves_of, grammar_of}
 use Rattle.cedar_pieces.specs.Pieces.{IsPiece}
 use Rattle.cedar_pieces.proofs.Lists.{lists_follow, piece_ends, begins_trailing, plain_follow, plain_begins, plain_empty, comments_alone}
 

@@ -19,8 +19,8 @@ use Rattle.cedar_tree.specs.Erased.{erase, without_spans, SameTree}
 use Rattle.cedar_tree.specs.Laws.{NodesHaveThePlainTexts}
 use Rattle.cedar_tree.specs.NodeTrees.{IsTreeOf, spanned}
 use Rattle.cedar_tree.specs.declared.tree.Policies.{Policies}
-use Rattle.cedar_canonical.specs.Canonical.{IsOutputOf, OutputHasTheList}
-use Rattle.cedar_canonical.proofs.Grammatical.{value_kind}
+use Rattle.cedar_laws.specs.Canonical.{IsOutputOf, OutputHasTheList}
+use Rattle.cedar_laws.proofs.Grammatical.{value_kind}
 use Rattle.cedar_policy_formatter.specs.Texts.{plain_values}
 use Rattle.cedar_policy_formatter.proofs.Checked.{leaves_without_spans}
 

@@ -1,7 +1,7 @@
 -- What comparing texts tells.
 use Rattle.std.specs.Prelude.{ℕ, List}
 use Rattle.cedar_tokens.specs.Listing.{Listing, IsListing, EqualByValue}
-use Rattle.cedar_canonical.specs.Canonical.{plain_listing}
+use Rattle.cedar_laws.specs.Canonical.{plain_listing}
 
 -- the texts' decorated lists without trailing commas are equal by value
 abbrev pub HaveEqualLists : List ℕ → List ℕ → Type 0

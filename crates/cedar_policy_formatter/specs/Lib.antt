@@ -1,3 +1,4 @@
+pub mod Places
 pub mod Refused
 pub mod Texts
 pub mod Devices

@@ -8,7 +8,7 @@ use Rattle.cedar_streams.specs.declared.reading.ReadFault.TheVariants as without
 use Rattle.cedar_grammar.specs.Texts.{Accepted}
 use Rattle.cedar_tree.specs.Refusals.{OutOfMemoryOr, Refuses}
 use Rattle.cedar_tree.specs.declared.error.FormatError.TheVariants.{OutOfMemory}
-use Rattle.cedar_canonical.specs.Canonical.{IsOutputOf}
+use Rattle.cedar_laws.specs.Canonical.{IsOutputOf}
 use Rattle.cedar_policy_formatter.specs.declared.fmt.stream.RunFault.{RunFault}
 use Rattle.cedar_policy_formatter.specs.declared.fmt.stream.RunFault.TheVariants.{Read, NotUtf8, Format, Write}
 

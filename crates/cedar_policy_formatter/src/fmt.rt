@@ -1,28 +1,29 @@
 //! Formatting of whole texts.
-ghost use Rattle.std.specs.Prelude.{◌≡◌, ◌≤◌, ◌-◌, ◌↔◌, IsTrue, ◌++◌, List, map, IfOk, OnOk, MatchResult, string_bytes};
-ghost use Rattle.std.specs.List.{flat_map};
-ghost use Rattle.cedar_tokens.specs.Split.{Splits};
+ghost use Rattle.std.specs.Prelude.{◌≡◌, ◌↔◌, IsTrue, ◌++◌, ℕ, List, [], ◌∷◌, length, map, IfOk, OnOk, MatchResult, string_bytes, if◌then◌else◌};
+ghost use Rattle.cedar_tokens.specs.Bytes.{line_feed};
 ghost use Rattle.cedar_tokens.specs.Tokens.{comments_left};
 ghost use Rattle.cedar_tree.specs.Erased as erased;
-ghost use Rattle.cedar_tree.specs.NodeTrees.{IsTreeOf};
-ghost use Rattle.cedar_grammar.specs.Texts.{Accepted};
-ghost use Rattle.cedar_grammar.specs.TypedTrees.{Clause, part_yield, policy_trees};
-ghost use Rattle.cedar_grammar.specs.TypedTrees as kind;
-ghost use Rattle.cedar_layout.specs.Lookups.{AreInOrder, Shown, emptied, shown};
-ghost use Rattle.cedar_canonical.specs.Canonical.{IsOutputOf};
-ghost use Rattle.cedar_leaf_documents.specs.NodeDocuments.{IsAt, kind_of_shown, nodes_of};
-ghost use Rattle.cedar_policy_documents.specs.PartDocuments.{IsPartOf};
-ghost use Rattle.cedar_canonical.specs.Output.{closing_text};
-ghost use Rattle.cedar_policy_formatter.specs.Compared.{HaveEqualLists};
-ghost use Rattle.cedar_policy_formatter.specs.Inside.Written.{IsPolicyText, AreJoined, IsParted, IsPlainStream, behind_feed};
-ghost use Rattle.cedar_leaf_documents.specs.Kept.{KeepsTokens};
-ghost use Rattle.cedar_policy_formatter.specs.Refused.{IsMemory, RefusesOne};
-ghost use Rattle.cedar_policy_formatter.specs.Inside.Moved.{IsPlacedWithin, moved};
 ghost use Rattle.cedar_tree.specs.Refusals.{OutOfMemoryOr, Refuses};
+ghost use Rattle.cedar_grammar.specs.Texts.{Accepted};
+ghost use Rattle.cedar_grammar.specs.TypedTrees.{Clause, part_yield};
+ghost use Rattle.cedar_grammar.specs.TypedTrees as kind;
+ghost use Rattle.cedar_pieces.specs.Pieces.{IsPiece};
+ghost use Rattle.cedar_cst.specs.PolicyReaders.{IsPolicyOf, AreTokensOf};
+ghost use Rattle.cedar_layout.specs.Lookups.{AreInOrder, Shown, shown};
+ghost use Rattle.cedar_laws.specs.Canonical.{IsOutputOf};
+ghost use Rattle.cedar_laws.specs.Output.{closing_text};
+ghost use Rattle.cedar_document_rows.specs.Kept.{KeepsTokens};
+ghost use Rattle.cedar_document_rows.specs.NodeDocuments.{IsAt};
+ghost use Rattle.cedar_documents.specs.PartDocuments.{IsPartOf};
+ghost use Rattle.cedar_policy_formatter.specs.Compared.{HaveEqualLists};
+ghost use Rattle.cedar_policy_formatter.specs.Inside.Written.{IsPolicyText, IsPlainStream};
+ghost use Rattle.cedar_policy_formatter.specs.Refused.{IsMemory, RefusesOne};
 ghost use Rattle.cedar_policy_formatter.specs.Texts.{IsTextOf, FailsCheck};
 
 use cedar_cst::cst::laws::{accepted_is_not_refused, tree_is_of_accepted};
-use cedar_cst::cst::{FormatError, Node, Policies, Policy, parse_at_once, same_tree};
+use cedar_cst::cst::{
+    FormatError, Node, Policies, Policy, PolicyReader, parse_policies, same_tree,
+};
 use cedar_documents::config::{Config, Context};
 use cedar_documents::doc::Doc;
 pub use cedar_documents::laws::{
@@ -33,10 +34,8 @@ pub use cedar_documents::laws::{
 };
 use cedar_layout::layout::render;
 use cedar_layout::utils::remove_empty_lines;
-use cedar_pieces::pieces::first_piece;
-use cedar_reading::lexeme::check_tokens;
-use cedar_same_tokens::check::has_tokens;
-use cedar_tokens::lexer::{drop_trailing_commas, listing_is_unique, split_token_stream};
+use cedar_pieces::check::has_tokens;
+use cedar_tokens::lexer::{drop_trailing_commas, listing_is_unique};
 use cedar_tokens::token::{Comments, WrappedToken, get_comment};
 use std::alloc::{AllocError, Global};
 
@@ -60,68 +59,30 @@ pub fn policies_str_to_pretty(
     ensures answer { MatchResult result (λ _. Accepted ps.now) (OutOfMemoryOr (Refuses ps.now)) }
     ensures output { IfOk result (λ out. IsOutputOf config.now.line_width config.now.indent_width ps.now (string_bytes out)) }
 {
-    tree_is_of_accepted();
-    outputs_are_canonical();
-    check_tokens(ps)?;
+    let mut reader = PolicyReader::new(ps)?;
     let mut text = String::new(alloc);
-    let mut at = 0;
-    'pieces: while let Some(len) = first_piece(&ps[at..]) {
-        let end = at + len;
-        let layout = match format_piece(alloc, &ps[at..end], config) {
-            Ok(layout) => layout,
-            Err(refusal) => return Err(behind(at, end, refusal)),
-        };
-        push_layout(at > 0, layout.as_str(), &mut text)?;
-        at = end;
+    'pieces: while let Some(piece) = reader.next_piece(alloc)? {
+        let layout = lay_out(alloc, piece.text, piece.policy, piece.tokens, config)?;
+        push_feed(!text.is_empty(), &mut text)?;
+        text.push_str(layout.as_str())?;
     }
-    let rest = &ps[at..];
-    if let Err(refusal) = parse_at_once(alloc, rest) {
-        return Err(behind(at, ps.len(), refusal));
-    }
-    push_closing(at == 0, get_comment(rest), &mut text)?;
+    push_feed(text.is_empty(), &mut text)?;
+    push_closing(get_comment(reader.rest()), &mut text)?;
     Ok(text)
-}
-
-// The policies `ps`, laid out: all of them at once.
-fn format_piece(alloc: Global, ps: &str, config: &Config) -> Result<String, FormatError>
-    ensures answer { MatchResult result (λ _. Accepted ps.now) (OutOfMemoryOr (Refuses ps.now)) }
-    ensures output { IfOk result (λ out. IsOutputOf config.now.line_width config.now.indent_width ps.now (string_bytes out)) }
-{
-    tree_is_of_accepted();
-    let tree = parse_at_once(alloc, ps)?;
-    lay_out(alloc, ps, tree, config)
-}
-
-// The refusal of a text that stands from the byte `at` to the byte `end`, behind an accepted one.
-fn behind(at: usize, end: usize, refusal: FormatError) -> FormatError
-    requires order { at ≤ end }
-    requires place { IsPlacedWithin (end - at) refusal }
-    ensures { result ≡ moved at refusal }
-{
-    match refusal {
-        FormatError::Grammar { at: place } => FormatError::Grammar { at: at + place },
-        FormatError::TooDeep { at: place } => FormatError::TooDeep { at: at + place },
-        other => other,
-    }
-}
-
-// A layout behind others, with an empty line between them.
-fn push_layout(is_more: bool, layout: &str, text: &mut String) -> Result<(), AllocError>
-    ensures { OnOk result (string_bytes text.new ≡ string_bytes text.old ++ behind_feed is_more layout.now) }
-{
-    if is_more {
-        text.push('\n')?;
-    }
-    text.push_str(layout)
 }
 
 /// Whether `ps` is a text of these policies: it is accepted, and its tree is this one but for spans. `Unsound` is answered
 /// only where it isn't accepted or its tree is another one, and else there is only want of memory.
-pub fn soundness_check(alloc: Global, ps: &str, tree: &Policies<'_>) -> Result<(), FormatError>
+/// The text and the tree name one lifetime: a function that makes the text itself makes it before it parses the tree.
+pub fn soundness_check<'src>(
+    alloc: Global,
+    ps: &'src str,
+    tree: &Policies<'src>,
+) -> Result<(), FormatError>
     ensures { MatchResult result (λ _. IsTextOf ps.now tree.now) (FailsCheck ps.now tree.now) }
 {
     accepted_is_not_refused();
-    match parse_at_once(alloc, ps) {
+    match parse_policies(alloc, ps) {
         Ok(other) => {
             if same_tree(&other, tree) {
                 Ok(())
@@ -159,91 +120,55 @@ pub fn same_layout(alloc: Global, a: &str, b: &str, config: &Config) -> Result<b
     Ok(first.as_str() == second.as_str())
 }
 
-// The layout of a text with this tree, each policy of which is let go of before it is laid out. Last, the layout's tokens are
-// held against the text's.
+// The layout of a policy, with a line feed. Its tokens are held against those of the policy's text.
 fn lay_out<'src>(
     alloc: Global,
-    ps: &'src str,
-    tree: Policies<'src>,
+    text: &'src str,
+    policy: Node<Policy<'src>>,
+    tokens: Vec<WrappedToken<'src>>,
     config: &Config,
 ) -> Result<String, FormatError>
-    requires { IsTreeOf ps.now tree }
-    ensures { MatchResult result (λ out. IsOutputOf config.now.line_width config.now.indent_width ps.now (string_bytes out)) IsMemory }
+    requires piece { IsPiece text.now (length text.now) }
+    requires policy { IsPolicyOf text.now policy }
+    requires tokens { AreTokensOf text.now tokens.items }
+    ensures { MatchResult result (λ out. IsOutputOf config.now.line_width config.now.indent_width text.now (string_bytes out)) IsMemory }
 {
     tree_is_of_accepted();
     outputs_are_canonical();
-    let (tokens, closing) = plain_stream(alloc, ps)?;
+    let tokens = plain_tokens(alloc, tokens)?;
     let mut context = Context { config, tokens };
-    let mut text = joined_policies(alloc, tree, &mut context)?;
-    push_closing(true, closing, &mut text)?;
-    if has_tokens(text.as_str(), &context.tokens) {
-        Ok(text)
+    let mut layout = policy_text(alloc, policy, &mut context)?;
+    layout.push('\n')?;
+    if has_tokens(layout.as_str(), &context.tokens) {
+        Ok(layout)
     } else {
         Err(FormatError::Unsound)
     }
 }
 
-// The tokens of a text that splits, without trailing commas, and its closing comments.
-fn plain_stream<'src>(
+// The tokens of a text, without trailing commas.
+fn plain_tokens<'src>(
     alloc: Global,
-    ps: &'src str,
-) -> Result<(Vec<WrappedToken<'src>>, Comments<'src>), AllocError>
-    requires { Splits ps.now }
-    ensures order { IfOk result (λ p. AreInOrder p.0.items) }
-    ensures stream { IfOk result (λ p. IsPlainStream ps.now p.0.items (comments_left p.1)) }
+    mut tokens: Vec<WrappedToken<'src>>,
+) -> Result<Vec<WrappedToken<'src>>, AllocError>
+    requires { AreInOrder tokens.items }
+    ensures order { IfOk result (λ plain. AreInOrder plain.items) }
+    ensures stream { IfOk result (λ plain. (text : List ℕ) → AreTokensOf text tokens.entry.items → IsPlainStream text plain.items) }
 {
-    let (mut tokens, closing) = split_token_stream(alloc, ps)?;
     drop_trailing_commas(alloc, &mut tokens)?;
-    Ok((tokens, closing))
+    Ok(tokens)
 }
 
-// The layouts of the policies, with an empty line between them.
-#[tactic(auto, using(cedar_leaf_documents::proofs::Keeping::kept_on))]
-fn joined_policies<'src>(
-    alloc: Global,
-    tree: Policies<'src>,
-    context: &mut Context<'_, 'src>,
-) -> Result<String, FormatError>
-    requires { AreInOrder context.old.tokens.items }
-    ensures order { AreInOrder context.new.tokens.items }
-    ensures kept { KeepsTokens context.old.tokens.items context.new.tokens.items }
-    ensures config { context.new.config ≡ context.old.config }
-    ensures joined { (ps : List (Clause Shown kind.policy)) → erased.policy_trees tree.entry.policies.items ≡ nodes_of (policy_trees kind_of_shown ps) → map shown context.old.tokens.items ≡ flat_map part_yield ps
-        → MatchResult result (λ out. AreJoined context.old.config.now.line_width context.old.config.now.indent_width ps (string_bytes out)) IsMemory }
-{
-    let mut text = String::new(alloc);
-    let mut is_first = true;
-    for policy in tree.policies {
-        let layout = policy_text(alloc, policy, context)?;
-        push_gap(is_first, &mut text)?;
-        is_first = false;
-        text.push_str(layout.as_str())?;
-    }
-    Ok(text)
-}
-
-// An empty line, but before the first policy.
-fn push_gap(is_first: bool, text: &mut String) -> Result<(), AllocError>
-    ensures { OnOk result (IsParted is_first (string_bytes text.old) (string_bytes text.new)) }
-{
-    if !is_first {
-        text.push_str("\n\n")?;
-    }
-    Ok(())
-}
-
-// The layout of one policy, without empty lines. The policy is let go of before its document is laid out.
+// The layout of a policy over its own tokens, without empty lines. The policy is dropped before its document is laid out.
 fn policy_text<'src>(
     alloc: Global,
     policy: Node<Policy<'src>>,
     context: &mut Context<'_, 'src>,
 ) -> Result<String, FormatError>
     requires { AreInOrder context.old.tokens.items }
-    ensures order { AreInOrder context.new.tokens.items }
     ensures kept { KeepsTokens context.old.tokens.items context.new.tokens.items }
-    ensures config { context.new.config ≡ context.old.config }
-    ensures text { (p : Clause Shown kind.policy) → IsAt policy.entry.span (part_yield p) → IsPartOf (erased.policy_parts policy.entry.inner) p → (before after : List Shown) → map shown context.old.tokens.items ≡ before ++ (part_yield p ++ after)
-        → MatchResult result (λ out. IsPolicyText context.old.config.now.line_width context.old.config.now.indent_width p (string_bytes out) × (map shown context.new.tokens.items ≡ (before ++ map emptied (part_yield p)) ++ after)) IsMemory }
+    ensures text { (p : Clause Shown kind.policy) → IsAt policy.entry.span (part_yield p) → IsPartOf (erased.policy_parts policy.entry.inner) p → map shown context.old.tokens.items ≡ part_yield p
+        → MatchResult result (λ out. IsPolicyText context.old.config.now.line_width context.old.config.now.indent_width p (string_bytes out)) IsMemory }
 {
     let width = context.config.line_width;
     let made = policy.to_doc(alloc, context);
@@ -256,13 +181,20 @@ fn policy_text<'src>(
     Ok(remove_empty_lines(alloc, layout.as_str())?)
 }
 
-// Each closing comment with a line feed, behind one where they stand first.
-fn push_closing(is_first: bool, closing: Comments<'_>, text: &mut String) -> Result<(), AllocError>
-    ensures { OnOk result (string_bytes text.new ≡ string_bytes text.old ++ behind_feed is_first (closing_text (comments_left closing.entry))) }
+// A line feed, where one is wanted.
+fn push_feed(is_wanted: bool, text: &mut String) -> Result<(), AllocError>
+    ensures { OnOk result (string_bytes text.new ≡ string_bytes text.old ++ (if is_wanted then line_feed ∷ [] else [])) }
 {
-    if is_first {
+    if is_wanted {
         text.push('\n')?;
     }
+    Ok(())
+}
+
+// Each closing comment with a line feed.
+fn push_closing(closing: Comments<'_>, text: &mut String) -> Result<(), AllocError>
+    ensures { OnOk result (string_bytes text.new ≡ string_bytes text.old ++ closing_text (comments_left closing.entry)) }
+{
     for comment in closing {
         text.push_str(comment)?;
         text.push('\n')?;

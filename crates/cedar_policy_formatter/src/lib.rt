@@ -6,16 +6,19 @@
 
 pub mod fmt;
 pub mod laws;
+mod lookup;
+mod places;
 
 pub use cedar_cst::cst;
 pub use cedar_cst::cst::FormatError;
 pub use cedar_documents::config::{Config, Context};
 pub use cedar_documents::{config, doc};
 pub use cedar_layout::{layout, utils};
-pub use cedar_places::{Place, place};
 pub use cedar_tokens::{lexer, token};
 pub use fmt::{
     ReadFault, RunFault, Watched, check_stream, every_layout_reads_back, format_stream,
     is_formatted, kept_policies_have_the_same_tokens, outputs_keep_the_policies,
     policies_str_to_pretty, read_text, same_layout, soundness_check,
 };
+pub use lookup::place;
+pub use places::Place;

@@ -31,17 +31,17 @@ collected_none text tokens r e s h =
     let p : AreTokenSpans text (token_spans 0 s.0) = record { units = s.0; split = s.1; value = refl } in
     rw e (record { rest = listing s.0; spans = token_spans 0 s.0; has = h (listing s.0) (token_spans 0 s.0) l p; list = l; places = p; stand = tt })
 
-all_push : (P : WrappedToken → Type 0) (ws : List WrappedToken) (x : WrappedToken) → AllByRecursion P ws → P x → AllByRecursion P (ws ++ x ∷ [])
+pub all_push : (P : WrappedToken → Type 0) (ws : List WrappedToken) (x : WrappedToken) → AllByRecursion P ws → P x → AllByRecursion P (ws ++ x ∷ [])
 all_push P [] x h k = (k, tt)
 all_push P (w ∷ ws) x h k = (h.0, all_push P ws x h.1 k)
 
-list_more : (text : List ℕ) (tokens : List WrappedToken) (w : WrappedToken) (l others : Listing) → l ≡ record { tokens = decorated w ∷ others.tokens; closing = others.closing }
+pub list_more : (text : List ℕ) (tokens : List WrappedToken) (w : WrappedToken) (l others : Listing) → l ≡ record { tokens = decorated w ∷ others.tokens; closing = others.closing }
     → IsListing text (record { tokens = map decorated tokens ++ l.tokens; closing = l.closing }) → IsListing text (record { tokens = map decorated (tokens ++ w ∷ []) ++ others.tokens; closing = others.closing })
 list_more text tokens w l others e h =
     let front : map decorated tokens ++ decorated w ∷ others.tokens ≡ map decorated (tokens ++ w ∷ []) ++ others.tokens = rw (map-append, append_assoc) refl in
     rw front at (rw e at h)
 
-places_more : (text : List ℕ) (tokens : List WrappedToken) (w : WrappedToken) (spans places : List Span) → spans ≡ w.span ∷ places → AreTokenSpans text (spans_of tokens ++ spans) → AreTokenSpans text (spans_of (tokens ++ w ∷ []) ++ places)
+pub places_more : (text : List ℕ) (tokens : List WrappedToken) (w : WrappedToken) (spans places : List Span) → spans ≡ w.span ∷ places → AreTokenSpans text (spans_of tokens ++ spans) → AreTokenSpans text (spans_of (tokens ++ w ∷ []) ++ places)
 places_more text tokens w spans places e h =
     let front : spans_of tokens ++ w.span ∷ places ≡ spans_of (tokens ++ w ∷ []) ++ places = rw (map-append, append_assoc) refl in
     rw front at (rw e at h)
@@ -59,7 +59,7 @@ collected_more text tokens more r after w c f e =
     })
 
 -- where no token is left
-list_all : (text : List ℕ) (tokens : List WrappedToken) (l : Listing) (closing : List (List ℕ)) → l.tokens ≡ [] → closing ≡ l.closing → IsListing text (record { tokens = map decorated tokens ++ l.tokens; closing = l.closing }) → IsListing text (record { tokens = map decorated tokens; closing = closing })
+pub list_all : (text : List ℕ) (tokens : List WrappedToken) (l : Listing) (closing : List (List ℕ)) → l.tokens ≡ [] → closing ≡ l.closing → IsListing text (record { tokens = map decorated tokens ++ l.tokens; closing = l.closing }) → IsListing text (record { tokens = map decorated tokens; closing = closing })
 list_all text tokens l closing e k h =
     let front : map decorated tokens ++ l.tokens ≡ map decorated tokens = ap (λ v. map decorated tokens ++ v) e ∙ append-nil (map decorated tokens) in
     rw k (rw front at h)
@@ -68,7 +68,7 @@ pub collected_list : (text : List ℕ) (tokens : List WrappedToken) (r : TokenRe
     → ((l : Listing) (spans : List Span) → HasLeft text r l spans → closing ≡ l.closing) → IsListing text (record { tokens = map decorated tokens; closing = closing })
 collected_list text tokens r closing c none last = list_all text tokens c.rest closing (none c.rest c.spans c.has).0 (last c.rest c.spans c.has) c.list
 
-places_all : (text : List ℕ) (tokens : List WrappedToken) (spans : List Span) → spans ≡ [] → AreTokenSpans text (spans_of tokens ++ spans) → AreTokenSpans text (spans_of tokens)
+pub places_all : (text : List ℕ) (tokens : List WrappedToken) (spans : List Span) → spans ≡ [] → AreTokenSpans text (spans_of tokens ++ spans) → AreTokenSpans text (spans_of tokens)
 places_all text tokens spans e h =
     let front : spans_of tokens ++ spans ≡ spans_of tokens = ap (λ v. spans_of tokens ++ v) e ∙ append-nil (spans_of tokens) in
     rw front at h

@@ -6,7 +6,8 @@ use Rattle.cedar_tokens.specs.Units.{is_token, IsUnit}
 use Rattle.cedar_tokens.specs.Split.{SplitsInto}
 use Rattle.cedar_tokens.specs.Listing.{Listing, IsListing, gaps, decorate, listing, comments}
 use Rattle.cedar_tokens.specs.Places.{token_spans, AreTokenSpans}
-use Rattle.cedar_tokens.specs.Inside.FirstTokens.{IsGap, IsFirstToken, BeginsNoToken}
+use Rattle.cedar_tokens.specs.Inside.Gaps.{IsGap, BeginsNoToken}
+use Rattle.cedar_tokens.specs.Inside.FirstTokens.{IsFirstToken}
 use Rattle.cedar_tokens.specs.TokenReaders.{IsAhead}
 use Rattle.cedar_tokens.specs.declared.token.Span.{Span}
 use Rattle.cedar_tokens.specs.declared.readers.FirstToken.{FirstToken}
@@ -51,7 +52,7 @@ pub record Step (at : ℕ) (leading ahead : List ℕ) (t : FirstToken) (l : List
   pub places : List Span
   pub first : l ≡ record { tokens = record { text = t.text.now; leading = comments leading; trailing = trim t.trailing.now } ∷ others.tokens; closing = others.closing }
   pub place : spans ≡ record { start = at; end = at + length t.text.now } ∷ places
-  pub left : (j : ℕ) → j + length t.rest.now ≡ at + length ahead → IsAhead j t.leading.now t.rest.now others places
+  pub left : (j : ℕ) → j + length t.rest.text.now ≡ at + length ahead → IsAhead j t.leading.now t.rest.text.now others places
 
 step_units : (at : ℕ) (leading ahead : List ℕ) (t : FirstToken) (us : List (List ℕ)) → IsFirstToken ahead t → SplitsInto ahead (t.text.now ∷ us) → Step at leading ahead t (decorate leading (gaps (t.text.now ∷ us)).tokens) (token_spans at (t.text.now ∷ us))
 unfolding gaps decorate token_spans
@@ -59,7 +60,7 @@ step_units at leading ahead t us f s =
     let behind = drop (length t.text.now) ahead in
     let b = behind_gap behind f.n us f.gap s.1 in
     let fits = begins_fits ahead t.text.now f.unit.begins in
-    let size : length t.rest.now ≡ length ahead - length t.text.now - f.n = ap length f.rest ∙ length-drop f.n behind ∙ ap (λ i. i - f.n) (length-drop (length t.text.now) ahead) in
+    let size : length t.rest.text.now ≡ length ahead - length t.text.now - f.n = ap length f.rest ∙ length-drop f.n behind ∙ ap (λ i. i - f.n) (length-drop (length t.text.now) ahead) in
     let room : f.n ≤ length ahead - length t.text.now = rw (length-drop (length t.text.now) ahead) at f.gap.inside in
     record {
       others = decorate t.leading.now (gaps b.units).tokens;

@@ -1,46 +1,26 @@
 -- Gaps of a text, and what stands behind them.
-use Rattle.std.proofs.Common.{◌≡◌, ◌≢◌, ◌≤◌, ◌+◌, true, false, List, [], ◌∷◌, ◌++◌, ℕ, length, drop, take, Some, refl, sym, ap, ◌∙◌, arith}
-use Rattle.std.proofs.lemmas.Str.{IsCharBoundary-start}
-use Rattle.std.proofs.lemmas.List.{append_assoc, append-nil, append_cancel_right, drop-drop, take-append-drop, length-append, length-take-le}
-use Rattle.std.proofs.Math.Seq.{drop-append_seam}
+use Rattle.std.proofs.Common.{◌≡◌, ◌+◌, ◌<◌, true, false, List, [], ◌∷◌, ◌++◌, ℕ, length, drop, take, refl, sym, ap, ◌∙◌, arith}
+use Rattle.std.proofs.lemmas.List.{append_assoc, append-nil, append_cancel_right, take-append-drop, length-append, length-take-le}
 use Rattle.std.specs.List.{AllByRecursion}
-use Rattle.std.specs.Str.{IsCharBoundary, IsUtf8}
-use Rattle.cedar_tokens.specs.Units.{is_token, IsToken, IsUnit, FindsLongest, IsFirstUnit}
-use Rattle.cedar_tokens.specs.Split.{HasKind, Scans, SplitsInto}
+use Rattle.std.specs.Str.{IsUtf8}
+use Rattle.cedar_tokens.specs.Units.{token, is_token, IsToken, IsUnit, IsFirstUnit, BeginsNoUnit}
+use Rattle.cedar_tokens.specs.Split.{Scans, SplitsInto}
 use Rattle.cedar_tokens.specs.Listing.{gaps}
 use Rattle.cedar_tokens.specs.Inside.Newlines.{before_newline, after_newline}
 use Rattle.cedar_tokens.specs.Places.{token_spans}
-use Rattle.cedar_tokens.specs.Inside.FirstTokens.{IsGap, IsFirstToken, BeginsNoToken}
-use Rattle.cedar_tokens.specs.declared.lexer.UnitKind.{UnitKind}
-use Rattle.cedar_tokens.specs.declared.lexer.UnitKind.TheVariants.{Token}
+use Rattle.cedar_tokens.specs.Inside.Gaps.{IsGap, BeginsNoToken, BeginsToken}
+use Rattle.cedar_tokens.specs.Inside.FirstTokens.{IsFirstToken}
 use Rattle.cedar_tokens.specs.declared.readers.FirstToken.{FirstToken}
-use Rattle.cedar_tokens.proofs.Prefixes.{longest_unique, begins_fits}
-use Rattle.cedar_tokens.proofs.FirstUnit.{unit_nonempty}
-use Rattle.cedar_tokens.proofs.Scanning.{loop_step, scan_more}
-use Rattle.cedar_tokens.proofs.Streaming.{no_token}
+use Rattle.cedar_tokens.proofs.Prefixes.{longest_unique, begins_fits, begins_take, front_begins}
+use Rattle.cedar_tokens.proofs.FirstUnit.{unit_nonempty, unit_boundary}
+use Rattle.cedar_tokens.proofs.UnitsSoFar.{joined, joined_scan, EndsAt, scan_utf8}
 
 abbrev pub NoTokens : List (List ℕ) → Type 0
 NoTokens us = AllByRecursion (λ u. is_token u ≡ false) us
 
--- the text of these units
-abbrev pub joined : List (List ℕ) → List ℕ
-joined [] = []
-joined (u ∷ us) = u ++ joined us
-
 pub no_tokens_push : (us : List (List ℕ)) (u : List ℕ) → NoTokens us → is_token u ≡ false → NoTokens (us ++ u ∷ [])
 no_tokens_push [] u h e = (e, tt)
 no_tokens_push (v ∷ us) u h e = (h.0, no_tokens_push us u h.1 e)
-
--- behind the unit at the start
-pub behind_unit : (text u : List ℕ) → IsFirstUnit text u → text ≡ u ++ drop (length u) text
-behind_unit text u f =
-    let e : drop (length u) text ≡ f.begins.0 = rw f.begins.1 (drop-append_seam u f.begins.0) in
-    rw e f.begins.1
-
-pub joined_scan : (us : List (List ℕ)) (text rest : List ℕ) → Scans us text rest → text ≡ joined us ++ rest
-joined_scan [] text rest s = s
-joined_scan (u ∷ us) text rest s =
-    behind_unit text u s.0 ∙ ap (λ t. u ++ t) (joined_scan us (drop (length u) text) rest s.1) ∙ sym (append_assoc u (joined us) rest)
 
 -- a split goes on as the scan did
 pub split_after : (ws us : List (List ℕ)) (text rest : List ℕ) → Scans ws text rest → SplitsInto text us → (vs : List (List ℕ)) × (us ≡ ws ++ vs) × SplitsInto rest vs
@@ -102,55 +82,39 @@ behind_gap text n us g s =
     let more = split_after g.units us text (drop n text) g.scans s in
     behind_units text n us more.0 g more.1 more.2
 
--- the unit that was found is the one at the place
-pub found_unit : (rest : List ℕ) (n : ℕ) (u : List ℕ) → FindsLongest IsUnit rest (Some n) → IsFirstUnit rest u → u ≡ take n rest
-found_unit rest n u f g = longest_unique IsUnit rest u (take n rest) g f.1
+-- the units so far are the gap
+pub gap_end : (us : List (List ℕ)) (text rest : List ℕ) (at : ℕ) → EndsAt us text rest at → NoTokens us → ((u : List ℕ) → IsFirstUnit rest u → is_token u ≡ true) → IsGap text at
+gap_end us text rest at e n t = record { inside = e.inside; units = us; scans = e.scans; apart = n; token = rw e.left at t }
 
--- where the loop over a gap stands
-pub record GapSoFar (text : List ℕ) (at : ℕ) : Type 0 where
-  pub inside : at ≤ length text
-  pub boundary : IsCharBoundary text at
-  pub units : List (List ℕ)
-  pub scans : Scans units text (drop at text)
-  pub apart : NoTokens units
+-- the unit at the start is a token
+pub begins_token : (text t : List ℕ) → IsFirstUnit text t → IsToken t → (u : List ℕ) → IsFirstUnit text u → is_token u ≡ true
+begins_token text t f k u g = rw (longest_unique IsUnit text u t g f) k
 
-pub gap_start : (text : List ℕ) → IsUtf8 text → GapSoFar text 0
-gap_start text utf8 = record { inside = omega arith; boundary = IsCharBoundary-start text utf8; units = []; scans = refl; apart = tt }
+-- no unit begins after the units so far
+pub no_next : (us : List (List ℕ)) (text rest : List ℕ) (at : ℕ) → EndsAt us text rest at → BeginsNoUnit rest → BeginsNoToken (drop at text)
+no_next us text rest at e none = let h : BeginsNoToken rest = λ u f. absurd (none u f.kind f.begins) in rw e.left at h
 
-pub gap_more : (text rest : List ℕ) (at n : ℕ) (kind : UnitKind) → GapSoFar text at → rest ≡ drop at text → FindsLongest IsUnit rest (Some n) → IsCharBoundary rest n → HasKind kind (take n rest) → kind ≢ Token → GapSoFar text (at + n)
-gap_more text rest at n kind g e f b k m =
-    let s = loop_step text rest at n e g.inside f b (g.units, g.scans) in
-    let h : FindsLongest IsUnit (drop at text) (Some n) = rw e at f in
-    let size = length-take-le n (drop at text) h.0 in
-    record {
-      inside = s.0;
-      boundary = s.1;
-      units = g.units ++ take n (drop at text) ∷ [];
-      scans = rw (sym (drop-drop n at text)) (rw size at (scan_more g.units text (drop at text) (take n (drop at text)) g.scans h.1));
-      apart = no_tokens_push g.units (take n (drop at text)) g.apart (no_token kind (take n (drop at text)) (rw e at k) m);
-    }
+-- or a token does
+pub next_token : (us : List (List ℕ)) (text rest u : List ℕ) (at : ℕ) → IsUtf8 text → EndsAt us text rest at → IsFirstUnit rest u → IsToken u → BeginsToken (drop at text) (length u)
+next_token us text rest u at utf8 e f k =
+    let g : IsFirstUnit (drop at text) u = rw e.left at f in
+    (rw (begins_take (drop at text) u g.begins) at k, unit_boundary (drop at text) u (scan_utf8 us text (drop at text) utf8 e.scans) g, g.longest)
 
-gap_end : (text : List ℕ) (at : ℕ) → GapSoFar text at → ((u : List ℕ) → IsFirstUnit (drop at text) u → is_token u ≡ true) → IsGap text at
-gap_end text at g t = record { inside = g.inside; units = g.units; scans = g.scans; apart = g.apart; token = t }
+-- the token that is next is the unit there
+first_of : (text : List ℕ) (n : ℕ) → BeginsToken text n → IsFirstUnit text (take n text)
+first_of text n b = record { kind = token b.0; begins = front_begins text n; longest = λ v k g. rw (length-take-le n text b.1.0) (b.2 v k g) }
 
-pub gap_at_token : (text rest : List ℕ) (at n : ℕ) → GapSoFar text at → rest ≡ drop at text → FindsLongest IsUnit rest (Some n) → IsToken (take n rest) → IsGap text at
-gap_at_token text rest at n g e f k =
-    let h : FindsLongest IsUnit (drop at text) (Some n) = rw e at f in
-    let t : IsToken (take n (drop at text)) = rw e at k in
-    gap_end text at g (λ u w. rw (found_unit (drop at text) n u h w) t)
+pub token_length : (text : List ℕ) (n : ℕ) → BeginsToken text n → 0 < n
+token_length text n b = omega (arith, unit_nonempty (take n text) (token b.0), length-take-le n text b.1.0)
 
--- where a unit of another kind begins, no token does
-pub other_begins : (text : List ℕ) (n : ℕ) (kind : UnitKind) → FindsLongest IsUnit text (Some n) → HasKind kind (take n text) → kind ≢ Token → BeginsNoToken text
-other_begins text n kind f k m u g = rw (found_unit text n u f g) (no_token kind (take n text) k m)
-
-pub found_first : (text : List ℕ) (len n : ℕ) (t : FirstToken) (behind gap : List ℕ) → FindsLongest IsUnit text (Some len) → IsToken (take len text) → t.text.now ≡ take len text → behind ≡ drop len text
-    → IsGap behind n → gap ≡ take n behind → t.rest.now ≡ drop n behind → t.trailing.now ≡ before_newline gap → t.leading.now ≡ after_newline gap → IsFirstToken text t
-found_first text len n t behind gap f k e b g m r x y =
-    let size : length t.text.now ≡ len = ap length e ∙ length-take-le len text f.0 in
+pub found_first : (text : List ℕ) (len n : ℕ) (t : FirstToken) (behind gap : List ℕ) → BeginsToken text len → t.text.now ≡ take len text → behind ≡ drop len text
+    → IsGap behind n → gap ≡ take n behind → t.rest.text.now ≡ drop n behind → t.trailing.now ≡ before_newline gap → t.leading.now ≡ after_newline gap → IsFirstToken text t
+found_first text len n t behind gap k e b g m r x y =
+    let size : length t.text.now ≡ len = ap length e ∙ length-take-le len text k.1.0 in
     let same : behind ≡ drop (length t.text.now) text = b ∙ ap (λ i. drop i text) (sym size) in
     record {
-      unit = rw e f.1;
-      token = rw e k;
+      unit = rw e (first_of text len k);
+      token = rw e k.0;
       n = n;
       gap = rw same at g;
       trailing = x ∙ ap before_newline (m ∙ ap (take n) same);

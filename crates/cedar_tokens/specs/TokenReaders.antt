@@ -19,13 +19,13 @@ pub record IsAhead (at : ℕ) (leading ahead : List ℕ) (l : Listing) (spans : 
 
 -- how many bytes of its text stand from the reader's next token on
 abbrev pub bytes_left : TokenReader → ℕ
-bytes_left r = length r.ahead.now
+bytes_left r = length r.ahead.text.now
 
 -- the reader reads this text, has the tokens and the closing comments of l still to give, and spans are their places
 pub record HasLeft (text : List ℕ) (r : TokenReader) (l : Listing) (spans : List Span) : Type 0 where
   pub source : r.text.now ≡ text
-  pub ahead : r.ahead.now ≡ drop (length text - bytes_left r) text
-  pub left : IsAhead (length text - bytes_left r) r.leading.now r.ahead.now l spans
+  pub ahead : r.ahead.text.now ≡ drop (length text - bytes_left r) text
+  pub left : IsAhead (length text - bytes_left r) r.leading.now r.ahead.text.now l spans
 
 -- of what is left the token w is the first, and all the others are left to the reader afterwards
 pub record GivesFirst (text : List ℕ) (w : WrappedToken) (after : TokenReader) (l : Listing) (spans : List Span) : Type 0 where

@@ -1,42 +1,39 @@
 //! The tokens of a text one after the other, each with its comments.
 ghost use Rattle.std.specs.Prelude.{◌≡◌, ◌+◌, ◌≤◌, ◌<◌, [], length, MatchOption, IfSome, IfNone, IfOk, OnErr, List, ℕ};
-ghost use Rattle.std.specs.Str.{IsCharBoundary};
+ghost use Rattle.std.specs.Str.{trim};
+ghost use Rattle.cedar_tokens.specs.Units.{IsToken};
 ghost use Rattle.cedar_tokens.specs.Split.{Splits};
-ghost use Rattle.cedar_tokens.specs.Listing.{Listing, IsListing};
-ghost use Rattle.cedar_tokens.specs.Inside.Newlines.{before_newline, after_newline};
+ghost use Rattle.cedar_tokens.specs.Listing.{Listing, IsListing, comments};
 ghost use Rattle.cedar_tokens.specs.Places.{AreTokenSpans};
-ghost use Rattle.cedar_tokens.specs.Tokens.{comments_left};
-ghost use Rattle.cedar_tokens.specs.Inside.FirstTokens.{IsGap, IsFirstToken, BeginsNoToken};
+ghost use Rattle.cedar_tokens.specs.Tokens.{token_text, leading_lines, trailing_text, comments_left, IsProper};
+ghost use Rattle.cedar_tokens.specs.Inside.Gaps.{BeginsNoToken};
+ghost use Rattle.cedar_tokens.specs.Inside.FirstTokens.{IsFirstToken};
 ghost use Rattle.cedar_tokens.specs.declared.token.Span.{Span};
 
-use crate::lexer::{UnitKind, first_fault, first_unit};
+pub use crate::ahead::split_gap;
+use crate::ahead::{Ahead, gap_len};
+use crate::lexer::first_fault;
 use crate::token::{Comment, Comments, Span, WrappedToken, get_comment, token_of_text};
 use std::alloc::{AllocError, Global};
 
-// What stands in `gap` before its first line feed, and after it.
-fn split_gap(gap: &str) -> (&str, &str)
-    ensures trailing { result.0.now ≡ before_newline gap.now }
-    ensures leading { result.1.now ≡ after_newline gap.now }
+/// The token whose source text is `text`, at its place, with the comments of the text before it and its trailing text.
+pub fn commented_token<'src>(
+    alloc: Global,
+    text: &'src str,
+    span: Span,
+    leading: &'src str,
+    trailing: &'src str,
+) -> Result<WrappedToken<'src>, AllocError>
+    requires { IsToken text.now }
+    ensures text { IfOk result (λ w. token_text w.token ≡ text.now) }
+    ensures proper { IfOk result (λ w. IsProper w.token) }
+    ensures span { IfOk result (λ w. w.span ≡ span) }
+    ensures leading { IfOk result (λ w. leading_lines w.comment ≡ comments leading.now) }
+    ensures trailing { IfOk result (λ w. trailing_text w.comment ≡ trim trailing.now) }
 {
-    match gap.split_once('\n') {
-        Some((trailing, leading)) => (trailing, leading),
-        None => (gap, ""),
-    }
-}
-
-// How many bytes stand before the first token of `text`, or before the place where no unit begins.
-fn gap_len(text: &str) -> usize
-    ensures gap { IsGap text.now result }
-    ensures boundary { IsCharBoundary text.now result }
-{
-    let mut at = 0;
-    'units: while let Some((kind, len)) = first_unit(&text[at..]) {
-        if kind == UnitKind::Token {
-            return at;
-        }
-        at += len;
-    }
-    at
+    let token = token_of_text(alloc, text)?;
+    let comment = Comment::new(alloc, leading, trailing)?;
+    Ok(WrappedToken::new(token, span, comment))
 }
 
 // The token that a text begins with, its trailing text, the leading text of what comes next, and the text from there.
@@ -45,27 +42,28 @@ struct FirstToken<'src> {
     text: &'src str,
     trailing: &'src str,
     leading: &'src str,
-    rest: &'src str,
+    rest: Ahead<'src>,
 }
 
-// The token at the start of `text`.
-fn first_token(text: &str) -> Option<FirstToken<'_>>
-    ensures token { MatchOption result (BeginsNoToken text.now) (λ t. IsFirstToken text.now t) }
-    ensures shorter { IfSome result (λ t. length t.rest.now < length text.now) }
-    ensures fits { IfSome result (λ t. length t.text.now + length t.rest.now ≤ length text.now) }
+// The token at the start of what is ahead.
+fn first_token<'src>(ahead: &Ahead<'src>) -> Option<FirstToken<'src>>
+    ensures token { MatchOption result (BeginsNoToken ahead.now.text.now) (λ t. IsFirstToken ahead.now.text.now t) }
+    ensures shorter { IfSome result (λ t. length t.rest.text.now < length ahead.now.text.now) }
+    ensures fits { IfSome result (λ t. length t.text.now + length t.rest.text.now ≤ length ahead.now.text.now) }
 {
-    let (kind, len) = first_unit(text)?;
-    if kind != UnitKind::Token {
-        return None;
-    }
-    let (token, behind) = text.split_at(len);
-    let (gap, rest) = behind.split_at(gap_len(behind));
+    let len = ahead.token?;
+    let (token, after) = ahead.text.split_at(len);
+    let (gap, next) = gap_len(after);
+    let (gap, rest) = after.split_at(gap);
     let (trailing, leading) = split_gap(gap);
     Some(FirstToken {
         text: token,
         trailing,
         leading,
-        rest,
+        rest: Ahead {
+            text: rest,
+            token: next,
+        },
     })
 }
 
@@ -77,8 +75,8 @@ pub struct TokenReader<'src> {
     // What leads the next token or, where none is left, closes the text.
     leading: &'src str,
     // The text from the next token on.
-    ahead: &'src str,
-    ghost within: { length ahead.now ≤ length text.now },
+    ahead: Ahead<'src>,
+    ghost within: { length ahead.text.now ≤ length text.now },
 }
 
 impl<'src> TokenReader<'src> {
@@ -99,11 +97,12 @@ impl<'src> TokenReader<'src> {
     pub(crate) fn of_split(text: &'src str) -> TokenReader<'src>
         ensures { (l : Listing) (spans : List Span) → IsListing text.now l → AreTokenSpans text.now spans → HasLeft text.now result l spans }
     {
-        let (leading, ahead) = text.split_at(gap_len(text));
+        let (gap, token) = gap_len(text);
+        let (leading, ahead) = text.split_at(gap);
         TokenReader {
             text,
             leading,
-            ahead,
+            ahead: Ahead { text: ahead, token },
         }
     }
 
@@ -115,16 +114,16 @@ impl<'src> TokenReader<'src> {
         ensures shorter { IfOk result (λ o. IfSome o (λ w. bytes_left self.new < bytes_left self.old)) }
         ensures err { OnErr result (self.new ≡ self.old) }
     {
-        let Some(first) = first_token(self.ahead) else {
+        let Some(first) = first_token(&self.ahead) else {
             return Ok(None);
         };
-        let start = self.text.len() - self.ahead.len();
+        let start = self.text.len() - self.ahead.text.len();
         let end = start + first.text.len();
-        let token = token_of_text(alloc, first.text)?;
-        let comment = Comment::new(alloc, self.leading, first.trailing)?;
+        let span = Span { start, end };
+        let token = commented_token(alloc, first.text, span, self.leading, first.trailing)?;
         self.leading = first.leading;
         self.ahead = first.rest;
-        Ok(Some(WrappedToken::new(token, Span { start, end }, comment)))
+        Ok(Some(token))
     }
 
     /// The closing comments of the text, those behind its last token; tokens that are left are passed over. It takes no
@@ -134,7 +133,7 @@ impl<'src> TokenReader<'src> {
     {
         let mut leading = self.leading;
         let mut ahead = self.ahead;
-        'tokens: while let Some(first) = first_token(ahead) {
+        'tokens: while let Some(first) = first_token(&ahead) {
             leading = first.leading;
             ahead = first.rest;
         }

@@ -1,5 +1,5 @@
 -- Laws of accepted and refused texts, and of trees of nodes.
-use Rattle.std.specs.Prelude.{◌≡◌, ℕ, List, ◌⊎◌, ◌↔◌, map}
+use Rattle.std.specs.Prelude.{◌≡◌, ℕ, List, ◌⊎◌, map}
 use Rattle.cedar_tokens.specs.Split.{SplitsInto}
 use Rattle.cedar_tokens.specs.Listing.{IsListing, Listing, token_value}
 use Rattle.cedar_tokens.specs.PlainList.{plain_list}
@@ -8,8 +8,7 @@ use Rattle.cedar_tree.specs.declared.tree.Policies.{Policies}
 use Rattle.cedar_grammar.specs.Trees.{yield}
 use Rattle.cedar_grammar.specs.Texts.{Accepted}
 use Rattle.cedar_tree.specs.Refusals.{Refuses}
-use Rattle.cedar_tree.specs.Erased.{erase, SameTree}
-use Rattle.cedar_tree.specs.Same.{SamePolicies}
+use Rattle.cedar_tree.specs.Erased.{erase}
 use Rattle.cedar_tree.specs.NodeTrees.{IsTreeOf}
 
 -- a text that splits is accepted or refused
@@ -35,7 +34,3 @@ TreeOfNodesIsUnique = (text : List ℕ) (p q : Policies) → IsTreeOf text p →
 -- the leaves of the tree of nodes are the texts of the plain list, numbers without leading zeros
 abbrev pub NodesHaveThePlainTexts : Type 0
 NodesHaveThePlainTexts = (text : List ℕ) (p : Policies) (l : Listing) → IsTreeOf text p → IsListing text l → yield (erase p) ≡ map (λ t. token_value t.text) (plain_list l.tokens)
-
--- policies have equal trees without spans exactly where they are equal field by field but for spans: erasing is one to one
-abbrev pub SameTreeIsByFields : Type 0
-SameTreeIsByFields = (a b : Policies) → SameTree a b ↔ SamePolicies a b

@@ -1,5 +1,4 @@
 pub mod Erased
-pub mod Same
 pub mod Refusals
 pub mod NodeTrees
 pub mod Laws

@@ -1,6 +1,10 @@
 //! Laws of accepted and refused texts, and of trees of nodes. They speak of the definitions alone, so their bodies do nothing.
-ghost use Rattle.cedar_tree.specs.Laws.{TextIsJudged, AcceptedIsNotRefused, RefusalIsUnique, TreeIsOfAccepted, TreeOfNodesIsUnique, NodesHaveThePlainTexts, SameTreeIsByFields};
+ghost use Rattle.std.specs.Prelude.{◌↔◌, IsTrue};
+ghost use Rattle.cedar_tree.specs.declared.tree.Policies.{Policies};
+ghost use Rattle.cedar_tree.specs.Erased.{SameTree};
+ghost use Rattle.cedar_tree.specs.Laws.{TextIsJudged, AcceptedIsNotRefused, RefusalIsUnique, TreeIsOfAccepted, TreeOfNodesIsUnique, NodesHaveThePlainTexts};
 
+use crate::tree::Policies;
 use cedar_tokens::lexer::{fault_is_unique, fault_prevents_split, split_is_unique};
 
 /// A text that splits is accepted or refused.
@@ -45,7 +49,7 @@ pub fn nodes_have_the_plain_texts()
     split_is_unique();
 }
 
-/// Policies have equal trees without spans exactly where they are equal field by field but for spans.
+/// Policies have equal trees without spans exactly where they are equal by `==`: field by field but for spans.
 pub fn same_tree_is_by_fields()
-    ensures { SameTreeIsByFields }
+    ensures { (a b : Policies) → SameTree a b ↔ IsTrue (⟦<Policies<'static> as PartialEq>⟧.eq a b) }
 {}

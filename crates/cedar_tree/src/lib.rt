@@ -1,4 +1,4 @@
-// Trees of Cedar policies: the node types, why a text has none, and laws.
+//! Trees of Cedar policies: the node types, their equality, why a text has none, and laws.
 #![tactic(auto)]
 
 pub mod error;

@@ -1,4 +1,10 @@
 //! The node types: one for each level of the grammar.
+ghost use Rattle.std.specs.Prelude.{◌↔◌, IsTrue};
+ghost use Rattle.std.specs.Cmp.Rules.{comparing};
+ghost use Rattle.std.proofs.Common.{rules};
+ghost use Rattle.cedar_tree.specs.Erased.{SameTree};
+
+use crate::laws::same_tree_is_by_fields;
 use cedar_tokens::token::Span;
 
 /// A part of a text, from its first token's start to its last token's end.
@@ -8,14 +14,25 @@ pub struct Node<T> {
     pub span: Span,
 }
 
+/// Nodes are equal where what they hold is, wherever they stand.
+impl<T: PartialEq> PartialEq for Node<T> {
+    ghost eq = { λ a b. T.eq a.inner b.inner };
+
+    ghost laws = { Prim.search (comparing, rules) };
+
+    fn eq(&self, other: &Node<T>) -> bool {
+        self.inner == other.inner
+    }
+}
+
 /// The policies of a text, in order.
-#[derive(Drop)]
+#[derive(PartialEq, Drop)]
 pub struct Policies<'src> {
     pub policies: Vec<Node<Policy<'src>>>,
 }
 
 /// A policy: its annotations, `permit` or `forbid`, the scope's variables, and its conditions.
-#[derive(Drop)]
+#[derive(PartialEq, Drop)]
 pub struct Policy<'src> {
     pub annotations: Vec<Node<Annotation<'src>>>,
     pub effect: Node<Ident<'src>>,
@@ -28,14 +45,14 @@ pub struct Policy<'src> {
 }
 
 /// `@key`, or `@key("value")`.
-#[derive(Drop)]
+#[derive(PartialEq, Drop)]
 pub struct Annotation<'src> {
     pub key: Node<Ident<'src>>,
     pub value: Option<Node<Str<'src>>>,
 }
 
 /// A variable of the scope, its type after `is`, and its operator with what follows it.
-#[derive(Drop)]
+#[derive(PartialEq, Drop)]
 pub struct VariableDef<'src> {
     pub variable: Node<Ident<'src>>,
     pub entity_type: Option<Node<Name<'src>>>,
@@ -43,7 +60,7 @@ pub struct VariableDef<'src> {
 }
 
 /// `when { .. }` or `unless { .. }`.
-#[derive(Drop)]
+#[derive(PartialEq, Drop)]
 pub struct Cond<'src> {
     pub cond: Node<Ident<'src>>,
     pub expr: Node<Expr<'src>>,
@@ -51,7 +68,7 @@ pub struct Cond<'src> {
 
 /// An expression: `if`, `then` and `else`, or operands of `||`.
 #[cycle(tree)]
-#[derive(Drop)]
+#[derive(PartialEq, Drop)]
 pub enum Expr<'src> {
     If(Box<Node<Expr<'src>>>, Box<Node<Expr<'src>>>, Box<Node<Expr<'src>>>),
     Or(Box<Node<Or<'src>>>),
@@ -59,7 +76,7 @@ pub enum Expr<'src> {
 
 /// Operands of `||`.
 #[cycle(tree)]
-#[derive(Drop)]
+#[derive(PartialEq, Drop)]
 pub struct Or<'src> {
     pub initial: Node<And<'src>>,
     pub extended: Vec<Node<And<'src>>>,
@@ -67,7 +84,7 @@ pub struct Or<'src> {
 
 /// Operands of `&&`.
 #[cycle(tree)]
-#[derive(Drop)]
+#[derive(PartialEq, Drop)]
 pub struct And<'src> {
     pub initial: Node<Relation<'src>>,
     pub extended: Vec<Node<Relation<'src>>>,
@@ -75,7 +92,7 @@ pub struct And<'src> {
 
 /// One operand; or two with a comparison, `has`, `like` or `is` between them.
 #[cycle(tree)]
-#[derive(Drop)]
+#[derive(PartialEq, Drop)]
 pub enum Relation<'src> {
     Common {
         initial: Node<Add<'src>>,
@@ -98,7 +115,7 @@ pub enum Relation<'src> {
 
 /// Operands of `+` and `-`.
 #[cycle(tree)]
-#[derive(Drop)]
+#[derive(PartialEq, Drop)]
 pub struct Add<'src> {
     pub initial: Node<Mult<'src>>,
     pub extended: Vec<(AddOp, Node<Mult<'src>>)>,
@@ -106,7 +123,7 @@ pub struct Add<'src> {
 
 /// Operands of `*`.
 #[cycle(tree)]
-#[derive(Drop)]
+#[derive(PartialEq, Drop)]
 pub struct Mult<'src> {
     pub initial: Node<Unary<'src>>,
     pub extended: Vec<(MultOp, Node<Unary<'src>>)>,
@@ -114,7 +131,7 @@ pub struct Mult<'src> {
 
 /// A member behind its signs.
 #[cycle(tree)]
-#[derive(Drop)]
+#[derive(PartialEq, Drop)]
 pub struct Unary<'src> {
     pub op: Option<NegOp>,
     pub item: Node<Member<'src>>,
@@ -122,7 +139,7 @@ pub struct Unary<'src> {
 
 /// A primary and what is accessed in it. A call of a path is a name whose first access is the call.
 #[cycle(tree)]
-#[derive(Drop)]
+#[derive(PartialEq, Drop)]
 pub struct Member<'src> {
     pub item: Node<Primary<'src>>,
     pub access: Vec<Node<MemAccess<'src>>>,
@@ -130,7 +147,7 @@ pub struct Member<'src> {
 
 /// `.field`, `(arguments)` or `["index"]`.
 #[cycle(tree)]
-#[derive(Drop)]
+#[derive(PartialEq, Drop)]
 pub enum MemAccess<'src> {
     Field(Node<Ident<'src>>),
     Call(Vec<Node<Expr<'src>>>),
@@ -139,7 +156,7 @@ pub enum MemAccess<'src> {
 
 /// What members and operators are built on.
 #[cycle(tree)]
-#[derive(Drop)]
+#[derive(PartialEq, Drop)]
 pub enum Primary<'src> {
     Literal(Node<Literal<'src>>),
     Ref(Node<Ref<'src>>),
@@ -152,14 +169,14 @@ pub enum Primary<'src> {
 
 /// A key of a record, a name of one identifier or a string, and its value.
 #[cycle(tree)]
-#[derive(Drop)]
+#[derive(PartialEq, Drop)]
 pub struct RecInit<'src> {
     pub key: Node<Primary<'src>>,
     pub value: Node<Expr<'src>>,
 }
 
 /// `Num` holds the digits without leading zeros, `Str` the string with its quotes.
-#[derive(Drop)]
+#[derive(PartialEq, Drop)]
 pub enum Literal<'src> {
     True,
     False,
@@ -168,22 +185,22 @@ pub enum Literal<'src> {
 }
 
 /// A string with its quotes, as it stands in the text.
-#[derive(Drop)]
+#[derive(PartialEq, Drop)]
 pub struct Str<'src>(pub &'src str);
 
 /// A word.
-#[derive(Drop)]
+#[derive(PartialEq, Drop)]
 pub struct Ident<'src>(pub &'src str);
 
 /// Words joined by `::`; `name` is the last of them.
-#[derive(Drop)]
+#[derive(PartialEq, Drop)]
 pub struct Name<'src> {
     pub path: Vec<Node<Ident<'src>>>,
     pub name: Node<Ident<'src>>,
 }
 
 /// An entity: its type, `::`, and its name in quotes.
-#[derive(Drop)]
+#[derive(PartialEq, Drop)]
 pub struct Ref<'src> {
     pub path: Node<Name<'src>>,
     pub eid: Node<Str<'src>>,
@@ -226,4 +243,12 @@ pub enum MultOp {
 pub enum NegOp {
     Bang(u8),
     Dash(u8),
+}
+
+/// Whether the policies are equal without spans.
+pub fn same_tree<'src>(a: &Policies<'src>, b: &Policies<'src>) -> bool
+    ensures { IsTrue result ↔ SameTree a.now b.now }
+{
+    same_tree_is_by_fields();
+    a == b
 }

@@ -1,6 +1,7 @@
 -- A part of a text, parsed with the places of the whole text. Only contracts of private functions cite these.
-use Rattle.std.specs.Prelude.{◌≡◌, ◌+◌, ◌-◌, ℕ, true, false, List, length}
+use Rattle.std.specs.Prelude.{◌≡◌, ◌+◌, ◌-◌, ℕ, true, false, List, [], ◌∷◌, length, map, take, drop}
 use Rattle.std.specs.List.{list_any, slice_get}
+use Rattle.std.specs.Str.{IsCharBoundary}
 use Rattle.cedar_tokens.specs.Split.{SplitsInto}
 use Rattle.cedar_tokens.specs.Places.{token_spans}
 use Rattle.cedar_tokens.specs.declared.token.Span.{Span}
@@ -11,15 +12,19 @@ use Rattle.cedar_grammar.specs.Placed.{Placed, with_places, kind_of_placed}
 use Rattle.cedar_grammar.specs.Texts.{greatest_depth, only_tokens, LeavesGrammar}
 use Rattle.cedar_grammar.specs.TrailingCommas.{without_trailing}
 use Rattle.cedar_grammar.specs.Trees.{Label, Forest, yield}
-use Rattle.cedar_reading.specs.declared.lexeme.Lexeme.{Lexeme}
-use Rattle.cedar_reading.specs.Inside.Reading.{start_or}
+use Rattle.cedar_pieces.specs.Pieces.{IsFirstPiece}
+use Rattle.cedar_parser_steps.specs.declared.lexeme.Lexeme.{Lexeme}
+use Rattle.cedar_parser_steps.specs.Inside.Lexemes.{AreLexemes}
+use Rattle.cedar_parser_steps.specs.Inside.Reading.{start_or}
 use Rattle.cedar_tree.specs.declared.error.FormatError.{FormatError}
 use Rattle.cedar_tree.specs.declared.error.FormatError.TheVariants.{Grammar, TooDeep}
 use Rattle.cedar_tree.specs.declared.tree.Node as Nodes
 use Rattle.cedar_tree.specs.declared.tree.Policy as Policies
+use Rattle.cedar_tree.specs.declared.tree.Policies as Trees
 use Rattle.cedar_tree.specs.Erased.{policy_trees}
 use Rattle.cedar_tree.specs.NodeTrees.{spanned}
 use Rattle.cedar_tree.specs.Refusals.{OutOfMemoryOr, RefusesTokens}
+use Rattle.cedar_cst.specs.PolicyReaders.{Position}
 
 -- the place, with so many more bytes before it
 abbrev pub moved_span : ℕ → Span → Span
@@ -36,6 +41,10 @@ place_before end lexemes left = start_or end (slice_get lexemes (length lexemes 
 abbrev pub placed_from : ℕ → List (List ℕ) → List Placed
 placed_from from units = with_places (only_tokens units) (token_spans from units)
 
+-- these are the lexemes of the part, with the places of a text in which it begins at this byte
+abbrev pub AreLexemesFrom : ℕ → List ℕ → List Lexeme → Type 0
+AreLexemesFrom from part lexemes = (own : List Lexeme) × AreLexemes part own × (lexemes ≡ map (moved_lexeme from) own)
+
 -- the part is accepted, and these are its policies, with the places of a text in which it begins at this byte
 pub record HasPoliciesFrom (from : ℕ) (part : List ℕ) (policies : List (Nodes.Node Policies.Policy)) : Type 0 where
   pub units : List (List ℕ)
@@ -51,3 +60,13 @@ abbrev pub RefusesFrom : ℕ → List ℕ → FormatError → Type 0
 RefusesFrom from part (Grammar p) = (q : ℕ) × (p ≡ from + q) × LeavesGrammar part q false
 RefusesFrom from part (TooDeep p) = (q : ℕ) × (p ≡ from + q) × LeavesGrammar part q true
 RefusesFrom from part e = OutOfMemoryOr (RefusesTokens part) e
+
+-- the first piece of what is left of a reader's text
+pub record IsNext (reader : Position) (piece : List ℕ) : Type 0 where
+  pub first : IsFirstPiece (drop reader.at reader.text) (length piece)
+  pub bytes : piece ≡ take (length piece) (drop reader.at reader.text)
+  pub boundary : IsCharBoundary reader.text (reader.at + length piece)
+
+-- the part is accepted, and this is its only policy, with the places of a text in which the part begins at this byte
+abbrev pub IsPolicyFrom : ℕ → List ℕ → Nodes.Node Policies.Policy → Type 0
+IsPolicyFrom from part policy = (p : Trees.Policies) × HasPoliciesFrom from part p.policies.items × (p.policies.items ≡ policy ∷ [])

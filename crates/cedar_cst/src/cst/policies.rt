@@ -7,17 +7,17 @@ ghost use Rattle.cedar_grammar.specs.declared.kind.Kind.TheVariants as K;
 ghost use Rattle.cedar_grammar.specs.Reader.Rules.{star};
 ghost use Rattle.cedar_grammar.specs.Reader.Lines.{annotation_rule, cond_rule, policy_rule, set_to};
 ghost use Rattle.cedar_tree.specs.Erased.{policy_parts, annotation_parts, cond_parts};
-ghost use Rattle.cedar_nodes.specs.Inside.ReadingExprs.{at_depth};
+ghost use Rattle.cedar_parser_expressions.specs.Inside.ReadingExprs.{at_depth};
 ghost use Rattle.cedar_cst.specs.Inside.ReadingSet.{GivesSet};
-ghost use Rattle.cedar_reading.specs.Inside.Reading.{kind, flat, GivesNode, GivesMany};
+ghost use Rattle.cedar_parser_steps.specs.Inside.Reading.{kind, flat, GivesNode, GivesMany};
 
 use crate::cst::scopes::parse_scope;
-use cedar_expressions::expressions::parse_expr;
 use cedar_grammar::kind::{Kind, Words};
-use cedar_reading::lexeme::Lexeme;
-use cedar_reading::literals::parse_str;
-use cedar_reading::names::parse_word;
-use cedar_reading::reading::{
+use cedar_parser_expressions::expressions::parse_expr;
+use cedar_parser_steps::lexeme::Lexeme;
+use cedar_parser_steps::literals::parse_str;
+use cedar_parser_steps::names::parse_word;
+use cedar_parser_steps::reading::{
     Parsed, Refusal, begins, expect, followed_by, keep, past, refuse, start_of,
 };
 use cedar_tokens::token::Span;

@@ -1,22 +1,42 @@
 //! The policies of a text, one after the other.
-ghost use Rattle.std.specs.Prelude.{◌≡◌, ◌≢◌, ◌≤◌, ◌<◌, ◌+◌, ◌^◌, List, [], ◌∷◌, ◌++◌, length, map, slice_range, IfOk, IfErr, OnErr, MatchResult, MatchOption};
+ghost use Rattle.std.specs.Prelude.{◌≡◌, ◌≢◌, ◌≤◌, ◌<◌, ◌+◌, ◌^◌, List, [], ◌∷◌, ◌++◌, length, map, drop, IfOk, IfErr, IfSome, OnErr, MatchResult, MatchOption};
 ghost use Rattle.std.specs.List.{All};
-ghost use Rattle.std.specs.Str.{IsCharBoundary};
-ghost use Rattle.cedar_tree.specs.NodeTrees.{IsTreeOf};
 ghost use Rattle.cedar_tree.specs.Refusals.{OutOfMemoryOr, Refuses, RefusesTokens};
 ghost use Rattle.cedar_tree.specs.declared.error.FormatError.TheVariants.{OutOfMemory};
-ghost use Rattle.cedar_cst.specs.Inside.Parts.{moved_lexeme, place_before, HasPoliciesFrom, RefusesFrom};
-ghost use Rattle.cedar_cst.specs.PolicyReaders.{HasPolicies, HasRead};
+ghost use Rattle.cedar_parser_steps.specs.Inside.Lexemes.{AreLexemes};
+ghost use Rattle.cedar_cst.specs.Inside.Parts.{moved_lexeme, place_before, HasPoliciesFrom, AreLexemesFrom, RefusesFrom, IsNext, IsPolicyFrom};
+ghost use Rattle.cedar_cst.specs.PolicyReaders.{HasPolicies, HasRead, HasEnded, GoesOn, IsPolicyOf, AreTokensOf};
 
 use crate::cst::policies::parse_set;
 use crate::laws::tree_has_the_policies;
-use cedar_pieces::pieces::first_piece;
-use cedar_reading::lexeme::{Lexeme, check_tokens, read_lexemes};
-use cedar_reading::reading::Refusal;
+use cedar_parser_steps::commented::commented_tokens;
+use cedar_parser_steps::lexeme::{Lexeme, check_tokens};
+use cedar_parser_steps::reading::Refusal;
+use cedar_pieces::pieces::read_piece;
+use cedar_tokens::token::WrappedToken;
 use cedar_tree::error::FormatError;
 use cedar_tree::tree::{Node, Policies, Policy};
 use std::alloc::Global;
 use std::marker::Model;
+
+/// A policy and its part of a text.
+#[derive(Drop)]
+pub struct Piece<'src> {
+    /// From the end of the policy before through this policy's `;` and the rest of its line.
+    pub text: &'src str,
+    /// The policy, with its places in `text`.
+    pub policy: Node<Policy<'src>>,
+    /// The tokens of `text` with their comments and places, trailing commas among them.
+    pub tokens: Vec<WrappedToken<'src>>,
+}
+
+// A policy, its part of a text, and the lexemes that it was parsed from.
+#[derive(Drop)]
+struct ParsedPiece<'src> {
+    text: &'src str,
+    policy: Node<Policy<'src>>,
+    lexemes: Vec<Lexeme<'src>>,
+}
 
 /// The policies of a text that are still to come. Memory is held for one policy at a time.
 #[derive(Debug, Drop)]
@@ -57,53 +77,96 @@ impl<'src> PolicyReader<'src> {
         ensures place { IfOk result (λ next. MatchOption next (self.new ≡ self.old) (λ _. self.old.at < self.new.at)) }
         ensures refused { OnErr result (self.new ≡ self.old) }
     {
-        match first_piece(&self.text[self.at..]) {
-            Some(len) => {
-                let end = self.at + len;
-                let Policies { mut policies } = parse_part(alloc, self.text, self.at, end)?;
-                self.at = end;
-                Ok(policies.pop())
-            }
-            None => {
-                let _ = parse_part(alloc, self.text, self.at, self.text.len())?;
-                Ok(None)
-            }
+        let Some(piece) = self.read_piece(alloc, self.at)? else {
+            return Ok(None);
+        };
+        self.at += piece.text.len();
+        Ok(Some(piece.policy))
+    }
+
+    /// The next policy with its part of the text, and with its places in that part; `None` where there is none, as often as it is
+    /// asked. A refusal is that of `parse_policies`, with its place in the whole text. After a refusal or `None` the reader is as
+    /// before.
+    pub fn next_piece(&mut self, alloc: Global) -> Result<Option<Piece<'src>>, FormatError>
+        ensures answer { IfOk result (λ next. MatchOption next (HasEnded self.old) (λ piece. GoesOn self.old self.new piece.text.now)) }
+        ensures policy { IfOk result (λ next. MatchOption next (self.new ≡ self.old) (λ piece. IsPolicyOf piece.text.now piece.policy)) }
+        ensures tokens { IfOk result (λ next. IfSome next (λ piece. AreTokensOf piece.text.now piece.tokens.items)) }
+        ensures refusal { IfErr result (OutOfMemoryOr (Refuses self.old.text)) }
+        ensures refused { OnErr result (self.new ≡ self.old) }
+    {
+        tree_has_the_policies();
+        let Some(piece) = self.read_piece(alloc, 0)? else {
+            return Ok(None);
+        };
+        let (tokens, _) = commented_tokens(alloc, piece.text, &piece.lexemes)?;
+        self.at += piece.text.len();
+        Ok(Some(Piece {
+            text: piece.text,
+            policy: piece.policy,
+            tokens,
+        }))
+    }
+
+    /// What of the text is not read yet.
+    pub fn rest(&self) -> &'src str
+        ensures { result.now ≡ drop self.now.at self.now.text }
+    {
+        &self.text[self.at..]
+    }
+
+    // The next policy with its part of the text and its lexemes, their places moved by `by` bytes. A refusal has its place in the
+    // whole text.
+    fn read_piece(&self, alloc: Global, by: usize) -> Result<Option<ParsedPiece<'src>>, FormatError>
+        requires { by ≤ self.now.at }
+        ensures answer { IfOk result (λ next. MatchOption next (HasEnded self.now) (λ piece. IsNext self.now piece.text.now × IsPolicyFrom by piece.text.now piece.policy)) }
+        ensures lexemes { IfOk result (λ next. IfSome next (λ piece. AreLexemesFrom by piece.text.now piece.lexemes.items)) }
+        ensures refusal { IfErr result (OutOfMemoryOr (Refuses self.now.text)) }
+    {
+        let at = self.at;
+        let rest = self.rest();
+        let mut lexemes = Vec::new(alloc);
+        let Some(len) = read_piece(rest, &mut lexemes)? else {
+            let _ = parse_part(alloc, rest, &mut lexemes, at, by)?;
+            return Ok(None);
+        };
+        let text = &rest[..len];
+        let Policies { mut policies } = parse_part(alloc, text, &mut lexemes, at, by)?;
+        match policies.pop() {
+            Some(policy) => Ok(Some(ParsedPiece {
+                text,
+                policy,
+                lexemes,
+            })),
+            None => Ok(None),
         }
     }
 }
 
-/// The policies of a text, as `parse_policies` gives them; its tokens are held all at once, which takes less time where the text
-/// has few policies.
-pub fn parse_at_once<'src>(alloc: Global, text: &'src str) -> Result<Policies<'src>, FormatError>
-    ensures tree { IfOk result (λ p. IsTreeOf text.now p) }
-    ensures refusal { IfErr result (OutOfMemoryOr (Refuses text.now)) }
-{
-    tree_has_the_policies();
-    parse_part(alloc, text, 0, text.len())
-}
-
-// The policies of the bytes `at..end` of a text, with the places of the text.
+// The policies of the part of a text that begins at the byte `at` and has these lexemes. Their places in the part, and so those
+// of the policies, are moved by `by` bytes. A refusal has its place in the text.
 fn parse_part<'src>(
     alloc: Global,
-    text: &'src str,
+    part: &'src str,
+    lexemes: &mut [Lexeme<'src>],
     at: usize,
-    end: usize,
+    by: usize,
 ) -> Result<Policies<'src>, FormatError>
-    requires order { at ≤ end }
-    requires within { end ≤ length text.now }
-    requires start_boundary { IsCharBoundary text.now at }
-    requires end_boundary { IsCharBoundary text.now end }
-    ensures { MatchResult result (λ p. HasPoliciesFrom at (slice_range text.now at end) p.policies.items) (RefusesFrom at (slice_range text.now at end)) }
+    requires lexemes { AreLexemes part.now lexemes.old }
+    requires order { by ≤ at }
+    requires room { at + length part.now < 2 ^ 64 }
+    ensures policies { MatchResult result (λ p. HasPoliciesFrom by part.now p.policies.items) (RefusesFrom at part.now) }
+    ensures moved { lexemes.new ≡ map (moved_lexeme by) lexemes.old }
 {
-    let mut lexemes = read_lexemes(alloc, &text[at..end])?;
-    move_spans(&mut lexemes, at);
-    match parse_set(alloc, &lexemes) {
+    move_spans(lexemes, by);
+    let end = by + part.len();
+    let before = at - by;
+    match parse_set(alloc, lexemes) {
         Ok(policies) => Ok(policies),
         Err(Refusal::Grammar { left }) => Err(FormatError::Grammar {
-            at: place(end, &lexemes, left),
+            at: before + place(end, lexemes, left),
         }),
         Err(Refusal::TooDeep { left }) => Err(FormatError::TooDeep {
-            at: place(end, &lexemes, left),
+            at: before + place(end, lexemes, left),
         }),
         Err(Refusal::OutOfMemory) => Err(FormatError::OutOfMemory),
     }

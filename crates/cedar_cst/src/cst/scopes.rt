@@ -1,23 +1,25 @@
 //! The scope of a policy: its three variables, and what stands behind them.
-ghost use Rattle.std.specs.Prelude.{◌≡◌, ◌<◌, ◌≤◌, length, IfOk};
+ghost use Rattle.std.specs.Prelude.{◌≡◌, ◌<◌, ◌≤◌, length, IfOk, MatchResult, box_value};
 ghost use Rattle.cedar_grammar.specs.Trees.{Label};
 ghost use Rattle.cedar_grammar.specs.Kinds.{is};
 ghost use Rattle.cedar_grammar.specs.declared.kind.Kind.TheVariants as K;
 ghost use Rattle.cedar_grammar.specs.Reader.Rules.{entity, items, word_of};
 ghost use Rattle.cedar_grammar.specs.Reader.Lines.{◌∥◌, operand, entity_or, scoped, maybe, entity_item, action};
 ghost use Rattle.cedar_tree.specs.Erased.{add_parts, expr_parts, primary_parts, variable_parts};
-ghost use Rattle.cedar_reading.specs.Inside.ReadingParts.{slot_kind, variable_kind, IsVariableOf, IsLoneOrOf, entity_list, scope_rule};
-ghost use Rattle.cedar_nodes.specs.Inside.ReadingItems.{GivesItems, GivesScope};
-ghost use Rattle.cedar_reading.specs.Inside.Reading.{flat, GivesNode, ident_parts};
+ghost use Rattle.cedar_parser_steps.specs.Inside.ReadingParts.{slot_kind, variable_kind, IsVariableOf, IsLoneOrOf, entity_list, scope_rule};
+ghost use Rattle.cedar_parser_steps.specs.declared.reading.Refusal.TheVariants.{OutOfMemory};
+ghost use Rattle.cedar_parser_expressions.specs.Inside.Boxed.{unboxed};
+ghost use Rattle.cedar_parser_expressions.specs.Inside.ReadingItems.{GivesItems, GivesScope};
+ghost use Rattle.cedar_parser_steps.specs.Inside.Reading.{flat, GivesNode, ident_parts};
 
 use cedar_grammar::kind::Kind;
-use cedar_nodes::nodes::{and_node, list_node, lone_relation, or_expr, or_node};
-use cedar_reading::accesses::lone_operand;
-use cedar_reading::lexeme::Lexeme;
-use cedar_reading::names::{
+use cedar_parser_expressions::nodes::{and_node, list_node, lone_relation, or_expr, or_node};
+use cedar_parser_steps::accesses::lone_operand;
+use cedar_parser_steps::lexeme::Lexeme;
+use cedar_parser_steps::names::{
     begins_identifier, ident_node, parse_entity, parse_path, parse_slot_or_entity,
 };
-use cedar_reading::reading::{Parsed, begins, expect, followed_by, keep, past, skip};
+use cedar_parser_steps::reading::{Parsed, Refusal, begins, expect, followed_by, keep, past, skip};
 use cedar_tree::tree::{Add, Expr, Ident, Name, Node, Or, Primary, RelOp, Slot, VariableDef};
 use std::alloc::Global;
 
@@ -132,11 +134,12 @@ fn parse_variable<'t, 'src>(
 }
 
 // An operand without any operator.
-fn lone_or<'src>(alloc: Global, operand: Node<Add<'src>>) -> Node<Or<'src>>
-    ensures { IsLoneOrOf operand.entry result }
+fn lone_or<'src>(alloc: Global, operand: Node<Add<'src>>) -> Result<Box<Node<Or<'src>>>, Refusal>
+    ensures { MatchResult result (λ b. IsLoneOrOf operand.entry (box_value b)) (λ e. e ≡ OutOfMemory) }
 {
-    let and = and_node(lone_relation(operand), Vec::new(alloc));
-    or_node(and, Vec::new(alloc))
+    let relation = lone_relation(alloc, Box::new(alloc, operand)?)?;
+    let and = and_node(alloc, relation, Vec::new(alloc))?;
+    or_node(alloc, and, Vec::new(alloc))
 }
 
 // An entity as an expression.
@@ -148,7 +151,7 @@ fn parse_entity_expr<'t, 'src>(
     ensures reads { GivesNode Label.expr expr_parts result (flat entity_item tokens.now) }
 {
     let (entity, rest) = parse_entity_operand(alloc, tokens)?;
-    or_expr(alloc, Ok((lone_or(alloc, entity), rest)))
+    Ok((or_expr(lone_or(alloc, entity)?), rest))
 }
 
 // Entities with commas between them, and perhaps one behind the last; or none.
@@ -174,13 +177,12 @@ fn parse_entities<'t, 'src>(
 fn parse_entity_list<'t, 'src>(
     alloc: Global,
     tokens: &'t [Lexeme<'src>],
-) -> Parsed<'t, 'src, Node<Primary<'src>>>
+) -> Parsed<'t, 'src, Box<Node<Primary<'src>>>>
     ensures shorter { IfOk result (λ x. length x.1.now < length tokens.now) }
-    ensures reads { GivesNode Label.primary primary_parts result (flat entity_list tokens.now) }
+    ensures reads { GivesNode Label.primary primary_parts (unboxed result) (flat entity_list tokens.now) }
 {
     let (open, rest) = expect(tokens, Kind::LBracket)?;
-    let read = followed_by(parse_entities(alloc, rest), Kind::RBracket);
-    list_node(open.span.start, read)
+    list_node(alloc, open.span.start, parse_entities(alloc, rest))
 }
 
 // An entity, or entities in square brackets, as an operand.
@@ -193,7 +195,7 @@ fn parse_entities_operand<'t, 'src>(
 {
     if begins(tokens, Kind::LBracket) {
         let (entities, rest) = parse_entity_list(alloc, tokens)?;
-        return Ok((lone_operand(alloc, entities), rest));
+        return Ok((lone_operand(alloc, Box::into_inner(entities)), rest));
     }
     parse_entity_operand(alloc, tokens)
 }

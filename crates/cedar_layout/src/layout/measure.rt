@@ -4,10 +4,10 @@ ghost use Rattle.cedar_layout.specs.Inside.Measuring.{all_notes, measured, note_
 ghost use Rattle.cedar_layout.specs.Nodes.{nodes};
 ghost use Rattle.cedar_layout.specs.Value.{doc_of};
 
+use crate::layout::columns::columns_of;
 use crate::layout::{Document, Steps};
 use std::alloc::{AllocError, Global};
 use std::sync::ledger::Ledger;
-use unicode_width::UnicodeWidthStr;
 
 /// What is known of a group before it is printed.
 #[derive(Clone, Copy)]
@@ -107,7 +107,7 @@ fn take_up<'a, 'src>(
     match doc {
         Document::Nil => Ok(known),
         Document::Text(s) => {
-            let columns = s.width() as u128;
+            let columns = columns_of(s);
             Ok(Measures {
                 has_hard: known.has_hard,
                 columns: known.columns.saturating_add(columns),

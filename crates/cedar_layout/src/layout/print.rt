@@ -10,11 +10,11 @@ ghost use Rattle.cedar_layout.specs.Inside.Printing.{todo, todos, laid_all, note
 ghost use Rattle.cedar_layout.specs.Nodes.{nodes};
 ghost use Rattle.cedar_layout.specs.Value.{doc_of, docs_of};
 
+use crate::layout::columns::columns_of;
 use crate::layout::measure::Note;
 use crate::layout::{Document, Steps};
 use std::alloc::{AllocError, Global};
 use std::sync::ledger::Ledger;
-use unicode_width::UnicodeWidthStr;
 
 /// A document that is still to be printed.
 #[derive(Clone, Copy)]
@@ -77,7 +77,7 @@ fn take_up<'a, 'src>(
         Document::Nil => Ok(column),
         Document::Text(s) => {
             out.push_str(s)?;
-            Ok(column.saturating_add(s.width() as u128))
+            Ok(column.saturating_add(columns_of(s)))
         }
         Document::Line => {
             if next.flat {

@@ -1,6 +1,6 @@
 //! Trees compared.
 use super::*;
-use cedar_policy_formatter::cst::{parse_at_once, same_tree};
+use cedar_policy_formatter::cst::same_tree;
 use cedar_policy_formatter::soundness_check;
 
 // Two texts, and whether they are of the same policies; `None` where the second is refused.
@@ -119,20 +119,6 @@ fn comparisons(rt: HostRuntime) {
         let a = expand(&rt, rt.alloc(), a);
         let b = expand(&rt, rt.alloc(), b);
         compare(&rt, rt.alloc(), a.as_str(), b.as_str(), *want);
-    }
-}
-
-fn expect_at_once(rt: &impl Abort, alloc: Global, text: &str) {
-    let tree = parse_policies(alloc, text).expect(rt, text);
-    let other = parse_at_once(alloc, text).expect(rt, text);
-    assert!(rt; same_tree(&tree, &other), "{text}");
-}
-
-#[test]
-fn parsed_at_once(rt: HostRuntime) {
-    for (text, _, _) in &PAIRS {
-        let text = expand(&rt, rt.alloc(), text);
-        expect_at_once(&rt, rt.alloc(), text.as_str());
     }
 }
 

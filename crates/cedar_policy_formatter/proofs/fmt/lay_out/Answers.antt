@@ -1,34 +1,39 @@
 use Rattle.std.specs.Prelude.{string_bytes}
-use Rattle.cedar_tokens.specs.Tokens.{comments_left}
-use Rattle.cedar_canonical.specs.Canonical.{IsOutputOf}
-use Rattle.std.proofs.Common.{sym, subst}
+use Rattle.std.proofs.Common.{◌≡◌, [], ◌∷◌, ◌++◌, rules, sym, subst}
 use Rattle.std.proofs.lemmas.Result.{err_from_is_err_and}
-use Rattle.cedar_documents.proofs.StreamTrees.{policies_over}
-use Rattle.cedar_leaf_documents.specs.Kept.{KeepsTokens}
+use Rattle.cedar_laws.specs.Canonical.{IsOutputOf}
+use Rattle.cedar_document_rows.specs.Kept.{KeepsTokens}
+use Rattle.cedar_policy_formatter.specs.Refused.{IsMemory}
 use Rattle.cedar_policy_formatter.proofs.LaidOutTokens.{has_them}
-use Rattle.cedar_policy_formatter.proofs.Outputs.{output_of}
+use Rattle.cedar_policy_formatter.proofs.Outputs.{in_order, output_of, said_of}
 use Rattle.cedar_policy_formatter.proofs.fmt.lay_out.Goals as goal
 
-pub plain_stream-requires : goal.plain_stream-requires
-plain_stream-requires c = (c.requires.units, c.requires.split)
+pub plain_tokens-requires : goal.plain_tokens-requires
+plain_tokens-requires c = in_order c.args.text.now c.args.tokens.items c.requires.tokens
 
 pub returns-then-has_tokens : goal.returns-then-has_tokens
-returns-then-has_tokens c = output_of c.args.config.now.line_width c.args.config.now.indent_width c.args.ps.now c.args.tree c.in_ok-tokens.tokens.items (comments_left c.in_ok-tokens.closing) (string_bytes c.in_ok-text.text) _ c.utf8.ps (c.tree_is_of_accepted.ensures c.args.ps.now c.args.tree c.requires) c.requires
-    c.in_ok-tokens.ensures.stream c.in_ok-text.ensures.joined c.in_ok-push_closing.ensures
+returns-then-has_tokens c =
+    let fed : string_bytes c.push.new.self ≡ string_bytes c.in_ok-layout.layout ++ (10 ∷ []) = search rules in
+    output_of c.args.config.now.line_width c.args.config.now.indent_width c.args.text.now c.args.policy c.in_ok-tokens.tokens.items c.utf8.text c.requires.policy (c.in_ok-tokens.ensures.stream c.args.text.now c.requires.tokens)
+    (string_bytes c.in_ok-layout.layout) (string_bytes c.push.new.self) c.requires.piece (c.tree_is_of_accepted.ensures c.args.text.now c.requires.policy.0 c.requires.policy.1) c.in_ok-layout.ensures.text fed
 
 pub returns : goal.returns
 returns c =
-    let laid = output_of c.args.config.now.line_width c.args.config.now.indent_width c.args.ps.now c.args.tree c.in_ok-tokens.tokens.items (comments_left c.in_ok-tokens.closing) (string_bytes c.in_ok-text.text) _ c.utf8.ps (c.tree_is_of_accepted.ensures c.args.ps.now c.args.tree c.requires) c.requires
-    c.in_ok-tokens.ensures.stream c.in_ok-text.ensures.joined c.in_ok-push_closing.ensures in
-    let output = subst (λ z. IsOutputOf c.args.config.now.line_width c.args.config.now.indent_width c.args.ps.now z) (sym c.as_str.ensures.value) laid in
-    let h = has_them c.outputs_are_canonical.ensures.list c.outputs_are_canonical.ensures.accepted c.args.config.now.line_width c.args.config.now.indent_width c.args.ps.now c.as_str.result.now c.in_ok-tokens.tokens.items _ _ c.utf8.ps output c.in_ok-tokens.ensures.stream (subst (λ z. KeepsTokens c.in_ok-tokens.tokens.items z) (sym c.deref.ensures.value) c.in_ok-text.ensures.kept) in
+    let w = c.args.config.now.line_width in
+    let i = c.args.config.now.indent_width in
+    let text = c.args.text.now in
+    let fed : string_bytes c.push.new.self ≡ string_bytes c.in_ok-layout.layout ++ (10 ∷ []) = search rules in
+    let laid = output_of w i text c.args.policy c.in_ok-tokens.tokens.items c.utf8.text c.requires.policy (c.in_ok-tokens.ensures.stream c.args.text.now c.requires.tokens)
+    (string_bytes c.in_ok-layout.layout) (string_bytes c.push.new.self) c.requires.piece (c.tree_is_of_accepted.ensures text c.requires.policy.0 c.requires.policy.1) c.in_ok-layout.ensures.text fed in
+    let output = subst (λ z. IsOutputOf w i text z) (sym c.as_str.ensures.value) laid in
+    let h = has_them c.outputs_are_canonical.ensures.list c.outputs_are_canonical.ensures.accepted w i text c.as_str.result.now c.in_ok-tokens.tokens.items _ c.utf8.text output (c.in_ok-tokens.ensures.stream c.args.text.now c.requires.tokens)
+    (subst (λ z. KeepsTokens c.in_ok-tokens.tokens.items z) (sym c.deref.ensures.value) c.in_ok-layout.ensures.kept) in
     let t = c.has_tokens.ensures.1 h in
     let f = c.if-has_tokens.false in
     absurd cc
 
-pub returns-in_err-text : goal.returns-in_err-text
-returns-in_err-text c =
-    let s = c.in_ok-tokens.ensures.stream in
-    let o = policies_over c.args.ps.now c.args.tree s.list s.all c.in_ok-tokens.tokens.items c.utf8.ps c.requires s.is_list s.listed s.spans s.plain s.kept in
-    let p = err_from_is_err_and c.from_residual-in_err-text.result c.from_residual-in_err-text.ensures.1 in
-    rw (p.1, p.2) (c.in_err-text.ensures.joined o.policies o.nodes (sym o.leaves))
+pub returns-in_err-layout : goal.returns-in_err-layout
+returns-in_err-layout c =
+    let p = err_from_is_err_and c.from_residual-in_err-layout.result c.from_residual-in_err-layout.ensures.1 in
+    rw (p.1, p.2)
+    (said_of c.args.config.now.line_width c.args.config.now.indent_width c.args.text.now c.args.policy c.in_ok-tokens.tokens.items c.utf8.text c.requires.policy (c.in_ok-tokens.ensures.stream c.args.text.now c.requires.tokens) (λ _. IsMemory c.in_err-layout.field-0.0) c.in_err-layout.ensures.text)

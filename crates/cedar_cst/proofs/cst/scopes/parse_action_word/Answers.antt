@@ -5,7 +5,7 @@ use Rattle.cedar_grammar.specs.Kinds.{is}
 use Rattle.cedar_grammar.specs.Trees.{Label, none, leaf}
 use Rattle.cedar_grammar.proofs.KindSets.{apart_at}
 use Rattle.cedar_grammar.proofs.ReadingLaws.{tree_done, tree_fails}
-use Rattle.cedar_reading.proofs.Steps.{passes, word_stands, is_itself}
+use Rattle.cedar_parser_steps.proofs.Steps.{passes, word_stands, is_itself}
 use Rattle.cedar_cst.proofs.cst.scopes.parse_action_word.Goals as goal
 
 pub returns-in_err-word-clause-reads : goal.returns-in_err-word-clause-reads

@@ -5,13 +5,13 @@ use Rattle.cedar_grammar.specs.Trees.{Label, none, branch, join}
 use Rattle.cedar_grammar.specs.Reader.Reading.{done}
 use Rattle.cedar_grammar.specs.Reader.Lines.{entity_item}
 use Rattle.cedar_tree.specs.Erased.{expr_parts}
-use Rattle.cedar_reading.specs.Inside.Reading.{flat}
-use Rattle.cedar_nodes.specs.Inside.ReadingItems.{StandsItems}
+use Rattle.cedar_parser_steps.specs.Inside.Reading.{flat}
+use Rattle.cedar_parser_expressions.specs.Inside.ReadingItems.{StandsItems}
 use Rattle.cedar_tree.specs.NodeLists.{item_trees}
-use Rattle.cedar_reading.proofs.Steps.{passes}
-use Rattle.cedar_reading.proofs.Manys.{flat_takes}
-use Rattle.cedar_reading.proofs.Operands.{keep_done, keep_fails, keep_shorter}
-use Rattle.cedar_expressions.proofs.Listed.{items_next, items_last_read, items_stuck, items_end, last_item}
+use Rattle.cedar_parser_steps.proofs.Steps.{passes}
+use Rattle.cedar_parser_steps.proofs.Manys.{flat_takes}
+use Rattle.cedar_parser_steps.proofs.Operands.{keep_done, keep_fails, keep_shorter}
+use Rattle.cedar_parser_expressions.proofs.Listed.{items_next, items_last_read, items_stuck, items_end, last_item}
 use Rattle.cedar_cst.proofs.cst.scopes.parse_entities.Goals as goal
 
 pub returns-in_err-keep-clause-reads : goal.returns-in_err-keep-clause-reads

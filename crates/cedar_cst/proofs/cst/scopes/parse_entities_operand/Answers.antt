@@ -3,9 +3,9 @@ use Rattle.std.proofs.lemmas.Result.{err_from_is_err_and}
 use Rattle.cedar_grammar.specs.Trees.{Label}
 use Rattle.cedar_grammar.proofs.ReadingLaws.{choice_yes, choice_no}
 use Rattle.cedar_tree.specs.Erased.{add_parts}
-use Rattle.cedar_reading.proofs.Steps.{passes, gives_as}
-use Rattle.cedar_reading.proofs.Rows.{row_node}
-use Rattle.cedar_reading.proofs.Operands.{operand_done, operand_fails, operand_stands}
+use Rattle.cedar_parser_steps.proofs.Steps.{passes, gives_as}
+use Rattle.cedar_parser_steps.proofs.Rows.{row_node}
+use Rattle.cedar_parser_steps.proofs.Operands.{operand_done, operand_fails, operand_stands}
 use Rattle.cedar_cst.proofs.cst.scopes.parse_entities_operand.Goals as goal
 
 pub returns-in_err-entities-clause-reads : goal.returns-in_err-entities-clause-reads
@@ -18,7 +18,7 @@ returns-then-begins-clause-reads c =
     let h = c.in_ok-entities.ensures.reads in (
       _,
       choice_yes _ _ _ _ (sym c.begins.ensures ∙ c.if-begins.true) ∙ operand_done _ _ _ _ h.1,
-      operand_stands c.in_ok-entities.entities [] _ c.lone_operand.result _ c.lone_operand.ensures (row_node Label.primary _ _ h.0 refl h.2),
+      operand_stands c.into_inner.result [] _ c.lone_operand.result _ c.lone_operand.ensures (rw c.into_inner.ensures (row_node Label.primary _ _ h.0 refl h.2)),
     )
 
 pub returns-clause-reads : goal.returns-clause-reads

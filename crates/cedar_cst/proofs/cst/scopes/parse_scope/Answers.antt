@@ -4,11 +4,11 @@ use Rattle.cedar_grammar.specs.Trees.{Label}
 use Rattle.cedar_grammar.specs.Reader.Reading.{Reader}
 use Rattle.cedar_grammar.specs.Reader.Lines.{scoped, action}
 use Rattle.cedar_grammar.proofs.ReadingLaws.{both_fails, both_then_fails}
-use Rattle.cedar_reading.specs.Inside.Reading.{flat}
-use Rattle.cedar_reading.specs.declared.lexeme.Lexeme.{Lexeme}
-use Rattle.cedar_reading.proofs.Steps.{passes}
-use Rattle.cedar_reading.proofs.Followed.{followed_fails, followed_done}
-use Rattle.cedar_expressions.proofs.Scopes.{closing, first_fails, second_fails, action_fails, third_fails, scope_done, closed_scope, closing_stuck}
+use Rattle.cedar_parser_steps.specs.Inside.Reading.{flat}
+use Rattle.cedar_parser_steps.specs.declared.lexeme.Lexeme.{Lexeme}
+use Rattle.cedar_parser_steps.proofs.Steps.{passes}
+use Rattle.cedar_parser_steps.proofs.Followed.{followed_fails, followed_done}
+use Rattle.cedar_parser_expressions.proofs.Scopes.{closing, first_fails, second_fails, action_fails, third_fails, scope_done, closed_scope, closing_stuck}
 use Rattle.cedar_cst.proofs.cst.scopes.parse_scope.Goals as goal
 use Rattle.cedar_tree.specs.Erased.{variable_parts}
 

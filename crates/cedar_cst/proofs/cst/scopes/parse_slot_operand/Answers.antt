@@ -1,9 +1,9 @@
 use Rattle.std.proofs.Common.{refl, []}
 use Rattle.std.proofs.lemmas.Result.{err_from_is_err_and}
 use Rattle.cedar_grammar.specs.Trees.{Label}
-use Rattle.cedar_reading.proofs.Steps.{passes}
-use Rattle.cedar_reading.proofs.Rows.{row_node}
-use Rattle.cedar_reading.proofs.Operands.{operand_done, operand_fails, operand_stands}
+use Rattle.cedar_parser_steps.proofs.Steps.{passes}
+use Rattle.cedar_parser_steps.proofs.Rows.{row_node}
+use Rattle.cedar_parser_steps.proofs.Operands.{operand_done, operand_fails, operand_stands}
 use Rattle.cedar_cst.proofs.cst.scopes.parse_slot_operand.Goals as goal
 
 pub returns-in_err-entity-clause-reads : goal.returns-in_err-entity-clause-reads

@@ -4,10 +4,10 @@ use Rattle.cedar_grammar.specs.Kinds.{is}
 use Rattle.cedar_grammar.specs.Trees.{Label, none, leaf}
 use Rattle.cedar_grammar.specs.Reader.Reading.{done, one}
 use Rattle.cedar_grammar.proofs.ReadingLaws.{tree_done, tree_fails}
-use Rattle.cedar_reading.specs.Inside.Reading.{kind, Fails}
-use Rattle.cedar_reading.specs.Inside.ReadingParts.{variable_kind}
-use Rattle.cedar_reading.proofs.Steps.{passes, word_stands, is_itself}
-use Rattle.cedar_reading.proofs.Variables.{variables_apart}
+use Rattle.cedar_parser_steps.specs.Inside.Reading.{kind, Fails}
+use Rattle.cedar_parser_steps.specs.Inside.ReadingParts.{variable_kind}
+use Rattle.cedar_parser_steps.proofs.Steps.{passes, word_stands, is_itself}
+use Rattle.cedar_parser_steps.proofs.Variables.{variables_apart}
 use Rattle.cedar_cst.proofs.cst.scopes.parse_variable_word.Goals as goal
 
 pub returns-in_err-word-clause-reads : goal.returns-in_err-word-clause-reads

@@ -2,7 +2,7 @@ use Rattle.std.proofs.Common.{◌≡◌, to_z, of_z, w64, arith, rules, refl}
 use Rattle.std.proofs.lemmas.Int.{ints}
 use Rattle.cedar_tree.specs.Erased.{mult_parts, node}
 use Rattle.cedar_grammar.specs.Trees.{Label, none}
-use Rattle.cedar_leaf_documents.specs.Found.{has_its_tokens}
+use Rattle.cedar_document_rows.specs.Found.{has_its_tokens}
 use Rattle.cedar_documents.proofs.Answered.{Called, and_one, kept_after, none_after, order_after, shown_node}
 use Rattle.cedar_documents.proofs.OwnTokens.{signed_tree}
 use Rattle.cedar_documents.proofs.doc.NodeMultDoc.to_doc.Goals as goal

@@ -30,8 +30,8 @@ unfolding columns
 returns-in-Text-clause-notes c =
     text_step (items_of c.args.stack.now.items) (doc_of c.args.doc.now) c.in-Text.s.now c.args.known _ (ap doc_of c.in-Text.is ∙ doc_of_text c.in-Text.s)
     refl
-    (omega (arith, c.width-columns.ensures.value, c.saturating_add.ensures))
-    (omega (arith, c.width-columns.ensures.value, c.saturating_add-in-Text.ensures))
+    (omega (arith, c.columns_of-columns.ensures, c.saturating_add.ensures))
+    (omega (arith, c.columns_of-columns.ensures, c.saturating_add-in-Text.ensures))
 
 pub returns-after-loop-d-clause-notes : goal.returns-after-loop-d-clause-notes
 returns-after-loop-d-clause-notes c =

@@ -36,7 +36,7 @@ pub returns-in_ok-push_str-in-Text-clause-bytes : goal.returns-in_ok-push_str-in
 unfolding columns
 returns-in_ok-push_str-in-Text-clause-bytes c =
     let h : c.args.width < 2 ^ 64 = omega arith in
-    piece_bytes c.args.width (todos c.args.stack.now.items) (todo c.args.next) (written c.in-Text.s.now) c.args.column _ _ _ h (text_printed c) c.in_ok-push_str-in-Text.ensures.bytes (omega (arith, c.width.ensures.value, c.saturating_add.ensures))
+    piece_bytes c.args.width (todos c.args.stack.now.items) (todo c.args.next) (written c.in-Text.s.now) c.args.column _ _ _ h (text_printed c) c.in_ok-push_str-in-Text.ensures.bytes (omega (arith, c.columns_of.ensures, c.saturating_add.ensures))
 
 space_printed : (c : goal.After-saturating_add-then-next) → PrintsAs (todo c.args.next) (flat_space ∷ [])
 space_printed c = prints_space (todo c.args.next) (ap doc_of c.in-Line.is ∙ doc_of_line) c.if-next.true

@@ -7,7 +7,5 @@ returns-in_default-clause-next c = λ text l spans h. none_has text _ l spans c.
 
 pub returns-clause-next : goal.returns-clause-next
 returns-clause-next c = λ text l spans h.
-    let made = c.new-2.ensures in
-    let parts = c.in_ok-comment.ensures.parts in
-    gives_first text _ _ c.in-Some.first _ l spans c.in-Some.ensures.token h refl refl refl
-    (rw made c.in_ok-token.ensures.text) (rw made c.in_ok-token.ensures.proper) (rw made parts.0) (rw made parts.1) (rw made refl)
+    let made = c.in_ok-token.ensures in
+    gives_first text _ _ c.in-Some.first _ l spans c.in-Some.ensures.token h refl refl refl made.text made.proper made.leading made.trailing made.span

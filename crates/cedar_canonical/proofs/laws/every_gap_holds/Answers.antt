@@ -1,9 +1,0 @@
-use Rattle.cedar_canonical.proofs.Assembled.{choices_agree}
-use Rattle.cedar_canonical.proofs.PrintedPolicies.{law_of_gaps}
-use Rattle.cedar_canonical.proofs.laws.every_gap_holds.Goals as goal
-
-pub returns-clause-gaps : goal.returns-clause-gaps
-returns-clause-gaps c = law_of_gaps
-
-pub returns-clause-choices : goal.returns-clause-choices
-returns-clause-choices c = choices_agree

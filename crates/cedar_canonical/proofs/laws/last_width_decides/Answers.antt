@@ -1,5 +1,0 @@
-use Rattle.cedar_canonical.proofs.OutputLaws.{last_width_decides}
-use Rattle.cedar_canonical.proofs.laws.last_width_decides.Goals as goal
-
-pub returns : goal.returns
-returns c = last_width_decides

@@ -1,0 +1,211 @@
+-- Items with commas between them, and the loops that make their documents.
+use Rattle.std.proofs.Common.{◌≡◌, ℕ, ℤ, List, [], ◌∷◌, ◌++◌, map, length, drop, get_or, ◌+◌, ◌<◌, ◌≤◌, Option, Some, None, true, refl, sym, ap, ◌∙◌, arith, append-nil, append_assoc}
+use Rattle.std.specs.Prelude.{codes, ◌&&◌}
+use Rattle.std.proofs.lemmas.List.{map-append, at_drop_more, at_drop_all}
+use Rattle.cedar_tokens.specs.Listing.{token_value}
+use Rattle.cedar_tokens.specs.declared.token.Span.{Span}
+use Rattle.cedar_grammar.specs.Trees.{Label, Forest, leaf, branch, none}
+use Rattle.cedar_grammar.specs.TypedTrees.{NodeKind, Tree, parts, tree_yield, expr, init, args, inits, args_one, args_more, inits_one, inits_more}
+use Rattle.cedar_layout.specs.Layout.{Doc, nil, line, ◌·◌}
+use Rattle.cedar_layout.specs.Lookups.{Shown, emptied}
+use Rattle.cedar_layout.specs.Value.{doc_of, docs_of}
+use Rattle.cedar_layout.specs.declared.layout.Document.{Document}
+use Rattle.cedar_layout.proofs.Values.{dot-nil, dot_assoc}
+use Rattle.cedar_tree.specs.Erased.{Erased, expr_parts}
+use Rattle.cedar_tree.specs.NodeLists.{item_trees, more_trees, init_parts}
+use Rattle.cedar_tree.specs.NodeTrees.{is_node}
+use Rattle.cedar_tree.specs.declared.tree.Node.{Node}
+use Rattle.cedar_tree.specs.declared.tree.Expr as Expr
+use Rattle.cedar_tree.specs.declared.tree.RecInit as RecInit
+use Rattle.cedar_document_rows.specs.Found.{has_its_tokens, has_own}
+use Rattle.cedar_laws.specs.Table as table
+use Rattle.cedar_document_rows.specs.NodeDocuments.{as_leaf, nodes_of, text_of, kind_of_shown, end_of_tokens, IsAt, document}
+use Rattle.cedar_document_rows.proofs.Opened.{opened_tree, opened_token, ends_here}
+
+-- commas, each with the item behind it: their nodes, their tokens and their documents
+abbrev pub row_parts : {k : NodeKind} → Label → List (Shown × Tree Shown k) → Forest Label Shown
+row_parts l [] = none
+row_parts l (x ∷ xs) = leaf x.0 (branch l (parts kind_of_shown x.1) (row_parts l xs))
+
+abbrev pub row_yield : {k : NodeKind} → List (Shown × Tree Shown k) → List Shown
+row_yield [] = []
+row_yield (x ∷ xs) = x.0 ∷ (tree_yield x.1 ++ row_yield xs)
+
+abbrev pub row_document : {k : NodeKind} → ℤ → List (Shown × Tree Shown k) → Doc
+row_document i [] = nil
+row_document i (x ∷ xs) = table.printed (as_leaf x.0) · line · document i x.1 · row_document i xs
+
+-- The items up to a place are done: their tokens have no comments, the last one ends at s, and the documents made are those of the items done.
+pub record Stage (X : Type 0) (k : NodeKind) (l : Label) (inside : X → Erased) (i : ℤ) (s : Span) (left : List (Node X)) (docs : Doc) (now : List Shown) (f : Tree Shown k) (row : List (Shown × Tree Shown k)) (b a : List Shown) : Type 0 where
+  pub finished : List Shown
+  pub rest : List (Shown × Tree Shown k)
+  pub tokens : tree_yield f ++ row_yield row ≡ finished ++ row_yield rest
+  pub nodes : more_trees l inside left ≡ nodes_of (row_parts l rest)
+  pub place : end_of_tokens (b ++ map emptied finished) ≡ s.end
+  pub shown_now : now ≡ (b ++ map emptied finished) ++ (row_yield rest ++ a)
+  pub made : docs · row_document i rest ≡ document i f · row_document i row
+
+-- Where no item stands before, nothing is done; else it is so far done for each tree of the whole.
+abbrev pub Progress : (X : Type 0) (k : NodeKind) → Label → (X → Erased) → ℤ → List (Node X) → Option Span → List (Node X) → Doc → List Shown → List Shown → Type 0
+Progress X k l inside i whole None left docs old now = (left ≡ whole) × (docs ≡ nil) × (now ≡ old)
+Progress X k l inside i whole (Some s) left docs old now = (whole ≡ [] → ⊥) × ((f : Tree Shown k) (row : List (Shown × Tree Shown k)) → item_trees l inside whole ≡ nodes_of (branch l (parts kind_of_shown f) (row_parts l row))
+    → (b a : List Shown) → old ≡ b ++ ((tree_yield f ++ row_yield row) ++ a) → Stage X k l inside i s left docs now f row b a)
+
+module _ (X : Type 0) (k : NodeKind) (l : Label) (inside : X → Erased) (i : ℤ) (is : is_node l ≡ true) where
+  -- what the document of an item, and of a comma, is
+  abbrev IsMade : Node X → Doc → List Shown → List Shown → Type 0
+  IsMade n d old new = (f : Tree Shown k) → IsAt n.span (tree_yield f) → inside n.inner ≡ nodes_of (parts kind_of_shown f) → (b a : List Shown) → old ≡ b ++ (tree_yield f ++ a) → (d ≡ document i f) × (new ≡ (b ++ map emptied (tree_yield f)) ++ a)
+
+  abbrev IsComma : Span → Doc → List Shown → List Shown → Type 0
+  IsComma s d old new = (t : Shown) → codes "," ≡ token_value (text_of t) → (b a : List Shown) → end_of_tokens b ≡ s.end → old ≡ b ++ (t ∷ a) → (d ≡ table.printed (as_leaf t) · line) × (new ≡ (b ++ (emptied t ∷ [])) ++ a)
+
+  first_stage : (n : Node X) (ns : List (Node X)) (docs d : Doc) (old new : List Shown) → IsMade n d old new → docs ≡ d → (f : Tree Shown k) (row : List (Shown × Tree Shown k))
+      → item_trees l inside (n ∷ ns) ≡ nodes_of (branch l (parts kind_of_shown f) (row_parts l row)) → (b a : List Shown) → old ≡ b ++ ((tree_yield f ++ row_yield row) ++ a) → Stage X k l inside i n.span ns docs new f row b a
+  first_stage n ns docs d old new h q f row e b a st =
+      let o = opened_tree l n.span (inside n.inner) (more_trees l inside ns) f (row_parts l row) is e in
+      let r = h f o.1 o.0 b (row_yield row ++ a) (st ∙ ap (λ z. b ++ z) (append_assoc (tree_yield f) (row_yield row) a)) in
+      record { finished = tree_yield f; rest = row; tokens = refl; nodes = o.2; place = ends_here n.span (tree_yield f) o.1 b; shown_now = r.1; made = ap (λ z. z · row_document i row) (q ∙ r.0) }
+
+  next_stage : (s : Span) (n : Node X) (ns : List (Node X)) (docs docs' c d : Doc) (now mid new : List Shown) (f : Tree Shown k) (row : List (Shown × Tree Shown k)) (b a : List Shown)
+      → IsComma s c now mid → IsMade n d mid new → docs' ≡ (docs · c) · d → (finished : List Shown) (rest : List (Shown × Tree Shown k)) → tree_yield f ++ row_yield row ≡ finished ++ row_yield rest
+      → more_trees l inside (n ∷ ns) ≡ nodes_of (row_parts l rest) → end_of_tokens (b ++ map emptied finished) ≡ s.end → now ≡ (b ++ map emptied finished) ++ (row_yield rest ++ a) → docs · row_document i rest ≡ document i f · row_document i row
+      → Stage X k l inside i n.span ns docs' new f row b a
+  next_stage s n ns docs docs' c d now mid new f row b a hc hd q finished [] tk e p st m = absurd cc
+  next_stage s n ns docs docs' c d now mid new f row b a hc hd q finished (x ∷ xs) tk e p st m =
+      let t = x.0 in
+      let ts = tree_yield x.1 in
+      let front = b ++ map emptied finished in
+      let o = opened_token (codes ",") _ t (branch l (parts kind_of_shown x.1) (row_parts l xs)) e in
+      let u = opened_tree l n.span (inside n.inner) (more_trees l inside ns) x.1 (row_parts l xs) is o.1 in
+      let v = hc t o.0 front ((ts ++ row_yield xs) ++ a) p st in
+      let w = hd x.1 u.1 u.0 (front ++ (emptied t ∷ [])) (row_yield xs ++ a) (v.1 ∙ ap (λ z. (front ++ (emptied t ∷ [])) ++ z) (append_assoc ts (row_yield xs) a)) in
+      let moved : (front ++ (emptied t ∷ [])) ++ map emptied ts ≡ b ++ map emptied (finished ++ (t ∷ ts)) =
+      append_assoc front (emptied t ∷ []) (map emptied ts) ∙ append_assoc b (map emptied finished) (emptied t ∷ map emptied ts) ∙ ap (λ z. b ++ z) (sym (map-append emptied finished (t ∷ ts))) in
+      record {
+        finished = finished ++ (t ∷ ts);
+        rest = xs;
+        tokens = tk ∙ sym (append_assoc finished (t ∷ ts) (row_yield xs));
+        nodes = u.2;
+        place = ap end_of_tokens (sym moved) ∙ ends_here n.span ts u.1 (front ++ (emptied t ∷ []));
+        shown_now = w.1 ∙ ap (λ z. z ++ (row_yield xs ++ a)) moved;
+        made = ap (λ z. z · row_document i xs) (q ∙ ap (λ z. (docs · z) · d) v.0 ∙ ap (λ z. (docs · (table.printed (as_leaf t) · line)) · z) w.0)
+            ∙ dot_assoc (docs · (table.printed (as_leaf t) · line)) (document i x.1) (row_document i xs)
+            ∙ dot_assoc docs (table.printed (as_leaf t) · line) (document i x.1 · row_document i xs)
+            ∙ ap (λ z. docs · z) (dot_assoc (table.printed (as_leaf t)) line (document i x.1 · row_document i xs))
+            ∙ m;
+      }
+
+  -- one item more
+  pub next_item : (whole : List (Node X)) (before : Option Span) (n : Node X) (left ns : List (Node X)) (docs more docs' d : Doc) (old now mid new : List Shown) → left ≡ n ∷ ns → (whole ≡ [] → ⊥)
+      → Progress X k l inside i whole before left docs old now
+      → (before ≡ None → (more ≡ docs) × (mid ≡ now))
+      → ((s : Span) → before ≡ Some s → (c : Doc) × (more ≡ docs · c) × IsComma s c now mid) → IsMade n d mid new → docs' ≡ more · d
+      → Progress X k l inside i whole (Some n.span) ns docs' old new
+  next_item whole None n left ns docs more docs' d old now mid new e ne p hn hs hd q =
+      let r = hn refl in
+      (ne, λ f row g b a st. first_stage n ns docs' d mid new hd (q ∙ ap (λ z. z · d) (r.0 ∙ p.1)) f row (ap (item_trees l inside) (sym e ∙ p.0) ∙ g) b a (r.1 ∙ p.2 ∙ st))
+  next_item whole (Some s) n left ns docs more docs' d old now mid new e ne p hn hs hd q = (
+    ne,
+    λ f row g b a st.
+        let y = p.1 f row g b a st in
+        let r = hs s refl in
+        next_stage s n ns docs docs' r.0 d now mid new f row b a r.2 hd (q ∙ ap (λ z. z · d) r.1) y.finished y.rest y.tokens (ap (more_trees l inside) (sym e) ∙ y.nodes) y.place y.shown_now y.made,
+  )
+
+  last_stage : (s : Span) (docs : Doc) (now : List Shown) (f : Tree Shown k) (row : List (Shown × Tree Shown k)) (b a : List Shown) (finished : List Shown) (rest : List (Shown × Tree Shown k)) → tree_yield f ++ row_yield row ≡ finished ++ row_yield rest
+      → more_trees l inside [] ≡ nodes_of (row_parts l rest) → now ≡ (b ++ map emptied finished) ++ (row_yield rest ++ a) → docs · row_document i rest ≡ document i f · row_document i row
+      → (docs ≡ document i f · row_document i row) × (now ≡ (b ++ map emptied (tree_yield f ++ row_yield row)) ++ a)
+  last_stage s docs now f row b a finished [] tk e st m = (sym (dot-nil docs) ∙ m, st ∙ ap (λ z. (b ++ map emptied z) ++ a) (sym (append-nil finished) ∙ sym tk))
+  last_stage s docs now f row b a finished (x ∷ xs) tk e st m = absurd cc
+
+  -- all items are done
+  pub all_items : (whole : List (Node X)) (before : Option Span) (left : List (Node X)) (docs : Doc) (old now : List Shown) → left ≡ [] → Progress X k l inside i whole before left docs old now → (f : Tree Shown k) (row : List (Shown × Tree Shown k))
+      → item_trees l inside whole ≡ nodes_of (branch l (parts kind_of_shown f) (row_parts l row)) → (b a : List Shown) → old ≡ b ++ ((tree_yield f ++ row_yield row) ++ a)
+      → (docs ≡ document i f · row_document i row) × (now ≡ (b ++ map emptied (tree_yield f ++ row_yield row)) ++ a)
+  all_items whole None left docs old now e p f row g b a st =
+      let h : none ≡ nodes_of (branch l (parts kind_of_shown f) (row_parts l row)) = ap (item_trees l inside) (sym e ∙ p.0) ∙ g in
+      absurd cc
+  all_items whole (Some s) left docs old now e p f row g b a st =
+      let y = p.1 f row g b a st in
+      last_stage s docs now f row b a y.finished y.rest y.tokens (ap (more_trees l inside) (sym e) ∙ y.nodes) y.shown_now y.made
+
+  -- there are none
+  pub no_item : (whole : List (Node X)) (before : Option Span) (left : List (Node X)) (docs : Doc) (old now : List Shown) → whole ≡ [] → Progress X k l inside i whole before left docs old now
+      → (b a : List Shown) → old ≡ b ++ a → (docs ≡ nil) × (now ≡ (b ++ []) ++ a)
+  no_item whole None left docs old now e p b a st = (p.1, p.2 ∙ st ∙ ap (λ z. z ++ a) (sym (append-nil b)))
+  no_item whole (Some s) left docs old now e p b a st = absurd (p.0 e)
+
+-- the item at an index, and those behind it
+pub from_index : {X : Type 0} (xs : List X) (j : ℕ) (x : X) → j < length xs → x ≡ get_or xs j x → drop j xs ≡ x ∷ drop (j + 1) xs
+from_index xs j x h e = at_drop_more (λ ys. ys) xs j x h ∙ ap (λ y. y ∷ drop (j + 1) xs) (sym e)
+
+pub none_from : {X : Type 0} (xs : List X) (j : ℕ) → length xs ≤ j → drop j xs ≡ []
+none_from xs j h = at_drop_all (λ ys. ys) xs j h
+
+pub some_at : {X : Type 0} (xs : List X) (j : ℕ) → j < length xs → xs ≡ [] → ⊥
+some_at [] j h e = absurd (omega arith)
+some_at (x ∷ xs) j h e = cc
+
+-- the items from an index on have their tokens where the item there has, and those behind it have
+pub item_and_more : {X : Type 0} (places : List Span) (l : Label) → ((s : Span) (f : Erased) → has_own places l (Some s) f ≡ true) → (inside : X → Erased) (xs : List (Node X)) (j : ℕ) (n : Node X) → drop j xs ≡ n ∷ drop (j + 1) xs
+    → has_its_tokens places (item_trees l inside (drop j xs)) ≡ (has_its_tokens places (inside n.inner) && has_its_tokens places (item_trees l inside (drop (j + 1) xs)))
+item_and_more {X = X} places l own inside xs j n e = ap (λ z. has_its_tokens places (item_trees l inside z)) e ∙ ap (λ b. b && (has_its_tokens places (inside n.inner) && has_its_tokens places (more_trees l inside (drop (j + 1) xs)))) (own n.span (inside n.inner))
+    ∙ ap (λ b. has_its_tokens places (inside n.inner) && b) (first_or_more (drop (j + 1) xs))
+  where
+    first_or_more : (ns : List (Node X)) → has_its_tokens places (more_trees l inside ns) ≡ has_its_tokens places (item_trees l inside ns)
+    first_or_more [] = refl
+    first_or_more (m ∷ ns) = refl
+
+-- ---- the items of typed trees
+
+abbrev pub first_arg : Tree Shown args → Tree Shown expr
+first_arg (args_one e) = e
+first_arg (args_more e c r) = e
+
+abbrev pub other_args : Tree Shown args → List (Shown × Tree Shown expr)
+other_args (args_one e) = []
+other_args (args_more e c r) = (c, first_arg r) ∷ other_args r
+
+args_nodes : (t : Tree Shown args) → parts kind_of_shown t ≡ branch Label.expr (parts kind_of_shown (first_arg t)) (row_parts Label.expr (other_args t))
+args_nodes (args_one e) = refl
+args_nodes (args_more e c r) = ap (λ z. branch Label.expr (parts kind_of_shown e) (leaf c z)) (args_nodes r)
+
+args_tokens : (t : Tree Shown args) → tree_yield t ≡ tree_yield (first_arg t) ++ row_yield (other_args t)
+args_tokens (args_one e) = sym (append-nil (tree_yield e))
+args_tokens (args_more e c r) = ap (λ z. tree_yield e ++ (c ∷ z)) (args_tokens r)
+
+args_document : (i : ℤ) (t : Tree Shown args) → document i t ≡ document i (first_arg t) · row_document i (other_args t)
+args_document i (args_one e) = sym (dot-nil (document i e))
+args_document i (args_more e c r) = ap (λ z. document i e · table.printed (as_leaf c) · line · z) (args_document i r)
+
+pub all_args : (i : ℤ) (whole : List (Node Expr.Expr)) (before : Option Span) (left : List (Node Expr.Expr)) (docs : Doc) (old now : List Shown) → left ≡ [] → Progress Expr.Expr expr Label.expr expr_parts i whole before left docs old now
+    → (t : Tree Shown args) → item_trees Label.expr expr_parts whole ≡ nodes_of (parts kind_of_shown t) → (b a : List Shown) → old ≡ b ++ (tree_yield t ++ a) → (docs ≡ document i t) × (now ≡ (b ++ map emptied (tree_yield t)) ++ a)
+all_args i whole before left docs old now e p t g b a st =
+    let r = all_items Expr.Expr expr Label.expr expr_parts i refl whole before left docs old now e p (first_arg t) (other_args t) (g ∙ ap (λ z. nodes_of z) (args_nodes t)) b a (st ∙ ap (λ z. b ++ (z ++ a)) (args_tokens t)) in
+    (r.0 ∙ sym (args_document i t), r.1 ∙ ap (λ z. (b ++ map emptied z) ++ a) (sym (args_tokens t)))
+
+abbrev pub first_init : Tree Shown inits → Tree Shown init
+first_init (inits_one e) = e
+first_init (inits_more e c r) = e
+
+abbrev pub other_inits : Tree Shown inits → List (Shown × Tree Shown init)
+other_inits (inits_one e) = []
+other_inits (inits_more e c r) = (c, first_init r) ∷ other_inits r
+
+inits_nodes : (t : Tree Shown inits) → parts kind_of_shown t ≡ branch Label.rec_init (parts kind_of_shown (first_init t)) (row_parts Label.rec_init (other_inits t))
+inits_nodes (inits_one e) = refl
+inits_nodes (inits_more e c r) = ap (λ z. branch Label.rec_init (parts kind_of_shown e) (leaf c z)) (inits_nodes r)
+
+inits_tokens : (t : Tree Shown inits) → tree_yield t ≡ tree_yield (first_init t) ++ row_yield (other_inits t)
+inits_tokens (inits_one e) = sym (append-nil (tree_yield e))
+inits_tokens (inits_more e c r) = ap (λ z. tree_yield e ++ (c ∷ z)) (inits_tokens r)
+
+inits_document : (i : ℤ) (t : Tree Shown inits) → document i t ≡ document i (first_init t) · row_document i (other_inits t)
+inits_document i (inits_one e) = sym (dot-nil (document i e))
+inits_document i (inits_more e c r) = ap (λ z. document i e · table.printed (as_leaf c) · line · z) (inits_document i r)
+
+pub all_inits : (i : ℤ) (whole : List (Node RecInit.RecInit)) (before : Option Span) (left : List (Node RecInit.RecInit)) (docs : Doc) (old now : List Shown) → left ≡ [] → Progress RecInit.RecInit init Label.rec_init init_parts i whole before left docs old now
+    → (t : Tree Shown inits) → item_trees Label.rec_init init_parts whole ≡ nodes_of (parts kind_of_shown t) → (b a : List Shown) → old ≡ b ++ (tree_yield t ++ a) → (docs ≡ document i t) × (now ≡ (b ++ map emptied (tree_yield t)) ++ a)
+all_inits i whole before left docs old now e p t g b a st =
+    let r = all_items RecInit.RecInit init Label.rec_init init_parts i refl whole before left docs old now e p (first_init t) (other_inits t) (g ∙ ap (λ z. nodes_of z) (inits_nodes t)) b a (st ∙ ap (λ z. b ++ (z ++ a)) (inits_tokens t)) in
+    (r.0 ∙ sym (inits_document i t), r.1 ∙ ap (λ z. (b ++ map emptied z) ++ a) (sym (inits_tokens t)))

@@ -1,0 +1,26 @@
+-- What the parts of policies tell of their tokens.
+use Rattle.std.proofs.Common.{◌≡◌, ℕ, List, [], ◌∷◌, ◌++◌, map, Option, Some, None}
+use Rattle.std.specs.Prelude.{IsSomeAnd}
+use Rattle.cedar_grammar.specs.Trees.{Label, Forest, leaf, branch}
+use Rattle.cedar_grammar.specs.Trees as forest
+use Rattle.cedar_layout.specs.Lookups.{Shown, emptied}
+use Rattle.cedar_tree.specs.Erased.{Erased}
+use Rattle.cedar_document_rows.specs.NodeDocuments.{end_of_tokens, nodes_of}
+
+-- behind one token, with its comments or without them
+pub behind_token : (p : ℕ) (x : Shown) → x.span.end ≡ p → (b : List Shown) → end_of_tokens (b ++ map emptied (x ∷ [])) ≡ p
+behind_token p x e [] = e
+behind_token p x e (y ∷ []) = e
+behind_token p x e (y ∷ (z ∷ b)) = behind_token p x e (z ∷ b)
+
+-- no token is no part
+pub no_token : (x : Shown) (g : Forest Label Shown) → ◌≡◌ {A = Erased} forest.none (nodes_of (leaf x g)) → ⊥
+no_token x g e = absurd cc
+
+pub no_part : (s : List ℕ) (r : Erased) → ◌≡◌ {A = Erased} (leaf s r) forest.none → ⊥
+no_part s r e = absurd cc
+
+-- what holds of an answer, and what holds beside it
+pub apart : {V : Type 0} (P : V → Type 0) (Q : Type 0) (r : Option V) → IsSomeAnd r (λ v. P v × Q) → IsSomeAnd r P × Q
+apart P Q None h = absurd h
+apart P Q (Some v) h = h

@@ -1,4 +1,0 @@
-// The functions that read expressions: the cycle of them, down the nesting.
-#![tactic(auto)]
-
-pub mod expressions;

@@ -1,0 +1,15 @@
+pub mod Neighbours
+pub mod Joining
+pub mod CleaningLaws
+pub mod Good
+pub mod GoodLaws
+pub mod LostBlanks
+pub mod Leaves
+pub mod Table
+pub mod Fit
+pub mod Gaps
+pub mod Output
+pub mod Laws
+pub mod GrammarTrees
+pub mod Canonical
+pub mod OutputLaws

@@ -1,0 +1,57 @@
+//! The tokens of a text with their comments, from its lexemes.
+ghost use Rattle.std.specs.Prelude.{◌≡◌, ◌≤◌, length, map, IfOk};
+ghost use Rattle.std.specs.List.{AllByRecursion};
+ghost use Rattle.std.specs.Str.{IsCharBoundary};
+ghost use Rattle.cedar_tokens.specs.Listing.{IsListing};
+ghost use Rattle.cedar_tokens.specs.Places.{AreTokenSpans, InOrderFrom};
+ghost use Rattle.cedar_tokens.specs.Tokens.{decorated, comments_left, StandsIn};
+ghost use Rattle.cedar_tokens.specs.Inside.Between.{first_start, text_before};
+ghost use Rattle.cedar_parser_steps.specs.Inside.Lexemes.{AreLexemes};
+
+use crate::lexeme::Lexeme;
+use cedar_tokens::readers::{commented_token, split_gap};
+use cedar_tokens::token::{Comments, WrappedToken, get_comment};
+use std::alloc::{AllocError, Global};
+
+// Where the first of these lexemes starts; `end` where there is none.
+fn first_start(lexemes: &[Lexeme], end: usize) -> usize
+    ensures { result ≡ first_start end (map (λ l. l.span) lexemes.now) }
+{
+    match lexemes.first() {
+        Some(lexeme) => lexeme.span.start,
+        None => end,
+    }
+}
+
+// The text from the byte `at` to the first of these lexemes, or to its end.
+fn text_before<'src>(text: &'src str, at: usize, lexemes: &[Lexeme]) -> &'src str
+    requires from { IsCharBoundary text.now at }
+    requires to { IsCharBoundary text.now (first_start (length text.now) (map (λ l. l.span) lexemes.now)) }
+    requires order { at ≤ first_start (length text.now) (map (λ l. l.span) lexemes.now) }
+    ensures { result.now ≡ text_before text.now at (map (λ l. l.span) lexemes.now) }
+{
+    &text[at..first_start(lexemes, text.len())]
+}
+
+/// The tokens of a text with their comments, and the closing comments, from its lexemes: those of `get_token_stream`.
+pub fn commented_tokens<'src>(
+    alloc: Global,
+    text: &'src str,
+    lexemes: &[Lexeme<'src>],
+) -> Result<(Vec<WrappedToken<'src>>, Comments<'src>), AllocError>
+    requires { AreLexemes text.now lexemes.now }
+    ensures listing { IfOk result (λ p. IsListing text.now (record { tokens = map decorated p.0.items; closing = comments_left p.1 })) }
+    ensures spans { IfOk result (λ p. AreTokenSpans text.now (map (λ w. w.span) p.0.items)) }
+    ensures order { IfOk result (λ p. InOrderFrom 0 (map (λ w. w.span) p.0.items)) }
+    ensures slices { IfOk result (λ p. AllByRecursion (StandsIn text.now) p.0.items) }
+{
+    let mut tokens = Vec::with_capacity(alloc, lexemes.len())?;
+    let mut leading = text_before(text, 0, lexemes);
+    for (at, lexeme) in lexemes.iter().enumerate() {
+        let gap = text_before(text, lexeme.span.end, &lexemes[at + 1..]);
+        let (trailing, ahead) = split_gap(gap);
+        tokens.push(commented_token(alloc, lexeme.text, lexeme.span, leading, trailing)?)?;
+        leading = ahead;
+    }
+    Ok((tokens, get_comment(leading)))
+}

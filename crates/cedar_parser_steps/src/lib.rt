@@ -1,0 +1,10 @@
+//! The parser's single steps, and all that it reads without nesting.
+#![tactic(auto)]
+
+pub mod accesses;
+pub mod commented;
+pub mod lexeme;
+pub mod literals;
+pub mod names;
+pub mod reading;
+pub mod signs;

@@ -1,5 +1,0 @@
-use Rattle.cedar_pieces.proofs.Semicolons.{piece_whole}
-use Rattle.cedar_pieces.proofs.pieces.first_piece.Goals as goal
-
-pub returns-clause-piece : goal.returns-clause-piece
-returns-clause-piece c = piece_whole _ _ _ _ c.in_ok-end.ensures.semicolon c.range_from.ensures.value c.rest_of_line.ensures.line

@@ -1,4 +1,0 @@
-// Whether two trees of policies are equal without places.
-#![tactic(auto)]
-
-pub mod compare;

@@ -1,5 +1,0 @@
-use Rattle.cedar_text_laws.proofs.CleanedTexts.{clean_reads}
-use Rattle.cedar_text_laws.proofs.laws.cleaning_keeps_the_list.Goals as goal
-
-pub returns : goal.returns
-returns c = clean_reads
