@@ -6,7 +6,7 @@ use Rattle.cedar_grammar.specs.Trees.{Label, Forest, none, leaf, branch}
 use Rattle.cedar_grammar.specs.Reader.Reading.{Reader, done, stuck, both, tree, token, one}
 use Rattle.cedar_grammar.proofs.ReadingLaws.{tree_done, tree_fails, both_done, both_fails, both_then_fails}
 use Rattle.cedar_tree.specs.Erased.{expr_parts, cond_parts}
-use Rattle.cedar_parser_steps.specs.Inside.Reading.{kind, Stands, ident_parts}
+use Rattle.cedar_parser_steps.specs.Reading.{kind, Stands, ident_parts}
 use Rattle.cedar_grammar.specs.Kinds.{is_cond_word}
 use Rattle.cedar_parser_steps.specs.declared.lexeme.Lexeme.{Lexeme}
 use Rattle.cedar_tree.specs.declared.tree.Cond.{Cond}

@@ -23,8 +23,8 @@ use Rattle.cedar_tree.specs.NodeTrees.{spanned}
 use Rattle.cedar_parser_steps.specs.declared.lexeme.Lexeme.{Lexeme}
 use Rattle.cedar_parser_steps.specs.declared.reading.Refusal.{Refusal}
 use Rattle.cedar_parser_steps.specs.declared.reading.Refusal.TheVariants.{Grammar, TooDeep, OutOfMemory}
-use Rattle.cedar_parser_steps.specs.Inside.Lexemes.{AreLexemes}
-use Rattle.cedar_parser_steps.specs.Inside.Reading.{kind, AreRight, start_or, place_of}
+use Rattle.cedar_parser_steps.specs.Lexemes.{AreLexemes}
+use Rattle.cedar_parser_steps.specs.Reading.{kind, AreRight, start_or, place_of}
 use Rattle.cedar_parser_steps.proofs.Parsing.{placed_tree}
 use Rattle.cedar_pieces.proofs.Prefixes.{units_length}
 use Rattle.cedar_cst.specs.Inside.Parts.{moved_span, moved_lexeme, place_before, placed_from, HasPoliciesFrom}

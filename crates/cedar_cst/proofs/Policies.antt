@@ -15,10 +15,10 @@ use Rattle.cedar_grammar.specs.Reader.Lines.{annotation_rule, scoped, action, co
 use Rattle.cedar_grammar.proofs.ReadingLaws.{both_first, both_done, both_fails, both_then_fails, tree_done, tree_fails, many_step, many_fails, many_end}
 use Rattle.cedar_tree.specs.Erased.{Erased, ident_tree, annotation_trees, cond_trees, policy_parts, policy_trees, annotation_parts, cond_parts, variable_parts}
 use Rattle.cedar_tree.specs.NodeTrees.{span_of}
-use Rattle.cedar_parser_steps.specs.Inside.Reading.{kind, flat, Fails, Stands, StandsMany, GivesMany, FollowedBy, node_trees, ident_parts}
-use Rattle.cedar_parser_steps.specs.Inside.ReadingParts.{scope_rule}
+use Rattle.cedar_parser_steps.specs.Reading.{kind, flat, Fails, Stands, StandsMany, GivesMany, FollowedBy, node_trees, ident_parts}
+use Rattle.cedar_parser_steps.specs.ReadingParts.{scope_rule}
 use Rattle.cedar_tree.specs.NodeLists.{item_trees}
-use Rattle.cedar_parser_steps.specs.Inside.Lexemes.{lexeme_nodes}
+use Rattle.cedar_parser_steps.specs.Lexemes.{lexeme_nodes}
 use Rattle.cedar_parser_steps.specs.declared.lexeme.Lexeme.{Lexeme}
 use Rattle.cedar_parser_steps.specs.declared.reading.Refusal.{Refusal}
 use Rattle.cedar_tree.specs.declared.tree.Node.{Node}

@@ -8,7 +8,7 @@ use Rattle.cedar_grammar.specs.Trees.{Label, Forest, none, branch}
 use Rattle.cedar_grammar.specs.Reader.Reading.{Answer, Reader, done, stuck, tree, repeat}
 use Rattle.cedar_grammar.proofs.ReadingLaws.{tree_done, tree_fails, read_end, read_fails}
 use Rattle.cedar_tree.specs.Erased.{policy_parts}
-use Rattle.cedar_parser_steps.specs.Inside.Reading.{kind, Fails}
+use Rattle.cedar_parser_steps.specs.Reading.{kind, Fails}
 use Rattle.cedar_cst.specs.Inside.ReadingSet.{GivesSet}
 use Rattle.cedar_parser_steps.specs.declared.lexeme.Lexeme.{Lexeme}
 use Rattle.cedar_parser_steps.specs.declared.reading.Refusal.{Refusal}

@@ -15,8 +15,8 @@ use Rattle.cedar_grammar.proofs.DepthLaws.{Beyond}
 use Rattle.cedar_grammar.proofs.WholeLaws.{set_sound, set_local, set_deeper}
 use Rattle.cedar_parser_steps.specs.declared.lexeme.Lexeme.{Lexeme}
 use Rattle.cedar_parser_steps.specs.declared.reading.Refusal.TheVariants.{Grammar, TooDeep}
-use Rattle.cedar_parser_steps.specs.Inside.Lexemes.{AreLexemes}
-use Rattle.cedar_parser_steps.specs.Inside.Reading.{kind, IsRight, AreRight, start_or, place_of}
+use Rattle.cedar_parser_steps.specs.Lexemes.{AreLexemes}
+use Rattle.cedar_parser_steps.specs.Reading.{kind, IsRight, AreRight, start_or, place_of}
 use Rattle.cedar_cst.specs.Inside.ReadingSet.{GivesSet}
 use Rattle.cedar_parser_steps.proofs.Parsing.{parsed}
 

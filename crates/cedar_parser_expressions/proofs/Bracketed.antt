@@ -13,13 +13,13 @@ use Rattle.cedar_grammar.specs.TrailingCommas.{without_trailing, drop_if, closes
 use Rattle.cedar_grammar.specs.Reader.Reading.{Answer, Reader, done, stuck, both, tree, one}
 use Rattle.cedar_grammar.proofs.ReadingLaws.{both_done, both_fails, both_then_fails, tree_done, tree_fails}
 use Rattle.cedar_tree.specs.Erased.{Erased, access_parts, primary_parts}
-use Rattle.cedar_parser_steps.specs.Inside.Lexemes.{lexeme_nodes}
+use Rattle.cedar_parser_steps.specs.Lexemes.{lexeme_nodes}
 use Rattle.cedar_tree.specs.NodeTrees.{is_node, span_of}
-use Rattle.cedar_parser_steps.specs.Inside.Reading.{kind, Fails, Stands, IsMade, PassesOn, FollowedBy, GivesNode}
-use Rattle.cedar_parser_expressions.specs.Inside.Boxed.{unboxed}
-use Rattle.cedar_parser_expressions.specs.Inside.ReadingItems.{Boxed, StandsItems, GivesItems, bracketed, IsBracketsOf}
+use Rattle.cedar_parser_steps.specs.Reading.{kind, Fails, Stands, IsMade, PassesOn, FollowedBy, GivesNode}
+use Rattle.cedar_parser_expressions.specs.Boxed.{unboxed}
+use Rattle.cedar_parser_expressions.specs.ReadingItems.{Boxed, StandsItems, GivesItems, bracketed, IsBracketsOf}
 use Rattle.cedar_tree.specs.NodeLists.{item_trees}
-use Rattle.cedar_parser_steps.specs.Inside.ReadingParts.{Makes}
+use Rattle.cedar_parser_steps.specs.ReadingParts.{Makes}
 use Rattle.cedar_parser_steps.specs.declared.lexeme.Lexeme.{Lexeme}
 use Rattle.cedar_parser_steps.specs.declared.reading.Refusal.{Refusal}
 use Rattle.cedar_tree.specs.declared.tree.Node.{Node}

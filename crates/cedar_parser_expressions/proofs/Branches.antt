@@ -9,11 +9,11 @@ use Rattle.cedar_grammar.specs.Trees.{Label, Forest, none, leaf, branch}
 use Rattle.cedar_grammar.specs.Reader.Reading.{Answer, Reader, done, stuck, choice, both, skip, tree, one}
 use Rattle.cedar_grammar.proofs.ReadingLaws.{tree_done, tree_fails, both_first, both_done, both_fails, both_then_fails, choice_yes, choice_no, token_yes, token_no, token_end, onto}
 use Rattle.cedar_tree.specs.Erased.{expr_parts, add_parts, primary_parts}
-use Rattle.cedar_parser_steps.specs.Inside.Reading.{kind, Stands, PassesOn, FollowedBy, GivesNode, GivesBehind, first_place, name_parts}
-use Rattle.cedar_parser_steps.specs.Inside.ReadingParts.{Makes}
-use Rattle.cedar_parser_expressions.specs.Inside.Boxed.{unboxed}
-use Rattle.cedar_parser_expressions.specs.Inside.ReadingItems.{Boxed}
-use Rattle.cedar_parser_expressions.specs.Inside.ReadingExprs.{IsIfOf, IsParensOf, IsInitOf, IsTyped, GivesTypeTest}
+use Rattle.cedar_parser_steps.specs.Reading.{kind, Stands, PassesOn, FollowedBy, GivesNode, GivesBehind, first_place, name_parts}
+use Rattle.cedar_parser_steps.specs.ReadingParts.{Makes}
+use Rattle.cedar_parser_expressions.specs.Boxed.{unboxed}
+use Rattle.cedar_parser_expressions.specs.ReadingItems.{Boxed}
+use Rattle.cedar_parser_expressions.specs.ReadingExprs.{IsIfOf, IsParensOf, IsInitOf, IsTyped, GivesTypeTest}
 use Rattle.cedar_tree.specs.NodeLists.{init_parts}
 use Rattle.cedar_parser_steps.specs.declared.lexeme.Lexeme.{Lexeme}
 use Rattle.cedar_parser_steps.specs.declared.reading.Refusal.{Refusal}

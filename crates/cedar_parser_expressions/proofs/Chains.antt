@@ -11,10 +11,10 @@ use Rattle.cedar_grammar.specs.Reader.Reading.{Answer, Reader, done, stuck, both
 use Rattle.cedar_grammar.proofs.ReadingLaws.{Takes, both_done, both_then_fails, both_takes, token_takes}
 use Rattle.cedar_tree.specs.Erased.{Erased, node, addop_text}
 use Rattle.cedar_tree.specs.NodeTrees.{is_node}
-use Rattle.cedar_parser_steps.specs.Inside.Reading.{kind, Keeps, Fails, Stands, GivesNode, addop_kind}
-use Rattle.cedar_parser_expressions.specs.Inside.Boxed.{mapped, unboxed, signed}
-use Rattle.cedar_parser_expressions.specs.Inside.ReadingItems.{Boxed}
-use Rattle.cedar_parser_expressions.specs.Inside.ReadingExprs.{operands_end, IsChainOf}
+use Rattle.cedar_parser_steps.specs.Reading.{kind, Keeps, Fails, Stands, GivesNode, addop_kind}
+use Rattle.cedar_parser_expressions.specs.Boxed.{mapped, unboxed, signed}
+use Rattle.cedar_parser_expressions.specs.ReadingItems.{Boxed}
+use Rattle.cedar_parser_expressions.specs.ReadingExprs.{operands_end, IsChainOf}
 use Rattle.cedar_tree.specs.NodeLists.{operand_trees}
 use Rattle.cedar_parser_steps.specs.declared.lexeme.Lexeme.{Lexeme}
 use Rattle.cedar_parser_steps.specs.declared.reading.Refusal.{Refusal}

@@ -9,8 +9,8 @@ use Rattle.cedar_grammar.proofs.ReadingLaws.{Takes}
 use Rattle.cedar_grammar.proofs.RuleMeanings.{decided}
 use Rattle.cedar_grammar.proofs.RuleLaws.{read_takes}
 use Rattle.cedar_grammar.proofs.WholeLaws.{expr_fits}
-use Rattle.cedar_parser_steps.specs.Inside.Reading.{kind}
-use Rattle.cedar_parser_expressions.specs.Inside.ReadingExprs.{at_depth}
+use Rattle.cedar_parser_steps.specs.Reading.{kind}
+use Rattle.cedar_parser_expressions.specs.ReadingExprs.{at_depth}
 use Rattle.cedar_parser_steps.specs.declared.lexeme.Lexeme.{Lexeme}
 
 pub depth_takes : (d : ℕ) (R : Rule) → IsTrue (decided (core R)) → nullable (core R) ≡ false → Takes (at_depth d R)

@@ -2,7 +2,7 @@
 use Rattle.std.specs.Prelude.{◌≡◌, ℕ, zero, suc, List, [], ◌∷◌, length, ◌<◌, ◌-◌, Some}
 use Rattle.std.specs.List.{slice_get}
 use Rattle.std.proofs.Common.{sym, ap, arith}
-use Rattle.cedar_parser_expressions.specs.Inside.ReadingExprs.{end_of_last}
+use Rattle.cedar_parser_expressions.specs.ReadingExprs.{end_of_last}
 use Rattle.cedar_tree.specs.declared.tree.Node.{Node}
 
 module _ {X Y : Type 0} (operand : Y → Node X) where

@@ -10,10 +10,10 @@ use Rattle.cedar_grammar.specs.Reader.Reading.{Answer, Reader, done, stuck, choi
 use Rattle.cedar_grammar.specs.Reader.Rules.{tailed}
 use Rattle.cedar_grammar.proofs.ReadingLaws.{Takes, choice_yes, choice_no, both_first, both_fails, onto, onto_onto, join_none, join_assoc}
 use Rattle.cedar_tree.specs.Erased.{Erased, node}
-use Rattle.cedar_parser_steps.specs.Inside.Lexemes.{lexeme_nodes}
+use Rattle.cedar_parser_steps.specs.Lexemes.{lexeme_nodes}
 use Rattle.cedar_tree.specs.NodeTrees.{is_node}
-use Rattle.cedar_parser_steps.specs.Inside.Reading.{kind, IsRight, AreRight, Stands}
-use Rattle.cedar_parser_expressions.specs.Inside.ReadingItems.{StandsItems}
+use Rattle.cedar_parser_steps.specs.Reading.{kind, IsRight, AreRight, Stands}
+use Rattle.cedar_parser_expressions.specs.ReadingItems.{StandsItems}
 use Rattle.cedar_tree.specs.NodeLists.{item_trees, more_trees}
 use Rattle.cedar_parser_steps.specs.declared.lexeme.Lexeme.{Lexeme}
 use Rattle.cedar_tree.specs.declared.tree.Node.{Node}

@@ -8,8 +8,8 @@ use Rattle.cedar_grammar.specs.Reader.Reading.{done, stuck}
 use Rattle.cedar_grammar.specs.Reader.Lines as L
 use Rattle.cedar_grammar.specs.Reader.Lines.{◌∥◌, field, index, call, access_rule, member_rule}
 use Rattle.cedar_tree.specs.Erased.{access_parts}
-use Rattle.cedar_parser_steps.specs.Inside.Reading.{kind, flat, Stands}
-use Rattle.cedar_parser_expressions.specs.Inside.ReadingExprs.{at_depth}
+use Rattle.cedar_parser_steps.specs.Reading.{kind, flat, Stands}
+use Rattle.cedar_parser_expressions.specs.ReadingExprs.{at_depth}
 use Rattle.cedar_parser_steps.specs.declared.lexeme.Lexeme.{Lexeme}
 use Rattle.cedar_tree.specs.declared.tree.Node.{Node}
 use Rattle.cedar_tree.specs.declared.tree.Primary as Primary

@@ -10,9 +10,9 @@ use Rattle.cedar_grammar.specs.Reader.Rules.{nested_at, reference, items, inner}
 use Rattle.cedar_grammar.specs.Reader.Lines.{call_parts, call, item, expr_rule, or_rule, maybe, init}
 use Rattle.cedar_grammar.proofs.KindSets.{apart, apart_at}
 use Rattle.cedar_grammar.proofs.ReadingLaws.{choice_yes, choice_no, tree_fails}
-use Rattle.cedar_parser_steps.specs.Inside.Reading.{kind, flat}
-use Rattle.cedar_parser_steps.specs.Inside.ReadingParts.{literal_rule}
-use Rattle.cedar_parser_expressions.specs.Inside.ReadingExprs.{at_depth, if_rule, bracket_rule}
+use Rattle.cedar_parser_steps.specs.Reading.{kind, flat}
+use Rattle.cedar_parser_steps.specs.ReadingParts.{literal_rule}
+use Rattle.cedar_parser_expressions.specs.ReadingExprs.{at_depth, if_rule, bracket_rule}
 use Rattle.cedar_parser_steps.specs.declared.lexeme.Lexeme.{Lexeme}
 use Rattle.cedar_parser_steps.proofs.Steps.{token_not}
 use Rattle.cedar_parser_expressions.proofs.References.{tree_same, reference_none}

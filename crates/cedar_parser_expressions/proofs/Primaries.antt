@@ -12,11 +12,11 @@ use Rattle.cedar_grammar.specs.Reader.Rules.{leaf_of}
 use Rattle.cedar_grammar.specs.Reader.Lines.{◌▸◌, ◌∥◌, one_of, maybe, path, add_rule, text_operand, has_field, expr_to, expr_rule, call}
 use Rattle.cedar_grammar.proofs.ReadingLaws.{Takes, both_done, both_then_fails, tree_done}
 use Rattle.cedar_tree.specs.Erased.{Erased, or_parts, expr_parts, primary_parts}
-use Rattle.cedar_parser_steps.specs.Inside.Reading.{kind, flat, PassesOn, GivesNode, first_place}
-use Rattle.cedar_parser_steps.specs.Inside.ReadingParts.{Makes, IsOrExprOf}
-use Rattle.cedar_parser_expressions.specs.Inside.Boxed.{unboxed}
-use Rattle.cedar_parser_expressions.specs.Inside.ReadingItems.{Boxed}
-use Rattle.cedar_parser_expressions.specs.Inside.ReadingExprs.{at_depth, GivesItem, GivesSigned, IsBeside, IsUncalled}
+use Rattle.cedar_parser_steps.specs.Reading.{kind, flat, PassesOn, GivesNode, first_place}
+use Rattle.cedar_parser_steps.specs.ReadingParts.{Makes, IsOrExprOf}
+use Rattle.cedar_parser_expressions.specs.Boxed.{unboxed}
+use Rattle.cedar_parser_expressions.specs.ReadingItems.{Boxed}
+use Rattle.cedar_parser_expressions.specs.ReadingExprs.{at_depth, GivesItem, GivesSigned, IsBeside, IsUncalled}
 use Rattle.cedar_parser_steps.specs.declared.lexeme.Lexeme.{Lexeme}
 use Rattle.cedar_parser_steps.specs.declared.reading.Refusal.{Refusal}
 use Rattle.cedar_parser_steps.specs.declared.reading.Refusal.TheVariants.{OutOfMemory}

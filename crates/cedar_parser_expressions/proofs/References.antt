@@ -14,11 +14,11 @@ use Rattle.cedar_grammar.proofs.ReadingLaws.{choice_yes, choice_no, both_first, 
 use Rattle.cedar_grammar.proofs.RuleLaws.{shaped_done, shaped_fails}
 use Rattle.cedar_grammar.proofs.KindSets.{within_at}
 use Rattle.cedar_tree.specs.Erased.{access_parts, primary_parts, node}
-use Rattle.cedar_parser_steps.specs.Inside.Reading.{kind, Fails, Stands, GivesNode, PassesOn, IsNamePrimaryOf, last_end, name_parts}
+use Rattle.cedar_parser_steps.specs.Reading.{kind, Fails, Stands, GivesNode, PassesOn, IsNamePrimaryOf, last_end, name_parts}
 use Rattle.cedar_tree.specs.NodeLists.{access_items}
-use Rattle.cedar_parser_steps.specs.Inside.ReadingParts.{ident_reader, text_reader, words_on, words_then, GoesOn, Words, WordsEnd, GivesWords, IsEntityOf, Makes}
-use Rattle.cedar_parser_expressions.specs.Inside.ReadingItems.{Boxed}
-use Rattle.cedar_parser_expressions.specs.Inside.ReadingExprs.{at_depth, IsCalled, StandsItem, GivesItem}
+use Rattle.cedar_parser_steps.specs.ReadingParts.{ident_reader, text_reader, words_on, words_then, GoesOn, Words, WordsEnd, GivesWords, IsEntityOf, Makes}
+use Rattle.cedar_parser_expressions.specs.ReadingItems.{Boxed}
+use Rattle.cedar_parser_expressions.specs.ReadingExprs.{at_depth, IsCalled, StandsItem, GivesItem}
 use Rattle.cedar_parser_steps.specs.declared.lexeme.Lexeme.{Lexeme}
 use Rattle.cedar_parser_steps.specs.declared.reading.Refusal.{Refusal}
 use Rattle.cedar_parser_steps.specs.declared.reading.Refusal.TheVariants.{Grammar, TooDeep, OutOfMemory}

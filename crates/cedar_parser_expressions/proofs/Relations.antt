@@ -11,11 +11,11 @@ use Rattle.cedar_grammar.specs.Reader.Reading.{Reader, done, stuck, choice, both
 use Rattle.cedar_grammar.proofs.ReadingLaws.{tree_done, tree_fails, both_done, both_fails, both_then_fails, choice_yes, choice_no}
 use Rattle.cedar_tree.specs.Erased.{Erased, node, variant, add_parts, relation_parts, relop_text}
 use Rattle.cedar_tree.specs.NodeTrees.{is_node}
-use Rattle.cedar_parser_steps.specs.Inside.Reading.{kind, Stands, PassesOn, GivesNode, GivesBehind, relop_kind}
-use Rattle.cedar_parser_steps.specs.Inside.ReadingParts.{Makes}
-use Rattle.cedar_parser_expressions.specs.Inside.Boxed.{unboxed}
-use Rattle.cedar_parser_expressions.specs.Inside.ReadingItems.{Boxed}
-use Rattle.cedar_parser_expressions.specs.Inside.ReadingExprs.{operand_before, IsLoneRelationOf, IsComparedOf, IsWordOf, IsTypeTestOf, GivesSigned, GivesTypeTest}
+use Rattle.cedar_parser_steps.specs.Reading.{kind, Stands, PassesOn, GivesNode, GivesBehind, relop_kind}
+use Rattle.cedar_parser_steps.specs.ReadingParts.{Makes}
+use Rattle.cedar_parser_expressions.specs.Boxed.{unboxed}
+use Rattle.cedar_parser_expressions.specs.ReadingItems.{Boxed}
+use Rattle.cedar_parser_expressions.specs.ReadingExprs.{operand_before, IsLoneRelationOf, IsComparedOf, IsWordOf, IsTypeTestOf, GivesSigned, GivesTypeTest}
 use Rattle.cedar_parser_steps.specs.declared.lexeme.Lexeme.{Lexeme}
 use Rattle.cedar_parser_steps.specs.declared.reading.Refusal.{Refusal}
 use Rattle.cedar_tree.specs.declared.tree.Node.{Node}

@@ -6,8 +6,8 @@ use Rattle.cedar_grammar.specs.Kinds.{is, begins}
 use Rattle.cedar_grammar.specs.Trees.{Label, Forest, none, leaf, branch, join}
 use Rattle.cedar_grammar.specs.Reader.Reading.{Answer, Reader, done, stuck, choice, both, skip, one}
 use Rattle.cedar_grammar.proofs.ReadingLaws.{both_done, both_fails, both_then_fails, choice_yes, choice_no, join_assoc}
-use Rattle.cedar_parser_steps.specs.Inside.Reading.{kind, Stands, Skips}
-use Rattle.cedar_parser_expressions.specs.Inside.ReadingItems.{StandsItems}
+use Rattle.cedar_parser_steps.specs.Reading.{kind, Stands, Skips}
+use Rattle.cedar_parser_expressions.specs.ReadingItems.{StandsItems}
 use Rattle.cedar_tree.specs.NodeLists.{item_trees}
 use Rattle.cedar_parser_steps.specs.declared.lexeme.Lexeme.{Lexeme}
 use Rattle.cedar_tree.specs.declared.tree.Node.{Node}

@@ -16,8 +16,8 @@ use Rattle.cedar_grammar.proofs.LanguageLaws.{Sound}
 use Rattle.cedar_grammar.proofs.RuleMeanings.{decided}
 use Rattle.cedar_grammar.proofs.RuleLaws.{Begun, read_sound, means_begun}
 use Rattle.cedar_grammar.proofs.WholeLaws.{expr_fits}
-use Rattle.cedar_parser_steps.specs.Inside.Reading.{kind, first_place}
-use Rattle.cedar_parser_expressions.specs.Inside.ReadingExprs.{at_depth}
+use Rattle.cedar_parser_steps.specs.Reading.{kind, first_place}
+use Rattle.cedar_parser_expressions.specs.ReadingExprs.{at_depth}
 use Rattle.cedar_parser_steps.specs.declared.lexeme.Lexeme.{Lexeme}
 use Rattle.cedar_parser_steps.proofs.LeafTexts.{Covers, kept, kept_leaf, covers_node}
 

@@ -10,16 +10,16 @@ use Rattle.cedar_tree.specs.NodeLists.{member_parts}
 use Rattle.cedar_tree.specs.declared.tree.NegOp.{NegOp}
 use Rattle.cedar_tree.specs.declared.tree.Member as Member
 use Rattle.cedar_tree.specs.declared.tree.Unary as Unary
-use Rattle.cedar_parser_steps.specs.Inside.Reading.{flat, GivesNode, PassesOn}
-use Rattle.cedar_parser_steps.specs.Inside.ReadingParts.{Makes}
-use Rattle.cedar_parser_steps.specs.Inside.ReadingSigns.{signs_rule, GivesSigns}
+use Rattle.cedar_parser_steps.specs.Reading.{flat, GivesNode, PassesOn}
+use Rattle.cedar_parser_steps.specs.ReadingParts.{Makes}
+use Rattle.cedar_parser_steps.specs.ReadingSigns.{signs_rule, GivesSigns}
 use Rattle.cedar_parser_steps.specs.declared.lexeme.Lexeme.{Lexeme}
 use Rattle.cedar_parser_steps.specs.declared.reading.Refusal.{Refusal}
 use Rattle.cedar_parser_steps.proofs.Rows.{row_node, row_parts, row_span}
 use Rattle.cedar_parser_steps.proofs.Steps.{passes}
-use Rattle.cedar_parser_expressions.specs.Inside.Boxed.{unboxed}
-use Rattle.cedar_parser_expressions.specs.Inside.ReadingItems.{Boxed}
-use Rattle.cedar_parser_expressions.specs.Inside.ReadingExprs.{IsUnaryOf}
+use Rattle.cedar_parser_expressions.specs.Boxed.{unboxed}
+use Rattle.cedar_parser_expressions.specs.ReadingItems.{Boxed}
+use Rattle.cedar_parser_expressions.specs.ReadingExprs.{IsUnaryOf}
 
 -- M reads the member behind the signs
 module _ (M : Reader Lexeme) where

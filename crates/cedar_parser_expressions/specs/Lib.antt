@@ -1,1 +1,3 @@
-pub mod Inside
+pub mod Boxed
+pub mod ReadingExprs
+pub mod ReadingItems

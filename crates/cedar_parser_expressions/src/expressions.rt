@@ -6,11 +6,11 @@ ghost use Rattle.cedar_grammar.specs.declared.kind.Kind.TheVariants as K;
 ghost use Rattle.cedar_grammar.specs.Reader.Rules.{inner, leaf_of, items, reference};
 ghost use Rattle.cedar_grammar.specs.Reader.Lines.{◌▸◌, one_of, maybe, path, call_parts, call, init, item, member_rule, unary_rule, mult_rule, add_rule, relation_rule, and_rule, or_rule, expr_rule};
 ghost use Rattle.cedar_tree.specs.Erased.{expr_parts, or_parts, relation_parts, add_parts, mult_parts, unary_parts, access_parts, primary_parts};
-ghost use Rattle.cedar_parser_steps.specs.Inside.ReadingParts.{literal_rule};
-ghost use Rattle.cedar_parser_expressions.specs.Inside.Boxed.{unboxed};
-ghost use Rattle.cedar_parser_steps.specs.Inside.Reading.{flat, GivesNode, GivesBehind, relop_kind};
-ghost use Rattle.cedar_parser_expressions.specs.Inside.ReadingItems.{GivesItems};
-ghost use Rattle.cedar_parser_expressions.specs.Inside.ReadingExprs.{at_depth, if_rule, bracket_rule, GivesSigned, GivesTypeTest, GivesItem};
+ghost use Rattle.cedar_parser_steps.specs.ReadingParts.{literal_rule};
+ghost use Rattle.cedar_parser_expressions.specs.Boxed.{unboxed};
+ghost use Rattle.cedar_parser_steps.specs.Reading.{flat, GivesNode, GivesBehind, relop_kind};
+ghost use Rattle.cedar_parser_expressions.specs.ReadingItems.{GivesItems};
+ghost use Rattle.cedar_parser_expressions.specs.ReadingExprs.{at_depth, if_rule, bracket_rule, GivesSigned, GivesTypeTest, GivesItem};
 ghost use Rattle.cedar_tree.specs.NodeLists.{and_parts, init_parts, member_parts};
 
 use crate::nodes::{

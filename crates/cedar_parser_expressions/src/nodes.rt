@@ -4,12 +4,12 @@
 ghost use Rattle.std.specs.Prelude.{◌≡◌, ◌<◌, length, IfOk, MatchResult, box_value, codes};
 ghost use Rattle.cedar_grammar.specs.declared.kind.Kind.TheVariants as K;
 ghost use Rattle.cedar_grammar.specs.Reader.Lines.{◌▸◌, ◌∥◌, one_of, text_operand, has_field};
-ghost use Rattle.cedar_parser_steps.specs.Inside.Reading.{flat, Keeps, PassesOn};
-ghost use Rattle.cedar_parser_steps.specs.Inside.ReadingParts.{Makes, IsOrExprOf};
+ghost use Rattle.cedar_parser_steps.specs.Reading.{flat, Keeps, PassesOn};
+ghost use Rattle.cedar_parser_steps.specs.ReadingParts.{Makes, IsOrExprOf};
 ghost use Rattle.cedar_parser_steps.specs.declared.reading.Refusal.TheVariants.{OutOfMemory};
-ghost use Rattle.cedar_parser_expressions.specs.Inside.Boxed.{unboxed, signed, IsNotLonger, MakesClosed, MakesWord, GivesKey, key_reader};
-ghost use Rattle.cedar_parser_expressions.specs.Inside.ReadingItems.{IsListOf};
-ghost use Rattle.cedar_parser_expressions.specs.Inside.ReadingExprs.{end_of_last, IsOrOf, IsAndOf, IsAddOf, IsMultOf, IsMemberOf, IsUnaryOf, IsLoneRelationOf, IsComparedOf, IsTypeTestOf, IsCallOf, IsParensOf, IsRecordOf, IsInitOf, IsIfOf, IsBeside, IsTyped, IsUncalled, IsCalled, type_test_end};
+ghost use Rattle.cedar_parser_expressions.specs.Boxed.{unboxed, signed, IsNotLonger, MakesClosed, MakesWord, GivesKey, key_reader};
+ghost use Rattle.cedar_parser_expressions.specs.ReadingItems.{IsListOf};
+ghost use Rattle.cedar_parser_expressions.specs.ReadingExprs.{end_of_last, IsOrOf, IsAndOf, IsAddOf, IsMultOf, IsMemberOf, IsUnaryOf, IsLoneRelationOf, IsComparedOf, IsTypeTestOf, IsCallOf, IsParensOf, IsRecordOf, IsInitOf, IsIfOf, IsBeside, IsTyped, IsUncalled, IsCalled, type_test_end};
 
 use cedar_grammar::kind::Kind;
 use cedar_parser_steps::accesses::{accesses_end, parse_has_field, parse_pattern};

@@ -7,7 +7,7 @@ use Rattle.cedar_grammar.specs.Trees.{Label, Forest, none, branch}
 use Rattle.cedar_grammar.specs.Reader.Reading.{Reader, done, stuck, choice, both, skip}
 use Rattle.cedar_grammar.proofs.ReadingLaws.{both_done, both_fails, both_then_fails, choice_yes, choice_no}
 use Rattle.cedar_tree.specs.Erased.{access_parts}
-use Rattle.cedar_parser_steps.specs.Inside.Reading.{kind, Stands}
+use Rattle.cedar_parser_steps.specs.Reading.{kind, Stands}
 use Rattle.cedar_tree.specs.NodeLists.{access_items}
 use Rattle.cedar_parser_steps.specs.declared.lexeme.Lexeme.{Lexeme}
 use Rattle.cedar_tree.specs.declared.tree.Node.{Node}

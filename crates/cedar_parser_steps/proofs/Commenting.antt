@@ -9,7 +9,7 @@ use Rattle.cedar_tokens.specs.Inside.Between.{first_start, text_at, text_before}
 use Rattle.cedar_tokens.specs.declared.token.Span.{Span}
 use Rattle.cedar_tokens.specs.declared.token.WrappedToken.{WrappedToken}
 use Rattle.cedar_tokens.proofs.Between.{ArePlaces, Between, between, first_boundary, Commented, commented_none}
-use Rattle.cedar_parser_steps.specs.Inside.Lexemes.{AreLexemes}
+use Rattle.cedar_parser_steps.specs.Lexemes.{AreLexemes}
 use Rattle.cedar_parser_steps.specs.declared.lexeme.Lexeme.{Lexeme}
 
 abbrev pub spans_of : List Lexeme → List Span

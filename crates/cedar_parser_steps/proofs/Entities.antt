@@ -12,8 +12,8 @@ use Rattle.cedar_grammar.proofs.ReadingLaws.{Takes, both_first, tree_takes, toke
 use Rattle.cedar_grammar.proofs.RuleLaws.{shaped_done}
 use Rattle.cedar_grammar.proofs.KindSets.{apart_at}
 use Rattle.cedar_tree.specs.Erased.{path_parts, primary_parts}
-use Rattle.cedar_parser_steps.specs.Inside.Reading.{kind, flat, Stands, ident_parts, str_parts, name_parts, first_start, GivesNode}
-use Rattle.cedar_parser_steps.specs.Inside.ReadingParts.{ident_reader, text_reader, words_on, words_then, GoesOn, Words, WordsEnd, Gathers, GivesWords, IsEntityOf, slot_kind, IsSlotOf}
+use Rattle.cedar_parser_steps.specs.Reading.{kind, flat, Stands, ident_parts, str_parts, name_parts, first_start, GivesNode}
+use Rattle.cedar_parser_steps.specs.ReadingParts.{ident_reader, text_reader, words_on, words_then, GoesOn, Words, WordsEnd, Gathers, GivesWords, IsEntityOf, slot_kind, IsSlotOf}
 use Rattle.cedar_parser_steps.specs.declared.lexeme.Lexeme.{Lexeme}
 use Rattle.cedar_tree.specs.declared.tree.Node.{Node}
 use Rattle.cedar_tree.specs.declared.tree.Ident.{Ident}

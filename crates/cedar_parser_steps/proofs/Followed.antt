@@ -6,7 +6,7 @@ use Rattle.cedar_grammar.specs.Trees.{Label, Forest, none, leaf, branch}
 use Rattle.cedar_grammar.specs.Reader.Reading.{Reader, done, both, one}
 use Rattle.cedar_grammar.proofs.ReadingLaws.{both_done, both_fails, both_then_fails}
 use Rattle.cedar_tree.specs.Erased.{Erased}
-use Rattle.cedar_parser_steps.specs.Inside.Reading.{kind, Fails, Stands, GivesNode, FollowedBy}
+use Rattle.cedar_parser_steps.specs.Reading.{kind, Fails, Stands, GivesNode, FollowedBy}
 use Rattle.cedar_parser_steps.specs.declared.lexeme.Lexeme.{Lexeme}
 use Rattle.cedar_parser_steps.specs.declared.reading.Refusal.{Refusal}
 use Rattle.cedar_tree.specs.declared.tree.Node.{Node}

@@ -16,9 +16,9 @@ use Rattle.cedar_grammar.specs.Trees.{Label, Forest, none, leaf, branch, yield}
 use Rattle.cedar_grammar.specs.TrailingCommas.{without_trailing, drop_if, closes_next}
 use Rattle.cedar_grammar.proofs.TextKinds.{number_kind}
 use Rattle.cedar_tree.specs.Erased.{Erased}
-use Rattle.cedar_parser_steps.specs.Inside.Lexemes.{lexeme_nodes}
+use Rattle.cedar_parser_steps.specs.Lexemes.{lexeme_nodes}
 use Rattle.cedar_tree.specs.NodeTrees.{is_node, span_of, end_of, spanned}
-use Rattle.cedar_parser_steps.specs.Inside.Reading.{kind, IsRight, AreRight, Stands}
+use Rattle.cedar_parser_steps.specs.Reading.{kind, IsRight, AreRight, Stands}
 use Rattle.cedar_parser_steps.specs.declared.lexeme.Lexeme.{Lexeme}
 
 -- the text of the token of this code, or u where the table has none

@@ -10,8 +10,8 @@ use Rattle.cedar_grammar.specs.Reader.Reading.{Reader, done, stuck, tree, token}
 use Rattle.cedar_grammar.proofs.ReadingLaws.{choice_yes, choice_no, tree_done, tree_fails}
 use Rattle.cedar_grammar.proofs.KindSets.{or_left, or_right}
 use Rattle.cedar_tree.specs.Erased.{node, primary_parts}
-use Rattle.cedar_parser_steps.specs.Inside.Reading.{kind, flat, Stands, IsLiteralOf}
-use Rattle.cedar_parser_steps.specs.Inside.ReadingParts.{is_literal, literal_rule, IsLiteralToken}
+use Rattle.cedar_parser_steps.specs.Reading.{kind, flat, Stands, IsLiteralOf}
+use Rattle.cedar_parser_steps.specs.ReadingParts.{is_literal, literal_rule, IsLiteralToken}
 use Rattle.cedar_parser_steps.specs.declared.lexeme.Lexeme.{Lexeme}
 use Rattle.cedar_tree.specs.declared.tree.Node.{Node}
 use Rattle.cedar_tree.specs.declared.tree.Literal.{Literal}

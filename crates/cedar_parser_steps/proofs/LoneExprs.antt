@@ -6,8 +6,8 @@ use Rattle.cedar_grammar.specs.Trees.{Label, Forest, none, branch}
 use Rattle.cedar_grammar.specs.Reader.Reading.{Reader, done, stuck, tree}
 use Rattle.cedar_grammar.proofs.ReadingLaws.{tree_done, tree_fails}
 use Rattle.cedar_tree.specs.Erased.{node, or_parts, add_parts, expr_parts}
-use Rattle.cedar_parser_steps.specs.Inside.Reading.{Stands, GivesNode}
-use Rattle.cedar_parser_steps.specs.Inside.ReadingParts.{IsLoneOrOf, IsOrExprOf}
+use Rattle.cedar_parser_steps.specs.Reading.{Stands, GivesNode}
+use Rattle.cedar_parser_steps.specs.ReadingParts.{IsLoneOrOf, IsOrExprOf}
 use Rattle.cedar_parser_steps.specs.declared.lexeme.Lexeme.{Lexeme}
 use Rattle.cedar_tree.specs.declared.tree.Node.{Node}
 use Rattle.cedar_tree.specs.declared.tree.Add as Add

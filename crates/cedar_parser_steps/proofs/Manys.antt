@@ -9,7 +9,7 @@ use Rattle.cedar_grammar.proofs.RuleMeanings.{decided}
 use Rattle.cedar_grammar.proofs.RuleLaws.{read_takes, refuse_sound}
 use Rattle.cedar_tree.specs.Erased.{Erased, node}
 use Rattle.cedar_tree.specs.NodeTrees.{is_node}
-use Rattle.cedar_parser_steps.specs.Inside.Reading.{kind, flat, Stands, StandsMany, node_trees}
+use Rattle.cedar_parser_steps.specs.Reading.{kind, flat, Stands, StandsMany, node_trees}
 use Rattle.cedar_parser_steps.specs.declared.lexeme.Lexeme.{Lexeme}
 use Rattle.cedar_tree.specs.declared.tree.Node.{Node}
 use Rattle.cedar_parser_steps.proofs.Rows.{row_node, many_join}

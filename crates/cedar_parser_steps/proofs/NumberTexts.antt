@@ -12,7 +12,7 @@ use Rattle.cedar_grammar.specs.declared.kind.Kind.TheVariants as K
 use Rattle.cedar_grammar.specs.Kinds.{is}
 use Rattle.cedar_grammar.specs.TokenKinds.{fixed_tokens, other_kind, kind_among, kind_of}
 use Rattle.cedar_grammar.specs.Trees.{none, leaf}
-use Rattle.cedar_parser_steps.specs.Inside.Reading.{IsRight, Stands}
+use Rattle.cedar_parser_steps.specs.Reading.{IsRight, Stands}
 use Rattle.cedar_parser_steps.specs.declared.lexeme.Lexeme.{Lexeme}
 use Rattle.cedar_parser_steps.proofs.LeafTexts.{nodes_leaf, covers_leaf}
 

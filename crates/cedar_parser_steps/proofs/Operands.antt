@@ -11,7 +11,7 @@ use Rattle.cedar_grammar.specs.Trees.{Label, Forest, none, leaf, branch, join}
 use Rattle.cedar_grammar.specs.Reader.Reading.{Answer, Reader, done, stuck, both, tree, repeat, token, one}
 use Rattle.cedar_grammar.proofs.ReadingLaws.{Takes, tree_done, tree_fails, both_done, both_then_fails, both_takes, tree_takes, token_takes}
 use Rattle.cedar_tree.specs.Erased.{Erased, node, access_parts, primary_parts, add_parts}
-use Rattle.cedar_parser_steps.specs.Inside.Reading.{kind, Keeps, Fails, Stands, GivesNode, IsOperandOf, last_end, IsNameOf, IsNamePrimaryOf, GivesBehind, ident_parts}
+use Rattle.cedar_parser_steps.specs.Reading.{kind, Keeps, Fails, Stands, GivesNode, IsOperandOf, last_end, IsNameOf, IsNamePrimaryOf, GivesBehind, ident_parts}
 use Rattle.cedar_tree.specs.NodeLists.{access_items}
 use Rattle.cedar_parser_steps.specs.declared.lexeme.Lexeme.{Lexeme}
 use Rattle.cedar_parser_steps.specs.declared.reading.Refusal.{Refusal}

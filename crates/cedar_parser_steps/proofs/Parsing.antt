@@ -25,7 +25,7 @@ use Rattle.cedar_grammar.proofs.SamePlain.{plain_same}
 use Rattle.cedar_tree.specs.Erased.{erase}
 use Rattle.cedar_tree.specs.NodeTrees.{is_node, end_of, span_of, spanned, IsTreeOf}
 use Rattle.cedar_grammar.specs.Placed.{Placed, with_places, placed, kind_of_placed}
-use Rattle.cedar_parser_steps.specs.Inside.Lexemes.{AreLexemes, lexeme_nodes}
+use Rattle.cedar_parser_steps.specs.Lexemes.{AreLexemes, lexeme_nodes}
 use Rattle.cedar_grammar.specs.Reader.Reading.{Answer, done, stuck}
 use Rattle.cedar_grammar.specs.Reader.Lines.{set_to}
 use Rattle.cedar_grammar.proofs.RuleMaps.{each, relabel, answer_of, set_agrees}

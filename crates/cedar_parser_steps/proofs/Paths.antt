@@ -7,7 +7,7 @@ use Rattle.cedar_grammar.specs.Trees.{Label, Forest, none, leaf, branch, join}
 use Rattle.cedar_grammar.specs.Reader.Reading.{Reader, done, stuck, both, tree, repeat, token, one}
 use Rattle.cedar_grammar.proofs.ReadingLaws.{Takes, both_done, both_then_fails, both_takes, tree_takes, token_takes}
 use Rattle.cedar_tree.specs.Erased.{ident_tree, path_parts}
-use Rattle.cedar_parser_steps.specs.Inside.Reading.{kind, Stands, ident_parts, first_start, name_parts, IsNameOf}
+use Rattle.cedar_parser_steps.specs.Reading.{kind, Stands, ident_parts, first_start, name_parts, IsNameOf}
 use Rattle.cedar_parser_steps.specs.declared.lexeme.Lexeme.{Lexeme}
 use Rattle.cedar_tree.specs.declared.tree.Node.{Node}
 use Rattle.cedar_tree.specs.declared.tree.Ident.{Ident}

@@ -11,8 +11,8 @@ use Rattle.cedar_grammar.specs.Trees.{Label, Forest, none, leaf, join}
 use Rattle.cedar_grammar.specs.Reader.Reading.{Reader, done, choice, both, skip, one}
 use Rattle.cedar_grammar.proofs.ReadingLaws.{choice_yes, choice_no, both_done}
 use Rattle.cedar_tree.specs.Erased.{Erased, times}
-use Rattle.cedar_parser_steps.specs.Inside.Reading.{kind, Stands, first_place}
-use Rattle.cedar_parser_steps.specs.Inside.ReadingSigns.{Leads, GoesPastSigns, GivesSigns}
+use Rattle.cedar_parser_steps.specs.Reading.{kind, Stands, first_place}
+use Rattle.cedar_parser_steps.specs.ReadingSigns.{Leads, GoesPastSigns, GivesSigns}
 use Rattle.cedar_parser_steps.specs.declared.lexeme.Lexeme.{Lexeme}
 use Rattle.cedar_tree.specs.declared.tree.NegOp.{NegOp}
 use Rattle.cedar_parser_steps.proofs.LeafTexts.{shown}

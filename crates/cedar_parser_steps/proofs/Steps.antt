@@ -20,7 +20,7 @@ use Rattle.cedar_parser_steps.proofs.LeafTexts.{nodes_own, covers_leaf}
 use Rattle.cedar_parser_steps.specs.declared.reading.Refusal.{Refusal}
 use Rattle.cedar_parser_steps.specs.declared.reading.Refusal.TheVariants.{Grammar, TooDeep, OutOfMemory}
 use Rattle.cedar_tree.specs.Erased.{Erased}
-use Rattle.cedar_parser_steps.specs.Inside.Reading.{kind, Fails, Stands, GivesNode, IsIdentOf, IsStrOf, ident_parts, str_parts}
+use Rattle.cedar_parser_steps.specs.Reading.{kind, Fails, Stands, GivesNode, IsIdentOf, IsStrOf, ident_parts, str_parts}
 
 abbrev agree : Bool → Bool → Bool
 agree true y = y

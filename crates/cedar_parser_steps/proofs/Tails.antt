@@ -7,7 +7,7 @@ use Rattle.cedar_grammar.specs.Trees.{Label, Forest, none, leaf}
 use Rattle.cedar_grammar.specs.Reader.Reading.{Answer, Reader, done, stuck, choice, both, one}
 use Rattle.cedar_grammar.specs.Reader.Rules.{tail_to, tailed}
 use Rattle.cedar_grammar.proofs.ReadingLaws.{Takes, choice_yes, choice_no, both_first, both_fails, onto, onto_onto}
-use Rattle.cedar_parser_steps.specs.Inside.Reading.{kind}
+use Rattle.cedar_parser_steps.specs.Reading.{kind}
 use Rattle.cedar_parser_steps.specs.declared.lexeme.Lexeme.{Lexeme}
 use Rattle.cedar_parser_steps.proofs.Steps.{token_at}
 

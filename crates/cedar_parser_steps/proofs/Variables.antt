@@ -9,8 +9,8 @@ use Rattle.cedar_grammar.specs.Reader.Reading.{Reader, done, stuck, choice, both
 use Rattle.cedar_grammar.proofs.ReadingLaws.{choice_yes, choice_no, both_first, both_done, both_then_fails, tree_done, tree_fails, onto, onto_onto}
 use Rattle.cedar_grammar.proofs.KindSets.{apart_at}
 use Rattle.cedar_tree.specs.Erased.{add_parts, variable_parts}
-use Rattle.cedar_parser_steps.specs.Inside.Reading.{kind, Stands, ident_parts, name_parts}
-use Rattle.cedar_parser_steps.specs.Inside.ReadingParts.{variable_kind, IsVariableOf}
+use Rattle.cedar_parser_steps.specs.Reading.{kind, Stands, ident_parts, name_parts}
+use Rattle.cedar_parser_steps.specs.ReadingParts.{variable_kind, IsVariableOf}
 use Rattle.cedar_parser_steps.specs.declared.lexeme.Lexeme.{Lexeme}
 use Rattle.cedar_tree.specs.declared.tree.Node.{Node}
 use Rattle.cedar_tree.specs.declared.tree.Ident.{Ident}

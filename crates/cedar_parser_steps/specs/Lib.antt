@@ -1,2 +1,5 @@
+pub mod Lexemes
+pub mod Reading
+pub mod ReadingParts
+pub mod ReadingSigns
 pub mod Tokens
-pub mod Inside

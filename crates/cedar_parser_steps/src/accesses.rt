@@ -5,7 +5,7 @@ ghost use Rattle.cedar_grammar.specs.Trees.{Label};
 ghost use Rattle.cedar_grammar.specs.declared.kind.Kind.TheVariants as K;
 ghost use Rattle.cedar_grammar.specs.Reader.Lines.{◌▸◌, ◌∥◌, one_of, field, index, text_operand, has_field};
 ghost use Rattle.cedar_tree.specs.Erased.{access_parts, add_parts};
-ghost use Rattle.cedar_parser_steps.specs.Inside.Reading.{kind, flat, GivesNode, IsOperandOf, GivesBehind, last_end};
+ghost use Rattle.cedar_parser_steps.specs.Reading.{kind, flat, GivesNode, IsOperandOf, GivesBehind, last_end};
 
 use crate::lexeme::Lexeme;
 use crate::literals::{parse_str, parse_text};

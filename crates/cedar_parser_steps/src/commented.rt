@@ -6,7 +6,7 @@ ghost use Rattle.cedar_tokens.specs.Listing.{IsListing};
 ghost use Rattle.cedar_tokens.specs.Places.{AreTokenSpans, InOrderFrom};
 ghost use Rattle.cedar_tokens.specs.Tokens.{decorated, comments_left, StandsIn};
 ghost use Rattle.cedar_tokens.specs.Inside.Between.{first_start, text_before};
-ghost use Rattle.cedar_parser_steps.specs.Inside.Lexemes.{AreLexemes};
+ghost use Rattle.cedar_parser_steps.specs.Lexemes.{AreLexemes};
 
 use crate::lexeme::Lexeme;
 use cedar_tokens::readers::{commented_token, split_gap};

@@ -4,8 +4,8 @@ ghost use Rattle.cedar_tokens.specs.Listing.{without_zeros};
 ghost use Rattle.cedar_grammar.specs.Trees.{Label};
 ghost use Rattle.cedar_grammar.specs.Reader.Rules.{text_rule};
 ghost use Rattle.cedar_tree.specs.Erased.{primary_parts};
-ghost use Rattle.cedar_parser_steps.specs.Inside.Reading.{flat, GivesNode, str_parts, IsStrOf, IsLiteralOf};
-ghost use Rattle.cedar_parser_steps.specs.Inside.ReadingParts.{literal_rule, text_primary, HasLiteral, slot_kind, IsSlotOf};
+ghost use Rattle.cedar_parser_steps.specs.Reading.{flat, GivesNode, str_parts, IsStrOf, IsLiteralOf};
+ghost use Rattle.cedar_parser_steps.specs.ReadingParts.{literal_rule, text_primary, HasLiteral, slot_kind, IsSlotOf};
 
 use crate::lexeme::Lexeme;
 use crate::reading::{Parsed, expect, refuse};

@@ -6,8 +6,8 @@ ghost use Rattle.cedar_grammar.specs.declared.kind.Kind.TheVariants as K;
 ghost use Rattle.cedar_grammar.specs.Reader.Rules.{word_of, entity};
 ghost use Rattle.cedar_grammar.specs.Reader.Lines.{path};
 ghost use Rattle.cedar_tree.specs.Erased.{primary_parts};
-ghost use Rattle.cedar_parser_steps.specs.Inside.Reading.{kind, flat, GivesNode, ident_parts, IsIdentOf, first_start, name_parts, IsNameOf, IsNamePrimaryOf};
-ghost use Rattle.cedar_parser_steps.specs.Inside.ReadingParts.{key_rule, GivesWords, IsEntityOf, slot_kind, slot_or_entity, TellsVariable};
+ghost use Rattle.cedar_parser_steps.specs.Reading.{kind, flat, GivesNode, ident_parts, IsIdentOf, first_start, name_parts, IsNameOf, IsNamePrimaryOf};
+ghost use Rattle.cedar_parser_steps.specs.ReadingParts.{key_rule, GivesWords, IsEntityOf, slot_kind, slot_or_entity, TellsVariable};
 
 use crate::lexeme::Lexeme;
 use crate::literals::{parse_str, parse_text, slot_kind, slot_primary};

@@ -4,7 +4,7 @@ ghost use Rattle.cedar_grammar.specs.declared.kind.Kind.TheVariants as K;
 ghost use Rattle.cedar_grammar.specs.Kinds.{is, begins};
 ghost use Rattle.cedar_grammar.specs.Reader.Reading.{one, stuck};
 ghost use Rattle.cedar_grammar.specs.Reader.Rules.{expr_first};
-ghost use Rattle.cedar_parser_steps.specs.Inside.Reading.{Keeps, Follows, kind, first_kind, GivesToken, GoesPast, Fails, FollowedBy, first_place, Skips};
+ghost use Rattle.cedar_parser_steps.specs.Reading.{Keeps, Follows, kind, first_kind, GivesToken, GoesPast, Fails, FollowedBy, first_place, Skips};
 ghost use Rattle.cedar_parser_steps.specs.declared.reading.Refusal.TheVariants.{OutOfMemory};
 
 use crate::lexeme::Lexeme;

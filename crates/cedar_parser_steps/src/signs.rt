@@ -2,8 +2,8 @@
 ghost use Rattle.std.specs.Prelude.{◌≡◌, ◌<◌, ◌≤◌, length, is_some, IfOk, IfSome};
 ghost use Rattle.cedar_grammar.specs.Kinds.{is_comparison, begins};
 ghost use Rattle.cedar_grammar.specs.Reader.Reading.{token};
-ghost use Rattle.cedar_parser_steps.specs.Inside.Reading.{kind, relop_kind, GoesPastSign, GivesSign};
-ghost use Rattle.cedar_parser_steps.specs.Inside.ReadingSigns.{GoesPastSigns, GivesSigns, signs_start};
+ghost use Rattle.cedar_parser_steps.specs.Reading.{kind, relop_kind, GoesPastSign, GivesSign};
+ghost use Rattle.cedar_parser_steps.specs.ReadingSigns.{GoesPastSigns, GivesSigns, signs_start};
 
 use crate::lexeme::Lexeme;
 use crate::reading::{Parsed, first_kind, refuse, skip, start_of};

@@ -12,7 +12,7 @@ use Rattle.cedar_tokens.proofs.Streaming.{placed_all}
 use Rattle.cedar_tokens.proofs.Between.{spans_before}
 use Rattle.cedar_grammar.specs.Numbers.{is_too_large}
 use Rattle.cedar_parser_steps.specs.Tokens.{HasTokens}
-use Rattle.cedar_parser_steps.specs.Inside.Lexemes.{AreLexemes}
+use Rattle.cedar_parser_steps.specs.Lexemes.{AreLexemes}
 use Rattle.cedar_parser_steps.specs.declared.lexeme.Lexeme.{Lexeme}
 use Rattle.cedar_parser_steps.proofs.Walking.{Lexed}
 use Rattle.cedar_pieces.specs.Pieces.{is_semicolon, IsPiece}

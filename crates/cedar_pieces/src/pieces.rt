@@ -2,7 +2,7 @@
 ghost use Rattle.std.specs.Prelude.{◌≡◌, ◌≤◌, ◌<◌, length, take, MatchOption, IfSome, IfOk};
 ghost use Rattle.std.specs.Str.{IsCharBoundary};
 ghost use Rattle.cedar_parser_steps.specs.Tokens.{HasTokens};
-ghost use Rattle.cedar_parser_steps.specs.Inside.Lexemes.{AreLexemes};
+ghost use Rattle.cedar_parser_steps.specs.Lexemes.{AreLexemes};
 ghost use Rattle.cedar_pieces.specs.Pieces.{IsFirstPiece, HasNoPiece};
 ghost use Rattle.cedar_pieces.specs.Inside.Steps.{EndsLine, LexesToSemicolon};
 

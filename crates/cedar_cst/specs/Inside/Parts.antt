@@ -14,8 +14,8 @@ use Rattle.cedar_grammar.specs.TrailingCommas.{without_trailing}
 use Rattle.cedar_grammar.specs.Trees.{Label, Forest, yield}
 use Rattle.cedar_pieces.specs.Pieces.{IsFirstPiece}
 use Rattle.cedar_parser_steps.specs.declared.lexeme.Lexeme.{Lexeme}
-use Rattle.cedar_parser_steps.specs.Inside.Lexemes.{AreLexemes}
-use Rattle.cedar_parser_steps.specs.Inside.Reading.{start_or}
+use Rattle.cedar_parser_steps.specs.Lexemes.{AreLexemes}
+use Rattle.cedar_parser_steps.specs.Reading.{start_or}
 use Rattle.cedar_tree.specs.declared.error.FormatError.{FormatError}
 use Rattle.cedar_tree.specs.declared.error.FormatError.TheVariants.{Grammar, TooDeep}
 use Rattle.cedar_tree.specs.declared.tree.Node as Nodes

@@ -7,8 +7,8 @@ use Rattle.cedar_parser_steps.specs.declared.reading.Refusal.{Refusal}
 use Rattle.cedar_parser_steps.specs.declared.reading.Refusal.TheVariants.{Grammar, TooDeep, OutOfMemory}
 use Rattle.cedar_tree.specs.declared.tree.Policies.{Policies}
 use Rattle.cedar_tree.specs.Erased.{erase}
-use Rattle.cedar_parser_steps.specs.Inside.Lexemes.{lexeme_nodes}
-use Rattle.cedar_parser_steps.specs.Inside.Reading.{AreRight}
+use Rattle.cedar_parser_steps.specs.Lexemes.{lexeme_nodes}
+use Rattle.cedar_parser_steps.specs.Reading.{AreRight}
 
 -- the reader reads all tokens, and the policies stand for its tree; or the refusal is the reader's, or at the first token that it leaves
 abbrev pub GivesSet : Result Policies Refusal → Answer Lexeme → Type 0

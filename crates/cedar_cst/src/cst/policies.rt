@@ -7,9 +7,9 @@ ghost use Rattle.cedar_grammar.specs.declared.kind.Kind.TheVariants as K;
 ghost use Rattle.cedar_grammar.specs.Reader.Rules.{star};
 ghost use Rattle.cedar_grammar.specs.Reader.Lines.{annotation_rule, cond_rule, policy_rule, set_to};
 ghost use Rattle.cedar_tree.specs.Erased.{policy_parts, annotation_parts, cond_parts};
-ghost use Rattle.cedar_parser_expressions.specs.Inside.ReadingExprs.{at_depth};
+ghost use Rattle.cedar_parser_expressions.specs.ReadingExprs.{at_depth};
 ghost use Rattle.cedar_cst.specs.Inside.ReadingSet.{GivesSet};
-ghost use Rattle.cedar_parser_steps.specs.Inside.Reading.{kind, flat, GivesNode, GivesMany};
+ghost use Rattle.cedar_parser_steps.specs.Reading.{kind, flat, GivesNode, GivesMany};
 
 use crate::cst::scopes::parse_scope;
 use cedar_grammar::kind::{Kind, Words};

@@ -3,7 +3,7 @@ ghost use Rattle.std.specs.Prelude.{◌≡◌, ◌≢◌, ◌≤◌, ◌<◌, �
 ghost use Rattle.std.specs.List.{All};
 ghost use Rattle.cedar_tree.specs.Refusals.{OutOfMemoryOr, Refuses, RefusesTokens};
 ghost use Rattle.cedar_tree.specs.declared.error.FormatError.TheVariants.{OutOfMemory};
-ghost use Rattle.cedar_parser_steps.specs.Inside.Lexemes.{AreLexemes};
+ghost use Rattle.cedar_parser_steps.specs.Lexemes.{AreLexemes};
 ghost use Rattle.cedar_cst.specs.Inside.Parts.{moved_lexeme, place_before, HasPoliciesFrom, AreLexemesFrom, RefusesFrom, IsNext, IsPolicyFrom};
 ghost use Rattle.cedar_cst.specs.PolicyReaders.{HasPolicies, HasRead, HasEnded, GoesOn, IsPolicyOf, AreTokensOf};
 

@@ -6,11 +6,11 @@ ghost use Rattle.cedar_grammar.specs.declared.kind.Kind.TheVariants as K;
 ghost use Rattle.cedar_grammar.specs.Reader.Rules.{entity, items, word_of};
 ghost use Rattle.cedar_grammar.specs.Reader.Lines.{◌∥◌, operand, entity_or, scoped, maybe, entity_item, action};
 ghost use Rattle.cedar_tree.specs.Erased.{add_parts, expr_parts, primary_parts, variable_parts};
-ghost use Rattle.cedar_parser_steps.specs.Inside.ReadingParts.{slot_kind, variable_kind, IsVariableOf, IsLoneOrOf, entity_list, scope_rule};
+ghost use Rattle.cedar_parser_steps.specs.ReadingParts.{slot_kind, variable_kind, IsVariableOf, IsLoneOrOf, entity_list, scope_rule};
 ghost use Rattle.cedar_parser_steps.specs.declared.reading.Refusal.TheVariants.{OutOfMemory};
-ghost use Rattle.cedar_parser_expressions.specs.Inside.Boxed.{unboxed};
-ghost use Rattle.cedar_parser_expressions.specs.Inside.ReadingItems.{GivesItems, GivesScope};
-ghost use Rattle.cedar_parser_steps.specs.Inside.Reading.{flat, GivesNode, ident_parts};
+ghost use Rattle.cedar_parser_expressions.specs.Boxed.{unboxed};
+ghost use Rattle.cedar_parser_expressions.specs.ReadingItems.{GivesItems, GivesScope};
+ghost use Rattle.cedar_parser_steps.specs.Reading.{flat, GivesNode, ident_parts};
 
 use cedar_grammar::kind::Kind;
 use cedar_parser_expressions::nodes::{and_node, list_node, lone_relation, or_expr, or_node};

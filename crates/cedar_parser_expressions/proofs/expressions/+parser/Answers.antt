@@ -9,13 +9,13 @@ use Rattle.cedar_grammar.specs.Reader.Rules.{expr_first, items, inner}
 use Rattle.cedar_grammar.specs.Reader.Lines.{maybe, path, init, item, call, access_rule, member_rule, unary_rule, mult_rule, relation_rule, and_rule, or_rule, expr_rule, expr_to}
 use Rattle.cedar_grammar.proofs.ReadingLaws.{tree_fails, both_fails}
 use Rattle.cedar_tree.specs.Erased.{addop_text, expr_parts, or_parts, relation_parts, add_parts, mult_parts, unary_parts, access_parts, primary_parts}
-use Rattle.cedar_parser_steps.specs.Inside.Reading.{kind, flat, addop_kind, relop_kind, first_place}
-use Rattle.cedar_parser_steps.specs.Inside.ReadingParts.{key_rule, Makes, TellsVariable}
-use Rattle.cedar_parser_expressions.specs.Inside.ReadingItems.{StandsItems, IsListOf}
+use Rattle.cedar_parser_steps.specs.Reading.{kind, flat, addop_kind, relop_kind, first_place}
+use Rattle.cedar_parser_steps.specs.ReadingParts.{key_rule, Makes, TellsVariable}
+use Rattle.cedar_parser_expressions.specs.ReadingItems.{StandsItems, IsListOf}
 use Rattle.cedar_tree.specs.NodeLists.{and_parts, init_parts, item_trees}
-use Rattle.cedar_parser_expressions.specs.Inside.ReadingExprs.{at_depth, if_rule, bracket_rule, IsParensOf, IsRecordOf}
+use Rattle.cedar_parser_expressions.specs.ReadingExprs.{at_depth, if_rule, bracket_rule, IsParensOf, IsRecordOf}
 use Rattle.cedar_tree.specs.declared.tree.MultOp.{MultOp}
-use Rattle.cedar_parser_expressions.specs.Inside.Boxed.{unboxed, signed}
+use Rattle.cedar_parser_expressions.specs.Boxed.{unboxed, signed}
 use Rattle.cedar_parser_steps.proofs.Steps.{passes, fails_as, gives_as, is_itself, first_begins, token_at, token_not}
 use Rattle.cedar_parser_steps.proofs.Rows.{row_parts, row_span}
 use Rattle.cedar_parser_expressions.proofs.Chains.{plain_operand, signed_operand, kept_shorter, addop_between, addop_begins, operand_kept, operand_fails, operands_first, operands_next, operands_stuck, operands_done}

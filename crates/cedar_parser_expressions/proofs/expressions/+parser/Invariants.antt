@@ -6,8 +6,8 @@ use Rattle.cedar_grammar.specs.Trees.{Label}
 use Rattle.cedar_grammar.specs.Reader.Rules.{expr_first}
 use Rattle.cedar_grammar.specs.Reader.Lines.{and_rule, relation_rule, mult_rule, unary_rule, item, access_rule, init, expr_to}
 use Rattle.cedar_tree.specs.Erased.{expr_parts, relation_parts, mult_parts, unary_parts, addop_text}
-use Rattle.cedar_parser_steps.specs.Inside.Reading.{kind}
-use Rattle.cedar_parser_expressions.specs.Inside.ReadingExprs.{at_depth}
+use Rattle.cedar_parser_steps.specs.Reading.{kind}
+use Rattle.cedar_parser_expressions.specs.ReadingExprs.{at_depth}
 use Rattle.cedar_tree.specs.NodeLists.{and_parts, init_parts}
 use Rattle.cedar_parser_expressions.proofs.Chains.{OperandsRead}
 use Rattle.cedar_parser_steps.proofs.Operands.{AccessesRead}

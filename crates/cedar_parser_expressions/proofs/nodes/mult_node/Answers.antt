@@ -1,5 +1,5 @@
 use Rattle.std.proofs.Common.{sym, ap, ◌∙◌}
-use Rattle.cedar_parser_expressions.specs.Inside.ReadingExprs.{end_of_last}
+use Rattle.cedar_parser_expressions.specs.ReadingExprs.{end_of_last}
 use Rattle.cedar_tree.specs.declared.tree.Node.{Node}
 use Rattle.cedar_tree.specs.declared.tree.MultOp.{MultOp}
 use Rattle.cedar_tree.specs.declared.tree.Unary as Unary

@@ -1,5 +1,5 @@
 use Rattle.std.proofs.Common.{sym, ap, ◌∙◌}
-use Rattle.cedar_parser_expressions.specs.Inside.ReadingExprs.{end_of_last}
+use Rattle.cedar_parser_expressions.specs.ReadingExprs.{end_of_last}
 use Rattle.cedar_tree.specs.declared.tree.Node.{Node}
 use Rattle.cedar_tree.specs.declared.tree.And as And
 use Rattle.cedar_tree.proofs.Views.{view_or}

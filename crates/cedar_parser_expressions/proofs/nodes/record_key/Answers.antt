@@ -2,8 +2,8 @@ use Rattle.std.proofs.lemmas.Result.{err_from_is_err_and}
 use Rattle.cedar_grammar.specs.declared.kind.Kind.TheVariants as K
 use Rattle.cedar_grammar.specs.Trees.{Label}
 use Rattle.cedar_tree.specs.Erased.{primary_parts}
-use Rattle.cedar_parser_steps.specs.Inside.Reading.{flat}
-use Rattle.cedar_parser_steps.specs.Inside.ReadingParts.{key_rule}
+use Rattle.cedar_parser_steps.specs.Reading.{flat}
+use Rattle.cedar_parser_steps.specs.ReadingParts.{key_rule}
 use Rattle.cedar_parser_steps.proofs.Followed.{followed_fails, followed_done}
 use Rattle.cedar_parser_expressions.proofs.nodes.record_key.Goals as goal
 

@@ -2,7 +2,7 @@ use Rattle.std.proofs.Common.{refl, sym, ap, ◌∙◌, [], ◌∷◌, arith}
 use Rattle.std.proofs.lemmas.Result.{err_from_is_err_and}
 use Rattle.cedar_grammar.specs.Trees.{Label}
 use Rattle.cedar_grammar.proofs.ReadingLaws.{tree_done, tree_fails, both_fails}
-use Rattle.cedar_parser_steps.specs.Inside.Reading.{last_end}
+use Rattle.cedar_parser_steps.specs.Reading.{last_end}
 use Rattle.cedar_tree.specs.Erased.{access_parts}
 use Rattle.cedar_parser_steps.proofs.Steps.{passes}
 use Rattle.cedar_parser_steps.proofs.Rows.{row_span}

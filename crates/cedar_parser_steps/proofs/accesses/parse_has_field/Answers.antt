@@ -4,7 +4,7 @@ use Rattle.cedar_grammar.specs.declared.kind.Kind.TheVariants as K
 use Rattle.cedar_grammar.specs.Trees.{Label}
 use Rattle.cedar_grammar.proofs.ReadingLaws.{both_fails, choice_yes, choice_no}
 use Rattle.cedar_grammar.specs.Reader.Lines.{text_operand, has_field}
-use Rattle.cedar_parser_steps.specs.Inside.Reading.{flat}
+use Rattle.cedar_parser_steps.specs.Reading.{flat}
 use Rattle.cedar_tree.specs.Erased.{add_parts}
 use Rattle.cedar_parser_steps.proofs.Steps.{passes}
 use Rattle.cedar_parser_steps.proofs.Operands.{gives_behind}

@@ -1,5 +1,5 @@
 use Rattle.std.proofs.Common.{subst, ◌∙◌}
-use Rattle.cedar_parser_steps.specs.Inside.ReadingParts.{HasLiteral, is_literal}
+use Rattle.cedar_parser_steps.specs.ReadingParts.{HasLiteral, is_literal}
 use Rattle.cedar_parser_steps.proofs.Steps.{fails_as, first_begins, none_begins}
 use Rattle.cedar_parser_steps.proofs.LiteralLaws.{literal_reads, literal_not}
 use Rattle.cedar_parser_steps.proofs.literals.parse_literal.Goals as goal

@@ -3,7 +3,7 @@ use Rattle.std.proofs.lemmas.Result.{err_from_is_err_and}
 use Rattle.cedar_grammar.specs.Trees.{Label}
 use Rattle.cedar_grammar.proofs.ReadingLaws.{choice_yes, choice_no, tree_done, tree_fails}
 use Rattle.cedar_tree.specs.Erased.{primary_parts}
-use Rattle.cedar_parser_steps.specs.Inside.Reading.{IsNameOf}
+use Rattle.cedar_parser_steps.specs.Reading.{IsNameOf}
 use Rattle.cedar_parser_steps.proofs.Steps.{passes, gives_as}
 use Rattle.cedar_parser_steps.proofs.Operands.{lone_name}
 use Rattle.cedar_parser_steps.proofs.names.parse_key.Goals as goal

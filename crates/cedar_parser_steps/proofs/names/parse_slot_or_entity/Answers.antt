@@ -5,7 +5,7 @@ use Rattle.cedar_grammar.specs.Trees.{Label, none, leaf}
 use Rattle.cedar_grammar.specs.Reader.Reading.{done, one}
 use Rattle.cedar_grammar.proofs.ReadingLaws.{choice_yes, choice_no, tree_done, tree_fails}
 use Rattle.cedar_tree.specs.Erased.{primary_parts}
-use Rattle.cedar_parser_steps.specs.Inside.Reading.{kind, Fails}
+use Rattle.cedar_parser_steps.specs.Reading.{kind, Fails}
 use Rattle.cedar_parser_steps.proofs.Steps.{passes, gives_as}
 use Rattle.cedar_parser_steps.proofs.Entities.{slot_stands}
 use Rattle.cedar_parser_steps.proofs.names.parse_slot_or_entity.Goals as goal

@@ -1,7 +1,7 @@
 use Rattle.std.proofs.Common.{sym, ◌∙◌, arith}
 use Rattle.std.proofs.lemmas.Result.{err_from_is_err_and}
 use Rattle.cedar_grammar.proofs.ReadingLaws.{both_fails}
-use Rattle.cedar_parser_steps.specs.Inside.ReadingParts.{ident_reader, words_on, words_then}
+use Rattle.cedar_parser_steps.specs.ReadingParts.{ident_reader, words_on, words_then}
 use Rattle.cedar_parser_steps.proofs.Steps.{passes}
 use Rattle.cedar_parser_steps.proofs.Paths.{name_stands}
 use Rattle.cedar_parser_steps.proofs.Entities.{words_first, words_next, words_stuck, text_fails, words_text, words_end}

@@ -1,5 +1,5 @@
 use Rattle.std.proofs.Common.{◌-◌, ◌≤◌, length}
-use Rattle.cedar_parser_steps.specs.Inside.ReadingSigns.{Leads}
+use Rattle.cedar_parser_steps.specs.ReadingSigns.{Leads}
 use Rattle.cedar_parser_steps.proofs.signs.past_signs.Given as goal
 
 abbrev pub invariant-signs : goal.invariant-signs

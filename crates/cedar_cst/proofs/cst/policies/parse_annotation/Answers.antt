@@ -5,7 +5,7 @@ use Rattle.cedar_grammar.specs.Kinds.{is}
 use Rattle.cedar_grammar.specs.Trees.{Label, leaf, branch, none}
 use Rattle.cedar_grammar.specs.Reader.Reading.{tree, token}
 use Rattle.cedar_grammar.proofs.ReadingLaws.{tree_done, tree_fails, both_done, both_fails, both_then_fails, choice_yes, choice_no}
-use Rattle.cedar_parser_steps.specs.Inside.Reading.{kind, str_parts}
+use Rattle.cedar_parser_steps.specs.Reading.{kind, str_parts}
 use Rattle.cedar_parser_steps.proofs.Steps.{passes, first_begins, is_itself, token_at}
 use Rattle.cedar_parser_steps.proofs.Rows.{row_more, row_node, row_nodes, row_token, row_span}
 use Rattle.cedar_parser_steps.proofs.Followed.{followed_fails, followed_done}

@@ -5,7 +5,7 @@ use Rattle.cedar_grammar.specs.Kinds.{is, begins}
 use Rattle.cedar_grammar.specs.Trees.{Label}
 use Rattle.cedar_grammar.specs.Reader.Lines.{annotation_rule}
 use Rattle.cedar_grammar.proofs.ReadingLaws.{read_end, read_fails}
-use Rattle.cedar_parser_steps.specs.Inside.Reading.{kind, flat}
+use Rattle.cedar_parser_steps.specs.Reading.{kind, flat}
 use Rattle.cedar_parser_steps.proofs.Steps.{passes}
 use Rattle.cedar_parser_steps.proofs.Operands.{keep_done, keep_fails, keep_shorter}
 use Rattle.cedar_parser_steps.proofs.Manys.{flat_takes, many_first, many_next}

@@ -6,7 +6,7 @@ use Rattle.cedar_grammar.specs.Trees.{Label}
 use Rattle.cedar_grammar.specs.Reader.Reading.{Reader}
 use Rattle.cedar_grammar.specs.Reader.Lines.{expr_to}
 use Rattle.cedar_tree.specs.Erased.{expr_parts}
-use Rattle.cedar_parser_steps.specs.Inside.Reading.{kind}
+use Rattle.cedar_parser_steps.specs.Reading.{kind}
 use Rattle.cedar_parser_steps.specs.declared.lexeme.Lexeme.{Lexeme}
 use Rattle.cedar_parser_steps.proofs.Steps.{passes}
 use Rattle.cedar_parser_steps.proofs.Rows.{row_span}

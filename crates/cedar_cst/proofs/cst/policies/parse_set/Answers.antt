@@ -5,7 +5,7 @@ use Rattle.cedar_grammar.specs.Trees.{Label}
 use Rattle.cedar_grammar.specs.Reader.Reading.{Reader}
 use Rattle.cedar_grammar.specs.Reader.Lines.{policy_rule}
 use Rattle.cedar_tree.specs.Erased.{policy_parts}
-use Rattle.cedar_parser_expressions.specs.Inside.ReadingExprs.{at_depth}
+use Rattle.cedar_parser_expressions.specs.ReadingExprs.{at_depth}
 use Rattle.cedar_parser_steps.specs.declared.lexeme.Lexeme.{Lexeme}
 use Rattle.cedar_parser_steps.proofs.Steps.{passes}
 use Rattle.cedar_parser_steps.proofs.Operands.{keep_done, keep_fails, keep_shorter}

@@ -7,8 +7,8 @@ use Rattle.cedar_grammar.specs.Reader.Reading.{Reader}
 use Rattle.cedar_grammar.specs.Reader.Rules.{word_of, entity}
 use Rattle.cedar_grammar.specs.Reader.Lines.{◌∥◌, operand}
 use Rattle.cedar_grammar.proofs.ReadingLaws.{onto, both_fails, tree_fails}
-use Rattle.cedar_parser_steps.specs.Inside.Reading.{flat}
-use Rattle.cedar_parser_steps.specs.Inside.ReadingParts.{entity_list}
+use Rattle.cedar_parser_steps.specs.Reading.{flat}
+use Rattle.cedar_parser_steps.specs.ReadingParts.{entity_list}
 use Rattle.cedar_parser_steps.specs.declared.lexeme.Lexeme.{Lexeme}
 use Rattle.cedar_parser_steps.proofs.Steps.{passes}
 use Rattle.cedar_parser_steps.proofs.Variables.{acted, acted_equal, acted_in, acted_none, variable_done, variable_fails, variable_alone, variable_equal, variable_in}

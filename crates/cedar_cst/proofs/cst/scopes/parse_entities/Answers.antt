@@ -5,8 +5,8 @@ use Rattle.cedar_grammar.specs.Trees.{Label, none, branch, join}
 use Rattle.cedar_grammar.specs.Reader.Reading.{done}
 use Rattle.cedar_grammar.specs.Reader.Lines.{entity_item}
 use Rattle.cedar_tree.specs.Erased.{expr_parts}
-use Rattle.cedar_parser_steps.specs.Inside.Reading.{flat}
-use Rattle.cedar_parser_expressions.specs.Inside.ReadingItems.{StandsItems}
+use Rattle.cedar_parser_steps.specs.Reading.{flat}
+use Rattle.cedar_parser_expressions.specs.ReadingItems.{StandsItems}
 use Rattle.cedar_tree.specs.NodeLists.{item_trees}
 use Rattle.cedar_parser_steps.proofs.Steps.{passes}
 use Rattle.cedar_parser_steps.proofs.Manys.{flat_takes}

@@ -1,7 +1,7 @@
 use Rattle.std.proofs.lemmas.Result.{err_from_is_err_and}
 use Rattle.cedar_grammar.specs.Reader.Rules.{entity}
 use Rattle.cedar_grammar.specs.Reader.Lines.{operand}
-use Rattle.cedar_parser_steps.specs.Inside.Reading.{flat}
+use Rattle.cedar_parser_steps.specs.Reading.{flat}
 use Rattle.cedar_parser_steps.proofs.Steps.{passes}
 use Rattle.cedar_parser_steps.proofs.LoneExprs.{lone_fails, lone_gives}
 use Rattle.cedar_cst.proofs.cst.scopes.parse_entity_expr.Goals as goal

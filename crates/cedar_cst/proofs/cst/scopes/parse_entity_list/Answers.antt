@@ -6,7 +6,7 @@ use Rattle.cedar_grammar.specs.Reader.Rules.{items}
 use Rattle.cedar_grammar.specs.Reader.Lines.{maybe, entity_item}
 use Rattle.cedar_grammar.proofs.ReadingLaws.{both_fails}
 use Rattle.cedar_tree.specs.Erased.{expr_parts}
-use Rattle.cedar_parser_steps.specs.Inside.Reading.{flat}
+use Rattle.cedar_parser_steps.specs.Reading.{flat}
 use Rattle.cedar_parser_steps.proofs.Steps.{passes}
 use Rattle.cedar_parser_expressions.proofs.Bracketed.{square, list_fails, enclosed_reader, enclosed_gives, primary_gives}
 use Rattle.cedar_cst.proofs.cst.scopes.parse_entity_list.Goals as goal

@@ -4,7 +4,7 @@ use Rattle.cedar_grammar.specs.Trees.{Label}
 use Rattle.cedar_grammar.specs.Reader.Reading.{Reader}
 use Rattle.cedar_grammar.specs.Reader.Lines.{scoped, action}
 use Rattle.cedar_grammar.proofs.ReadingLaws.{both_fails, both_then_fails}
-use Rattle.cedar_parser_steps.specs.Inside.Reading.{flat}
+use Rattle.cedar_parser_steps.specs.Reading.{flat}
 use Rattle.cedar_parser_steps.specs.declared.lexeme.Lexeme.{Lexeme}
 use Rattle.cedar_parser_steps.proofs.Steps.{passes}
 use Rattle.cedar_parser_steps.proofs.Followed.{followed_fails, followed_done}

@@ -6,8 +6,8 @@ use Rattle.cedar_grammar.specs.Reader.Reading.{Reader}
 use Rattle.cedar_grammar.specs.Reader.Rules.{word_of}
 use Rattle.cedar_grammar.specs.Reader.Lines.{path, entity_or}
 use Rattle.cedar_grammar.proofs.ReadingLaws.{onto, both_fails, tree_fails}
-use Rattle.cedar_parser_steps.specs.Inside.Reading.{flat}
-use Rattle.cedar_parser_steps.specs.Inside.ReadingParts.{slot_kind, variable_kind}
+use Rattle.cedar_parser_steps.specs.Reading.{flat}
+use Rattle.cedar_parser_steps.specs.ReadingParts.{slot_kind, variable_kind}
 use Rattle.cedar_parser_steps.specs.declared.lexeme.Lexeme.{Lexeme}
 use Rattle.cedar_tree.specs.declared.tree.Slot.{Slot}
 use Rattle.cedar_parser_steps.proofs.Steps.{passes}

@@ -4,8 +4,8 @@ use Rattle.cedar_grammar.specs.Kinds.{is}
 use Rattle.cedar_grammar.specs.Trees.{Label, none, leaf}
 use Rattle.cedar_grammar.specs.Reader.Reading.{done, one}
 use Rattle.cedar_grammar.proofs.ReadingLaws.{tree_done, tree_fails}
-use Rattle.cedar_parser_steps.specs.Inside.Reading.{kind, Fails}
-use Rattle.cedar_parser_steps.specs.Inside.ReadingParts.{variable_kind}
+use Rattle.cedar_parser_steps.specs.Reading.{kind, Fails}
+use Rattle.cedar_parser_steps.specs.ReadingParts.{variable_kind}
 use Rattle.cedar_parser_steps.proofs.Steps.{passes, word_stands, is_itself}
 use Rattle.cedar_parser_steps.proofs.Variables.{variables_apart}
 use Rattle.cedar_cst.proofs.cst.scopes.parse_variable_word.Goals as goal

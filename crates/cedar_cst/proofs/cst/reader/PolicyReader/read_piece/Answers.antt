@@ -2,7 +2,7 @@ use Rattle.std.proofs.Common.{◌≡◌, ◌∙◌, take, drop, refl, sym, ap, s
 use Rattle.std.proofs.lemmas.Result.{err_from_is_err_and}
 use Rattle.cedar_tree.specs.Refusals.{OutOfMemoryOr, Refuses}
 use Rattle.cedar_parser_steps.specs.Tokens.{HasTokens}
-use Rattle.cedar_parser_steps.specs.Inside.Lexemes.{AreLexemes}
+use Rattle.cedar_parser_steps.specs.Lexemes.{AreLexemes}
 use Rattle.cedar_pieces.specs.Pieces.{IsFirstPiece, HasNoPiece}
 use Rattle.cedar_cst.specs.Inside.Parts.{HasPoliciesFrom, RefusesFrom, IsNext}
 use Rattle.cedar_cst.specs.PolicyReaders.{Position, HasEnded}

@@ -27,7 +27,7 @@ use Rattle.cedar_tree.specs.declared.tree.Add as Add
 use Rattle.cedar_tree.specs.declared.tree.Expr as Expr
 use Rattle.cedar_tree.specs.declared.tree.Or as Or
 use Rattle.cedar_tree.specs.Erased.{node, ident_tree, name_tree, str_tree, primary_parts, slot_text, type_parts, operator_parts, add_parts, expr_parts, or_parts, variable_parts}
-use Rattle.cedar_parser_steps.specs.Inside.Reading.{kind, Fails, Stands, IsMade, span_to, str_parts, name_parts}
+use Rattle.cedar_parser_steps.specs.Reading.{kind, Fails, Stands, IsMade, span_to, str_parts, name_parts}
 
 -- Literals.
 abbrev pub is_literal : Kind → Bool

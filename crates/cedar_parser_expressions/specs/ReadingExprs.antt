@@ -5,7 +5,7 @@ use Rattle.std.specs.Borrow.{Bor}
 use Rattle.cedar_tokens.specs.declared.token.Span.{Span}
 use Rattle.cedar_grammar.specs.declared.kind.Kind.{Kind}
 use Rattle.cedar_grammar.specs.Trees.{Label, Forest, none, leaf, branch}
-use Rattle.cedar_parser_expressions.specs.Inside.ReadingItems.{Boxed, bracketed, IsBracketsOf}
+use Rattle.cedar_parser_expressions.specs.ReadingItems.{Boxed, bracketed, IsBracketsOf}
 use Rattle.cedar_grammar.specs.Reader.Reading.{Reader, Answer, done, too_deep}
 use Rattle.cedar_grammar.specs.declared.kind.Kind.TheVariants as K
 use Rattle.cedar_grammar.specs.Reader.Rules.{Rule, inner, items, read, core}
@@ -31,8 +31,8 @@ use Rattle.cedar_tree.specs.declared.tree.MemAccess as MemAccess
 use Rattle.cedar_tree.specs.declared.tree.Primary as Primary
 use Rattle.cedar_tree.specs.declared.tree.RecInit as RecInit
 use Rattle.cedar_tree.specs.Erased.{Erased, node, variant, name_tree, relop_text, addop_text, sign_leaves, expr_parts, or_parts, relation_parts, add_parts, mult_parts, unary_parts, access_parts, primary_parts}
-use Rattle.cedar_parser_steps.specs.Inside.Reading.{kind, Fails, Stands, IsMade, IsNamePrimaryOf, span_to, last_end}
-use Rattle.cedar_parser_steps.specs.Inside.ReadingSigns.{signs_start}
+use Rattle.cedar_parser_steps.specs.Reading.{kind, Fails, Stands, IsMade, IsNamePrimaryOf, span_to, last_end}
+use Rattle.cedar_parser_steps.specs.ReadingSigns.{signs_start}
 use Rattle.cedar_tree.specs.NodeLists.{access_items, and_parts, init_parts, item_trees, member_parts, operand_trees}
 
 -- Readers where so many brackets and ifs may still be nested.

@@ -16,7 +16,7 @@ use Rattle.cedar_tree.specs.declared.tree.Primary as Primary
 use Rattle.cedar_tree.specs.declared.tree.Add as Add
 use Rattle.cedar_tree.specs.NodeLists.{operand_parts}
 use Rattle.cedar_tree.specs.Erased.{Erased, path_parts, node, primary_parts, add_parts, variant_label, literal_text}
-use Rattle.cedar_parser_steps.specs.Inside.Lexemes.{lexeme_nodes}
+use Rattle.cedar_parser_steps.specs.Lexemes.{lexeme_nodes}
 use Rattle.cedar_tree.specs.NodeTrees.{span_of}
 use Rattle.cedar_tokens.specs.Units.{is_token}
 use Rattle.cedar_tokens.specs.declared.token.Span.{Span}

@@ -13,7 +13,7 @@ use Rattle.cedar_grammar.specs.Reader.Lines as L
 use Rattle.cedar_parser_steps.specs.declared.lexeme.Lexeme.{Lexeme}
 use Rattle.cedar_tree.specs.declared.tree.NegOp.{NegOp}
 use Rattle.cedar_tree.specs.Erased.{Erased, sign_leaves}
-use Rattle.cedar_parser_steps.specs.Inside.Reading.{kind, flat, Stands, first_place}
+use Rattle.cedar_parser_steps.specs.Reading.{kind, flat, Stands, first_place}
 
 -- so many tokens of this kind stand first, before the others
 abbrev pub Leads : Kind → ℕ → List Lexeme → List Lexeme → Type 0

@@ -6,8 +6,8 @@ use Rattle.cedar_grammar.specs.declared.kind.Kind.{Kind}
 use Rattle.cedar_grammar.specs.declared.kind.Kind.TheVariants as K
 use Rattle.cedar_grammar.specs.Trees.{Label, Forest, none, leaf, branch}
 use Rattle.cedar_grammar.specs.Reader.Reading.{Reader, Answer, done, both, one}
-use Rattle.cedar_parser_steps.specs.Inside.Reading.{kind, flat, Fails, Stands, FollowedBy, GivesBehind, PassesOn}
-use Rattle.cedar_parser_steps.specs.Inside.ReadingParts.{Makes, key_rule}
+use Rattle.cedar_parser_steps.specs.Reading.{kind, flat, Fails, Stands, FollowedBy, GivesBehind, PassesOn}
+use Rattle.cedar_parser_steps.specs.ReadingParts.{Makes, key_rule}
 use Rattle.cedar_parser_steps.specs.declared.lexeme.Lexeme.{Lexeme}
 use Rattle.cedar_parser_steps.specs.declared.reading.Refusal.{Refusal}
 use Rattle.cedar_tree.specs.declared.tree.Node.{Node}
@@ -15,8 +15,8 @@ use Rattle.cedar_tree.specs.declared.tree.Add as Add
 use Rattle.cedar_tree.specs.declared.tree.Primary as Primary
 use Rattle.cedar_tree.specs.declared.tree.Relation as Relation
 use Rattle.cedar_tree.specs.Erased.{add_parts, primary_parts}
-use Rattle.cedar_parser_expressions.specs.Inside.ReadingItems.{Boxed}
-use Rattle.cedar_parser_expressions.specs.Inside.ReadingExprs.{IsWordOf}
+use Rattle.cedar_parser_expressions.specs.ReadingItems.{Boxed}
+use Rattle.cedar_parser_expressions.specs.ReadingExprs.{IsWordOf}
 
 -- what was read, changed by f; a refusal stays
 abbrev pub mapped : {X Y : Type 0} → (X → Y) → Result (X × Bor (List Lexeme)) Refusal → Result (Y × Bor (List Lexeme)) Refusal

@@ -13,8 +13,8 @@ use Rattle.cedar_tree.specs.declared.tree.Expr as Expr
 use Rattle.cedar_tree.specs.declared.tree.Primary as Primary
 use Rattle.cedar_tree.specs.NodeLists.{item_trees}
 use Rattle.cedar_tree.specs.Erased.{Erased, variant, expr_parts, primary_parts, variable_parts}
-use Rattle.cedar_parser_steps.specs.Inside.Lexemes.{lexeme_nodes}
-use Rattle.cedar_parser_steps.specs.Inside.Reading.{AreRight, Fails, Stands, IsMade}
+use Rattle.cedar_parser_steps.specs.Lexemes.{lexeme_nodes}
+use Rattle.cedar_parser_steps.specs.Reading.{AreRight, Fails, Stands, IsMade}
 use Rattle.cedar_tree.specs.declared.tree.VariableDef.{VariableDef}
 use Rattle.cedar_tokens.specs.declared.token.Span.{Span}
 
