@@ -1,9 +1,11 @@
-"""The worked rows of crates/cedar_tests: texts with their layouts, and texts with their refusals."""
+"""The worked rows of crates/cedar_tests: texts with their layouts, and texts with their refusals. And the golden policies."""
 import ast
+import glob
 import os
 import re
 
-ROWS = f"{os.path.dirname(os.path.dirname(os.path.realpath(__file__)))}/crates/cedar_tests/src/tests"
+TESTS = os.path.dirname(os.path.realpath(__file__))
+ROWS = f"{os.path.dirname(TESTS)}/crates/cedar_tests/src/tests"
 KINDS = {"UnknownCharacter": 1, "UnfinishedString": 2, "NumberTooLarge": 3, "Grammar": 4, "TooDeep": 5}
 TEXT = r'"(?:[^"\\]|\\.)*"'
 
@@ -39,3 +41,12 @@ def refusals():
         text = b"".join(text_of(it) * int(times) for it, times in re.findall(rf"\(({TEXT}), (\d+)\)", parts))
         one.append((text, kind, at))
     return [(text, (KINDS[kind], int(at)) if kind else None) for text, kind, at in one]
+
+
+def golden():
+    """The texts of tests/golden, laid out and not."""
+    found = []
+    for path in sorted(glob.glob(f"{TESTS}/golden/*.cedar") + glob.glob(f"{TESTS}/golden/*.formatted")):
+        with open(path, "rb") as it:
+            found.append(it.read())
+    return found
