@@ -38,7 +38,7 @@ else
     program=$unproved
     if [ ! -x "$unproved" ] || is_older "$unproved" "$root"/crates/*/src; then
         command -v rt > /dev/null || {
-            tell "there is no rt on the PATH: it is the Rattle kit's command, see \"Use\" in $root/README.md"
+            tell "there is no rt on the PATH: it is the Rattle kit's command, see \"Install\" in $root/README.md"
             exit 1
         }
         make_by build-unproved

@@ -11,9 +11,9 @@ def ask(script, word):
     try:
         told = subprocess.run(["rt", word], stdin=subprocess.DEVNULL, capture_output=True, text=True, check=True)
     except FileNotFoundError:
-        sys.exit(f"{script}: there is no rt on the PATH: it is the Rattle kit's command, see \"Use\" in {ROOT}/README.md")
+        sys.exit(f"{script}: there is no rt on the PATH: it is the Rattle kit's command, see \"Install\" in {ROOT}/README.md")
     except (OSError, subprocess.CalledProcessError) as error:
-        sys.exit(f"{script}: the Rattle kit's rt does not run ({error}), see \"Use\" in {ROOT}/README.md")
+        sys.exit(f"{script}: the Rattle kit's rt does not run ({error}), see \"Install\" in {ROOT}/README.md")
     return told.stdout.strip()
 
 
