@@ -55,7 +55,7 @@ struct cedar_answer {
  * Lays the policies `text` out, at `width` columns a line (80 is usual) and `indent` columns a level (2 is usual; a negative
  * one moves to the left), and writes the result to the start of `out`, with no zero byte at its end.
  *
- * CEDAR_RESULT: the number is the length of the result; what stands behind it in `out` is unchanged.
+ * CEDAR_RESULT: the number is the length of the result; what stands after it in `out` is unchanged.
  * CEDAR_NO_ROOM: the number is the length of the result, which is above `room`. So with a room of 0 one asks for the length.
  * With every kind but CEDAR_RESULT `out` is unchanged. Every other kind can come, too.
  */
@@ -85,7 +85,7 @@ struct cedar_place_answer {
 
 /*
  * The line and the column of the byte `at` of `text`, counted from 0. Only a line feed ends a line. A byte inside a
- * character stands where that character begins, and one behind the end where the text ends.
+ * character stands where that character begins, and one after the end where the text ends.
  */
 void cedar_place(const char *text, size_t len, size_t at, struct cedar_place_answer *place);
 
