@@ -1,6 +1,6 @@
 //! A formatter for policies.
 //!
-//! `policies_str_to_pretty` lays a policy text out. All modules that it stands on are given out here too, so that a user
+//! `policies_str_to_pretty` lays a policy text out. All modules that it depends on are re-exported here, so that a user
 //! depends on this crate alone.
 #![tactic(auto)]
 
@@ -13,6 +13,9 @@ pub use cedar_cst::cst;
 pub use cedar_cst::cst::FormatError;
 pub use cedar_documents::config::{Config, Context};
 pub use cedar_documents::{config, doc};
+pub use cedar_expected::expectation::Expected;
+pub use cedar_expected::expected::expected;
+pub use cedar_expected::explain::explain;
 pub use cedar_layout::{layout, utils};
 pub use cedar_tokens::{lexer, token};
 pub use fmt::{

@@ -1,0 +1,11 @@
+mod SampleTokens
+mod Deciding
+mod KindLists
+mod NameLists
+mod Following
+mod Splits
+mod Begun
+mod Rests
+mod Probed
+mod FirstUnits
+mod Behind

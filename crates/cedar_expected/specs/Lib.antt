@@ -1,0 +1,4 @@
+pub mod Naming
+pub mod Inside
+pub mod Expectations
+pub mod Sentences

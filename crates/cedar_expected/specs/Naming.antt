@@ -1,0 +1,46 @@
+-- What a message names: kinds of tokens that have a word together, or one kind.
+use Rattle.std.specs.Prelude.{Bool, ◌||◌, IsTrue, List, Contains, All, Any}
+use Rattle.cedar_grammar.specs.declared.kind.Kind.{Kind}
+use Rattle.cedar_grammar.specs.declared.kind.Kind.TheVariants as K
+use Rattle.cedar_grammar.specs.Kinds.{is, is_boolean, is_ident, is_any_word, is_effect, is_cond_word, is_comparison}
+use Rattle.cedar_grammar.specs.Reader.Rules.{expr_first}
+use Rattle.cedar_expected.specs.declared.kinds.Name.{Name}
+use Rattle.cedar_expected.specs.declared.kinds.Name.TheVariants.{Policy, Condition, Word, Expression, Operand, FlatOperand, Identifier, Operator, ArithmeticOrLogical, Token}
+
+-- what an operand without signs and brackets begins with
+abbrev pub is_flat : Kind → Bool
+is_flat x = is_ident x || is_boolean x || is K.Number x || is K.Str x
+
+-- ( [ {
+abbrev pub is_opening : Kind → Bool
+is_opening x = is K.LParen x || is K.LBracket x || is K.LBrace x
+
+-- + - * && ||
+abbrev pub is_arithmetic_or_logical : Kind → Bool
+is_arithmetic_or_logical x = is K.Add x || is K.Dash x || is K.Mul x || is K.And x || is K.Or x
+
+-- < <= > >= != == in has like is
+abbrev pub is_relational : Kind → Bool
+is_relational x = is_comparison x || is K.Has x || is K.Like x || is K.Is x
+
+-- tokens of this kind are among those that are named
+abbrev pub names : Name → Kind → Bool
+names Policy x = is K.At x || is_effect x
+names Condition x = is_cond_word x
+names Word x = is_any_word x
+names Expression x = expr_first x
+names Operand x = is_flat x || is_opening x
+names FlatOperand x = is_flat x
+names Identifier x = is_ident x
+names Operator x = is_arithmetic_or_logical x || is_relational x
+names ArithmeticOrLogical x = is_arithmetic_or_logical x
+names (Token k) x = is k x
+
+-- all kinds that are named are in the list
+abbrev pub AreIn : List Kind → Name → Type 0
+AreIn kinds name = (k : Kind) → IsTrue (names name k) → Contains kinds k
+
+-- each name names kinds of the list alone, and each kind of the list has a name
+pub record AreNamed (kinds : List Kind) (all : List Name) : Type 0 where
+  pub within : All (AreIn kinds) all
+  pub named : (k : Kind) → Contains kinds k → Any (λ name. IsTrue (names name k)) all

@@ -1,0 +1,76 @@
+//! What could stand at the place where a text leaves the grammar.
+ghost use Rattle.std.specs.Prelude.{IfOk, MatchOption};
+ghost use Rattle.cedar_expected.specs.Inside.Firsts.{BeginsWithFirst};
+ghost use Rattle.cedar_expected.specs.Inside.Leaving.{LeavesBehind};
+ghost use Rattle.cedar_expected.specs.Expectations.{IsExpected, NeverLeaves};
+
+use crate::expectation::Expected;
+use crate::kinds::names_of;
+use crate::probe::{is_accepted, kinds_after, place_of};
+use cedar_cst::cst::PolicyReader;
+use cedar_tokens::units::Units;
+use cedar_tree::laws::{accepted_is_not_refused, refusal_is_unique};
+use std::alloc::{AllocError, Global};
+
+/// What could stand at the place where `text` leaves the grammar: where `parse_policies` refuses it as `Grammar` or `TooDeep`.
+/// `None` for an accepted text, and for one that is refused because of its tokens.
+pub fn expected<'src>(alloc: Global, text: &'src str) -> Result<Option<Expected<'src>>, AllocError>
+    ensures { IfOk result (λ expected. MatchOption expected (NeverLeaves text.now) (IsExpected text.now)) }
+{
+    let Some(leaving) = leave(alloc, text)? else {
+        return Ok(None);
+    };
+    let from = text.len() - leaving.rest.len();
+    let (before, after) = leaving.rest.split_at(leaving.at - from);
+    let kinds = kinds_after(alloc, before)?;
+    let names = names_of(alloc, &kinds)?;
+    let end = is_accepted(alloc, before)?;
+    Ok(Some(Expected {
+        at: leaving.at,
+        found: first_unit(after),
+        kinds,
+        names,
+        end,
+    }))
+}
+
+// Where a text leaves the grammar.
+#[derive(Drop)]
+struct Leaving<'src> {
+    // In bytes from the text's start.
+    at: usize,
+    // What stands behind the policies that are whole before the place.
+    rest: &'src str,
+}
+
+// Where `text` leaves the grammar, if it does.
+fn leave<'src>(alloc: Global, text: &'src str) -> Result<Option<Leaving<'src>>, AllocError>
+    ensures { IfOk result (λ leaving. MatchOption leaving (NeverLeaves text.now) (LeavesBehind text.now)) }
+{
+    refusal_is_unique();
+    accepted_is_not_refused();
+    let Ok(mut reader) = PolicyReader::new(text) else {
+        return Ok(None);
+    };
+    'policies: loop {
+        match reader.next(alloc) {
+            Ok(Some(_)) => {}
+            Ok(None) => return Ok(None),
+            Err(error) => {
+                let rest = reader.rest();
+                return match place_of(error)? {
+                    Some(at) => Ok(Some(Leaving { at, rest })),
+                    None => Ok(None),
+                };
+            }
+        }
+    }
+}
+
+// The first unit of `text`, if there is one.
+fn first_unit(text: &str) -> Option<&str>
+    ensures { BeginsWithFirst text.now result }
+{
+    let unit = Units::new(text).next()?;
+    Some(unit.text)
+}

@@ -1,0 +1,11 @@
+//! What could stand at the place where a text is refused, and sentences for people about refusals.
+#![tactic(auto)]
+
+pub mod expectation;
+pub mod expected;
+pub mod explain;
+pub mod kinds;
+pub mod laws;
+mod message;
+mod probe;
+mod samples;
