@@ -4,6 +4,7 @@
 //! system does.
 ghost use Rattle.std.specs.Prelude.{None};
 
+use crate::refusal::Refusal;
 use cedar_folder::{Access, File, Folder, Outcome};
 use cedar_policy_formatter::FormatError;
 use std::alloc::Global;
@@ -14,8 +15,6 @@ use std::{fs, io};
 
 // The most names that are tried for a file beside another.
 const MOST_NAMES: u32 = 1000;
-
-const BYTE_ORDER_MARK: [u8; 3] = [0xef, 0xbb, 0xbf];
 
 /// The folder of the disk, as one part of a run sees it. Names of files that aren't formatted go to standard output, each
 /// followed by a byte 0; faults go to standard error; and each file adds a letter to `marks`: `c` for one that isn't
@@ -28,17 +27,28 @@ pub struct Disk<'a> {
     marks: fs::File,
     // The number of the part, so that no two parts make a file of one name.
     part: &'a str,
+    // Whether a refusal is reported with its line.
+    shows_lines: bool,
     // Whether a report couldn't be written.
     is_broken: bool,
 }
 
 impl<'a> Disk<'a> {
-    pub fn new(rt: &'a HostRuntime, stop: &'a str, marks: fs::File, part: &'a str) -> Disk<'a> {
+    /// The folder for the part of this number, which stops as soon as there is a file `stop`. With `shows_lines` a refusal is
+    /// reported with its line.
+    pub fn new(
+        rt: &'a HostRuntime,
+        stop: &'a str,
+        marks: fs::File,
+        part: &'a str,
+        shows_lines: bool,
+    ) -> Disk<'a> {
         Disk {
             rt,
             stop,
             marks,
             part,
+            shows_lines,
             is_broken: false,
         }
     }
@@ -73,8 +83,17 @@ impl<'a> Disk<'a> {
                 'r'
             }
             Outcome::Refused { error, bytes } => {
-                let told = format!(in self.rt.alloc(); "{error}")?;
-                tell_refusal(&mut errors, name, bytes.as_slice(), told.as_str())?;
+                match str::from_utf8(bytes) {
+                    Ok(text) => {
+                        let refusal = Refusal {
+                            name,
+                            text,
+                            error: *error,
+                        };
+                        refusal.tell(self.rt.alloc(), &mut errors, self.shows_lines)?;
+                    }
+                    Err(_) => write!(errors, "{name}: {error}\n")?,
+                }
                 if *error == FormatError::OutOfMemory {
                     'f'
                 } else {
@@ -196,42 +215,4 @@ fn tell_fault<W: Write>(
         ErrorKind::ReadOnlyFilesystem => write!(errors, "{name}: {what}: the disk is read-only\n"),
         _ => write!(errors, "{name}: {what}: {error}\n"),
     }
-}
-
-/// Reports a refusal as `NAME:LINE:COLUMN: WHY`. `told` is what the error says, with its byte; line and column are counted
-/// from 1, columns in bytes.
-pub fn tell_refusal<W: Write>(
-    errors: &mut W,
-    name: &str,
-    bytes: &[u8],
-    told: &str,
-) -> io::Result<()> {
-    let Some((why, at)) = told.rsplit_once(" at byte ") else {
-        return write!(errors, "{name}: {told}\n");
-    };
-    let Ok(at) = at.parse::<usize>() else {
-        return write!(errors, "{name}: {told}\n");
-    };
-    let why = if at == 0 && bytes.starts_with(&BYTE_ORDER_MARK) {
-        "a byte order mark at the start"
-    } else {
-        why
-    };
-    let (line, column) = place_of(bytes, at);
-    write!(errors, "{name}:{line}:{column}: {why}\n")
-}
-
-// The line and the column of a byte, from 1. Only a line feed ends a line.
-fn place_of(bytes: &[u8], at: usize) -> (usize, usize) {
-    let mut line = 1usize;
-    let mut column = 1usize;
-    for byte in bytes.iter().take(at) {
-        if *byte == b'\n' {
-            line = line.saturating_add(1);
-            column = 1;
-        } else {
-            column = column.saturating_add(1);
-        }
-    }
-    (line, column)
 }

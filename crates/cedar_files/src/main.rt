@@ -8,12 +8,15 @@
 //! - `part FOLDER K N` does the K-th of N parts of the plan that stands in FOLDER. The names of files that aren't formatted
 //!   go to standard output, each followed by a byte 0.
 //! - `text` formats or checks standard input.
+//!
+//! Where the variable `CEDAR_FILES_LINES` is set, a refusal is reported with its line and a mark under the place.
 #![tactic(auto)]
 
 mod disk;
 mod options;
 mod part;
 mod plan;
+mod refusal;
 mod text;
 mod walk;
 
@@ -58,6 +61,11 @@ fn main(rt: HostRuntime) -> ExitCode {
 fn words(rt: &HostRuntime) -> io::Result<Vec<String>> {
     let words = env::args(rt)?.collect(rt.alloc())?;
     Ok(words)
+}
+
+// Whether a refusal is reported with its line.
+fn shows_lines(rt: &HostRuntime) -> bool {
+    env::var(rt, "CEDAR_FILES_LINES").is_ok()
 }
 
 // Does what the first word says.

@@ -1,7 +1,7 @@
 //! A part of a run.
 use crate::disk::Disk;
 use crate::options::{Mode, Options};
-use crate::{FAILED, MISUSED};
+use crate::{FAILED, MISUSED, shows_lines};
 use cedar_folder::format_files;
 use std::alloc::{AllocError, Global};
 use std::{fs, io};
@@ -39,7 +39,7 @@ pub fn do_part(rt: &HostRuntime, part: &Part<'_>, options: &Options<'_>) -> io::
     let names = share_of(alloc, plan.as_str(), number, parts)?;
     let stop = format!(in alloc; "{}/stop", part.folder)?;
     let marks = fs::create(rt, format!(in alloc; "{}/{number}.marks", part.folder)?)?;
-    let mut disk = Disk::new(rt, stop.as_str(), marks, part.number);
+    let mut disk = Disk::new(rt, stop.as_str(), marks, part.number, shows_lines(rt));
     format_files(
         alloc,
         &mut disk,

@@ -1,7 +1,7 @@
 //! Standard input.
-use crate::disk::tell_refusal;
 use crate::options::{Mode, Options};
-use crate::{FAILED, UNFORMATTED};
+use crate::refusal::Refusal;
+use crate::{FAILED, UNFORMATTED, shows_lines};
 use cedar_policy_formatter::{ReadFault, Watched, policies_str_to_pretty, read_text};
 use std::io;
 use std::io::Write;
@@ -36,13 +36,12 @@ pub fn format_text(rt: &HostRuntime, options: &Options<'_>) -> io::Result<u8> {
             Ok(0)
         }
         Err(error) => {
-            let told = format!(in rt.alloc(); "{error}")?;
-            tell_refusal(
-                &mut rt.stderr(),
-                "standard input",
-                text.as_bytes(),
-                told.as_str(),
-            )?;
+            let refusal = Refusal {
+                name: "standard input",
+                text: text.as_str(),
+                error,
+            };
+            refusal.tell(rt.alloc(), &mut rt.stderr(), shows_lines(rt))?;
             Ok(FAILED)
         }
     }
