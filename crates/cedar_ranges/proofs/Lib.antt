@@ -1,0 +1,10 @@
+pub mod Feeds
+pub mod Openings
+pub mod Chains
+pub mod Progress
+pub mod Keeping
+pub mod Standing
+pub mod ListLaws
+pub mod EditLaws
+pub mod LastBytes
+pub mod OnlyMemory

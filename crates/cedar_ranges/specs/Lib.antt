@@ -1,0 +1,4 @@
+pub mod Pieces
+pub mod Edits
+pub mod Laws
+pub mod Inside
