@@ -1,0 +1,9 @@
+//! Positions in a text by line and character, as an editor counts them, and changes of a text at such positions.
+#![tactic(auto)]
+
+mod changes;
+pub mod laws;
+mod positions;
+
+pub use changes::{Change, Range, changed_text};
+pub use positions::{Encoding, Position, offset_at, position_at};

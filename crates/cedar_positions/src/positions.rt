@@ -1,0 +1,156 @@
+//! Positions in a text.
+ghost use Rattle.std.specs.Prelude.{◌≡◌, ◌<◌, ◌≤◌, length, IfSome, IfNone, MatchOption};
+ghost use Rattle.std.specs.Str.{IsCharBoundary};
+ghost use Rattle.cedar_positions.specs.Positions.{BeginsLine, IsOffsetOf, IsPlaceOnLine, IsPositionAt, ends_line, lines_before, unit_count, units};
+
+/// What the characters of a line are counted in.
+#[derive(Clone, Copy, PartialEq, Eq, Debug)]
+pub enum Encoding {
+    /// UTF-16 units: two for a character above U+FFFF, and one for any other.
+    Utf16,
+    /// The bytes of UTF-8.
+    Utf8,
+}
+
+/// A place in a text: its line and the units before it on that line, both from 0.
+///
+/// A line ends with a line feed, a carriage return, or both in this order.
+#[derive(Clone, Copy, PartialEq, Eq, Debug)]
+pub struct Position {
+    pub line: usize,
+    pub character: usize,
+}
+
+/// The position of the byte `at` of the text, which is counted from 0.
+///
+/// A byte inside a character stands where that character begins, and one past the end where the text ends. A line feed that
+/// follows a carriage return stands on the line that both end.
+pub fn position_at(text: &str, at: usize, encoding: Encoding) -> Position
+    ensures { IsPositionAt encoding text.now at result }
+{
+    let kept = text.floor_char_boundary(at);
+    let bytes = text.as_bytes();
+    let (line, start) = line_at(bytes, kept);
+    Position {
+        line,
+        character: units(&bytes[start..kept], encoding),
+    }
+}
+
+/// The byte of a position, counted from 0.
+///
+/// A line past the last one is the text's end. A character past the line's end is that end, before what ends the line, and one
+/// inside a character of several units is where that character begins.
+pub fn offset_at(text: &str, position: Position, encoding: Encoding) -> usize
+    ensures offset { IsOffsetOf encoding text.now position result }
+    ensures boundary { IsCharBoundary text.now result }
+{
+    match line_start(text, position.line) {
+        Some(start) => place_on_line(text, start, position.character, encoding),
+        None => text.len(),
+    }
+}
+
+// Whether the byte at `i` is the last one of a line.
+fn ends_line(bytes: &[u8], i: usize) -> bool
+    requires { i < length bytes.now }
+    ensures { result ≡ ends_line bytes.now i }
+{
+    let next = match bytes.get(i + 1) {
+        Some(next) => *next,
+        None => 0,
+    };
+    bytes[i] == b'\n' || (bytes[i] == b'\r' && next != b'\n')
+}
+
+// The units that a byte adds.
+fn unit_count(byte: u8, encoding: Encoding) -> usize
+    ensures count { result ≡ unit_count encoding byte }
+    ensures bound { result ≤ 2 }
+{
+    match encoding {
+        Encoding::Utf8 => 1,
+        Encoding::Utf16 => {
+            if byte < 0x80 {
+                1
+            } else if byte < 0xc0 {
+                0
+            } else if byte < 0xf0 {
+                1
+            } else {
+                2
+            }
+        }
+    }
+}
+
+// The units of these bytes.
+fn units(bytes: &[u8], encoding: Encoding) -> usize
+    ensures { result ≡ units encoding bytes.now }
+{
+    let mut count = 0;
+    for byte in bytes {
+        count += unit_count(*byte, encoding);
+    }
+    count
+}
+
+// The number of the line at a place, and where it begins.
+fn line_at(bytes: &[u8], at: usize) -> (usize, usize)
+    requires { at ≤ length bytes.now }
+    ensures line { lines_before bytes.now at ≡ result.0 }
+    ensures begins { BeginsLine bytes.now result.0 result.1 }
+    ensures before { result.1 ≤ at }
+{
+    let mut line = 0;
+    let mut start = 0;
+    for i in 0..at {
+        if ends_line(bytes, i) {
+            line += 1;
+            start = i + 1;
+        }
+    }
+    (line, start)
+}
+
+// Where a line begins; `None` for one past the last.
+fn line_start(text: &str, line: usize) -> Option<usize>
+    ensures start { MatchOption result (lines_before text.now (length text.now) < line) (BeginsLine text.now line) }
+    ensures boundary { IfSome result (IsCharBoundary text.now) }
+{
+    if line == 0 {
+        return Some(0);
+    }
+    let bytes = text.as_bytes();
+    let mut lines = 0;
+    for i in 0..bytes.len() {
+        if ends_line(bytes, i) {
+            lines += 1;
+            if lines == line {
+                return Some(i + 1);
+            }
+        }
+    }
+    None
+}
+
+// The last place on the line from `start` on with at most so many units before it.
+fn place_on_line(text: &str, start: usize, character: usize, encoding: Encoding) -> usize
+    requires { IsCharBoundary text.now start }
+    ensures { IsPlaceOnLine encoding text.now start character result }
+{
+    let bytes = text.as_bytes();
+    let mut last = start;
+    let mut used = 0;
+    for i in start..bytes.len() {
+        if text.is_char_boundary(i) && used <= character {
+            last = i;
+        }
+        let byte = bytes[i];
+        if byte == b'\n' || byte == b'\r' {
+            return last;
+        }
+        used += unit_count(byte, encoding);
+    }
+    if used <= character { bytes.len() } else { last }
+}

@@ -1,0 +1,129 @@
+//! What a client and the server say.
+use cedar_policy_formatter::FormatError;
+use cedar_positions::{Change, Encoding, Range};
+
+/// What names a request, as its client chose it.
+#[derive(Debug, PartialEq, Drop)]
+pub enum Id {
+    Number(i64),
+    Text(String),
+}
+
+/// What a client says of itself.
+#[derive(Clone, Copy, Debug, PartialEq, Eq)]
+pub struct ClientOptions {
+    /// It can count characters in bytes of UTF-8.
+    pub counts_utf8: bool,
+    /// The columns of a line that it wants.
+    pub line_width: Option<usize>,
+}
+
+/// How the client indents in an editor.
+#[derive(Clone, Copy, Debug, PartialEq, Eq)]
+pub struct Indentation {
+    /// The columns of a tab.
+    pub tab_size: u16,
+    /// Whether a level is indented by spaces, as many as a tab has columns.
+    pub inserts_spaces: bool,
+}
+
+/// What wants an answer.
+#[derive(Debug, Drop)]
+pub enum Request {
+    Initialize(ClientOptions),
+    Shutdown,
+    /// The layout of a whole document.
+    Formatting {
+        uri: String,
+        indentation: Indentation,
+    },
+    /// The layout of the policies that a range touches.
+    RangeFormatting {
+        uri: String,
+        range: Range,
+        indentation: Indentation,
+    },
+    /// One of these whose parameters can't be read.
+    Malformed,
+    /// Any other one.
+    Other,
+}
+
+/// What wants none.
+#[derive(Debug, Drop)]
+pub enum Notification {
+    Exit,
+    DidOpen { uri: String, text: String },
+    /// The changes are made one after the other.
+    DidChange { uri: String, changes: Vec<Change> },
+    DidClose { uri: String },
+    /// Any other one.
+    Other,
+}
+
+/// A message to the server.
+#[derive(Debug, Drop)]
+pub enum ClientMessage {
+    Request { id: Id, request: Request },
+    Notification(Notification),
+}
+
+/// A new text for a range of a document.
+#[derive(Debug, Drop)]
+pub struct Edit {
+    pub range: Range,
+    pub text: String,
+}
+
+/// Why a request isn't done.
+#[derive(Clone, Copy, Debug, PartialEq, Eq)]
+pub enum Failure {
+    /// It came before `initialize`.
+    NotInitialized,
+    /// It came after `shutdown`, or is a second `initialize`.
+    InvalidRequest,
+    /// The server has no such method.
+    MethodNotFound,
+    /// Its parameters can't be read.
+    InvalidParams,
+    /// It names a document that isn't open.
+    NotOpen,
+}
+
+/// The answer to a request.
+#[derive(Debug, Drop)]
+pub enum Answer {
+    /// The server is there, and counts characters so.
+    Ready(Encoding),
+    /// There is nothing to say: after `shutdown`, and where a document to be formatted is refused.
+    Nothing,
+    /// The document, or its part, is formatted already.
+    NoEdit,
+    /// This edit formats it.
+    Edit(Edit),
+    Failure(Failure),
+}
+
+/// Why a document is refused, and where.
+#[derive(Debug, Drop)]
+pub struct Diagnosis {
+    /// The place of the refusal.
+    pub range: Range,
+    pub error: FormatError,
+    /// What is wrong, in words.
+    pub message: String,
+}
+
+/// A message to the client.
+#[derive(Debug, Drop)]
+pub enum ServerMessage {
+    Response {
+        id: Id,
+        answer: Answer,
+    },
+    /// What is wrong with a document: nothing where it is accepted, or not open any more.
+    Diagnostics {
+        uri: String,
+        diagnosis: Option<Diagnosis>,
+    },
+}
