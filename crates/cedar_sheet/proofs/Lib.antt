@@ -1,0 +1,5 @@
+pub mod Written
+pub mod OneToOne
+pub mod Facts
+pub mod Printing
+pub mod Documents

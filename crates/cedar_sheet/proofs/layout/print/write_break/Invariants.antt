@@ -1,0 +1,5 @@
+use Rattle.std.proofs.Common.{◌≡◌, ◌++◌, ◌∷◌, replicate, string_bytes}
+use Rattle.cedar_sheet.proofs.layout.print.write_break.Given as goal
+
+abbrev pub invariant-loop-i : goal.invariant-loop-i
+invariant-loop-i l = string_bytes l.out ≡ string_bytes l.fn.out ++ 10 ∷ replicate l._i 32

@@ -1,0 +1,25 @@
+//! The columns that a text takes.
+ghost use Rattle.std.specs.Prelude.{◌≡◌};
+ghost use Rattle.std.specs.Int.{is_in_range};
+ghost use Rattle.std.specs.List.{list_all};
+ghost use Rattle.cedar_layout.specs.Layout.{columns};
+
+use unicode_width::UnicodeWidthStr;
+
+// Whether each byte is a printable character of ASCII.
+fn all_printable(bytes: &[u8]) -> bool
+    ensures { result ≡ list_all (is_in_range 0x20 0x7E) bytes.now }
+{
+    bytes.iter().all(|byte| b' ' <= *byte && *byte <= b'~')
+}
+
+/// The columns of a text. Printable ASCII takes one for each byte, so no character of it is looked up.
+pub(crate) fn columns_of(text: &str) -> usize
+    ensures { result ≡ columns text.now }
+{
+    if all_printable(text.as_bytes()) {
+        text.len()
+    } else {
+        text.width()
+    }
+}

@@ -1,0 +1,94 @@
+//! The first pass over a sheet, from its last mark to its first: what the second one has to know of groups and breaks.
+ghost use Rattle.std.specs.Prelude.{◌≡◌, ◌+◌, ◌^◌, ◌<◌, ◌≤◌, [], OnOk};
+ghost use Rattle.cedar_sheet.specs.Signs.{sign_of, signs_of};
+ghost use Rattle.cedar_sheet.specs.Inside.Measured.{before, before_break, facts, facts_of};
+
+use crate::layout::columns::columns_of;
+use crate::sheet::Mark;
+use std::alloc::{AllocError, Global};
+
+/// The columns of a hard break in a group that is laid flat: more than every width, so that the group is broken.
+const TOO_WIDE: u128 = 1 << 64;
+
+/// What is known at a mark of the marks from there on.
+#[derive(Drop)]
+pub(crate) struct Known {
+    /// Their columns, all laid flat.
+    pub columns: u128,
+    /// The columns of those from the next break on.
+    pub stop: u128,
+    /// For each end of a group or a nest that begins before: the columns from the next break after that end on.
+    pub ends: Vec<u128>,
+    /// Of each break the columns after it, and of each group the columns from the next break after its end on. The last
+    /// one is that of the first mark.
+    pub notes: Vec<u128>,
+}
+
+impl Known {
+    /// Nothing is known, and there is no room yet.
+    pub(crate) fn new(alloc: Global) -> Known {
+        Known {
+            columns: 0,
+            stop: 0,
+            ends: Vec::new(alloc),
+            notes: Vec::new(alloc),
+        }
+    }
+
+    /// Finds what is known at the first of these marks.
+    pub(crate) fn measure(&mut self, marks: &[Mark<'_>]) -> Result<(), AllocError>
+        ensures facts { OnOk result (facts_of self.new ≡ facts (signs_of marks.now)) }
+        ensures columns { OnOk result (self.new.columns + 2 ^ 64 ≤ 2 ^ 128) }
+    {
+        self.go_to_the_end();
+        for i in (0..marks.len()).rev() {
+            self.take_up(&marks[i])?;
+        }
+        Ok(())
+    }
+
+    /// Goes to the end of a sheet, where nothing follows.
+    fn go_to_the_end(&mut self)
+        ensures { facts_of self.new ≡ facts [] }
+    {
+        self.columns = 0;
+        self.stop = 0;
+        self.ends.clear();
+        self.notes.clear();
+    }
+
+    /// Goes on to what is known before a mark.
+    fn take_up(&mut self, mark: &Mark<'_>) -> Result<(), AllocError>
+        requires { self.old.columns + 2 ^ 64 < 2 ^ 128 }
+        ensures facts { OnOk result (facts_of self.new ≡ before (sign_of mark.now) (facts_of self.old)) }
+        ensures columns { self.new.columns ≤ self.old.columns + 2 ^ 64 }
+    {
+        match mark {
+            Mark::Text(text) => self.columns += columns_of(text) as u128,
+            Mark::Line => self.break_before(1)?,
+            Mark::LineOrNil => self.break_before(0)?,
+            Mark::Hard => self.break_before(TOO_WIDE)?,
+            Mark::Nest(_) => {
+                self.ends.pop();
+            }
+            Mark::Group => {
+                let end = self.ends.pop().unwrap_or(0);
+                self.notes.push(end)?;
+            }
+            Mark::End => self.ends.push(self.stop)?,
+        }
+        Ok(())
+    }
+
+    /// Goes on to what is known before a break that takes so many columns where it is laid flat.
+    fn break_before(&mut self, columns: u128) -> Result<(), AllocError>
+        requires { self.old.columns + columns < 2 ^ 128 }
+        ensures facts { OnOk result (facts_of self.new ≡ before_break columns (facts_of self.old)) }
+        ensures columns { self.new.columns ≤ self.old.columns + columns }
+    {
+        self.notes.push(self.columns)?;
+        self.columns += columns;
+        self.stop = self.columns;
+        Ok(())
+    }
+}
