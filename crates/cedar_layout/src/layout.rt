@@ -6,7 +6,8 @@ ghost use Rattle.cedar_layout.specs.Inside.Computed.{laid};
 ghost use Rattle.cedar_layout.specs.Nodes.{nodes};
 ghost use Rattle.cedar_layout.specs.Value.{doc_of, docs_of, interspersed};
 
-mod columns;
+pub mod breaks;
+pub mod columns;
 mod measure;
 mod print;
 mod release;

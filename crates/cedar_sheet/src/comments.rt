@@ -14,7 +14,7 @@ use crate::sheet::Sheet;
 use cedar_tokens::token::Comment;
 use std::alloc::AllocError;
 
-/// What stands behind a token that has no trailing text.
+/// What stands after a token that has no trailing text.
 #[derive(Clone, Copy)]
 pub enum Next {
     Nothing,

@@ -3,7 +3,6 @@ ghost use Rattle.std.specs.Prelude.{◌≡◌, ℕ, ◌++◌, List, string_bytes
 ghost use Rattle.cedar_layout.specs.Layout.{Doc, IsTheLayoutAt};
 ghost use Rattle.cedar_sheet.specs.Marks.{flat};
 
-mod columns;
 mod measure;
 mod print;
 

@@ -44,6 +44,11 @@ impl<'src> Sheet<'src> {
         }
     }
 
+    /// What the sheet allocates by.
+    pub fn allocator(&self) -> Global {
+        *self.marks.allocator()
+    }
+
     /// Removes all marks. The room stays, for the next document.
     pub fn clear(&mut self)
         ensures { self.new ≡ [] }

@@ -1,5 +1,5 @@
 //! The columns that a text takes.
-ghost use Rattle.std.specs.Prelude.{◌≡◌};
+ghost use Rattle.std.specs.Prelude.{◌≡◌, ◌^◌, ◌<◌};
 ghost use Rattle.std.specs.Int.{is_in_range};
 ghost use Rattle.std.specs.List.{list_all};
 ghost use Rattle.cedar_layout.specs.Layout.{columns};
@@ -14,8 +14,9 @@ fn all_printable(bytes: &[u8]) -> bool
 }
 
 /// The columns of a text. Printable ASCII takes one for each byte, so no character of it is looked up.
-pub(crate) fn columns_of(text: &str) -> u128
-    ensures { result ≡ columns text.now }
+pub fn columns_of(text: &str) -> u128
+    ensures value { result ≡ columns text.now }
+    ensures range { result < 2 ^ 64 }
 {
     if all_printable(text.as_bytes()) {
         text.len() as u128

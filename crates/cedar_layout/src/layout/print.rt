@@ -1,7 +1,6 @@
 //! The second pass over a document: it prints, from the first node to the last, by the notes of the first pass.
-ghost use Rattle.std.specs.Prelude.{◌≡◌, ℕ, ◌+◌, ◌≤◌, ◌<◌, ◌||◌, ◌&&◌, false, not, nat_le, List, [], ◌∷◌, ◌++◌, length, take, replicate, string_bytes, vec_len, IfOk, OnOk, OnErr};
+ghost use Rattle.std.specs.Prelude.{◌≡◌, ℕ, ◌+◌, ◌≤◌, ◌<◌, ◌||◌, ◌&&◌, false, not, nat_le, List, [], ◌∷◌, ◌++◌, length, take, string_bytes, vec_len, IfOk, OnOk, OnErr};
 ghost use Rattle.std.specs.List.{flat_map};
-ghost use Rattle.cedar_tokens.specs.Bytes.{line_feed, space_character};
 ghost use Rattle.cedar_layout.specs.declared.layout.measure.Note.{Note};
 ghost use Rattle.cedar_layout.specs.Layout.{indented, print};
 ghost use Rattle.cedar_layout.specs.Inside.Computed.{capped, laid};
@@ -10,6 +9,7 @@ ghost use Rattle.cedar_layout.specs.Inside.Printing.{todo, todos, laid_all, note
 ghost use Rattle.cedar_layout.specs.Nodes.{nodes};
 ghost use Rattle.cedar_layout.specs.Value.{doc_of, docs_of};
 
+use crate::layout::breaks::write_break;
 use crate::layout::columns::columns_of;
 use crate::layout::measure::Note;
 use crate::layout::{Document, Steps};
@@ -84,18 +84,18 @@ fn take_up<'a, 'src>(
                 out.push(' ')?;
                 return Ok(column.saturating_add(1));
             }
-            break_line(out, next.indent)?;
+            write_break(out, next.indent)?;
             Ok(next.indent as u128)
         }
         Document::LineOrNil => {
             if next.flat {
                 return Ok(column);
             }
-            break_line(out, next.indent)?;
+            write_break(out, next.indent)?;
             Ok(next.indent as u128)
         }
         Document::Hard => {
-            break_line(out, next.indent)?;
+            write_break(out, next.indent)?;
             Ok(next.indent as u128)
         }
         Document::Seq(docs) => {
@@ -161,17 +161,4 @@ fn indented(indent: usize, n: isize) -> usize
     ensures { result ≡ indented indent n }
 {
     indent.saturating_add_signed(n)
-}
-
-/// A line feed and the spaces of an indentation. Memory is asked for before any is written.
-fn break_line(out: &mut String, indent: usize) -> Result<(), AllocError>
-    ensures ok { OnOk result (string_bytes out.new ≡ string_bytes out.old ++ line_feed ∷ replicate indent space_character) }
-    ensures kept { take (length (string_bytes out.old)) (string_bytes out.new) ≡ string_bytes out.old }
-{
-    out.reserve(indent.saturating_add(1))?;
-    out.push('\n')?;
-    for _i in 0..indent {
-        out.push(' ')?;
-    }
-    Ok(())
 }

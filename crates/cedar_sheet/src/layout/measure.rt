@@ -3,8 +3,8 @@ ghost use Rattle.std.specs.Prelude.{◌≡◌, ◌+◌, ◌^◌, ◌<◌, ◌≤
 ghost use Rattle.cedar_sheet.specs.Signs.{sign_of, signs_of};
 ghost use Rattle.cedar_sheet.specs.Inside.Measured.{before, before_break, facts, facts_of};
 
-use crate::layout::columns::columns_of;
 use crate::sheet::Mark;
+use cedar_layout::layout::columns::columns_of;
 use std::alloc::{AllocError, Global};
 
 /// The columns of a hard break in a group that is laid flat: more than every width, so that the group is broken.
@@ -64,7 +64,7 @@ impl Known {
         ensures columns { self.new.columns ≤ self.old.columns + 2 ^ 64 }
     {
         match mark {
-            Mark::Text(text) => self.columns += columns_of(text) as u128,
+            Mark::Text(text) => self.columns += columns_of(text),
             Mark::Line => self.break_before(1)?,
             Mark::LineOrNil => self.break_before(0)?,
             Mark::Hard => self.break_before(TOO_WIDE)?,

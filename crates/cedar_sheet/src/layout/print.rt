@@ -1,7 +1,6 @@
 //! The second pass over a sheet: it prints, from the first mark to the last, by what the first pass knows.
-ghost use Rattle.std.specs.Prelude.{◌≡◌, ◌+◌, ◌-◌, ◌^◌, ◌≤◌, ◌||◌, nat_le, ◌∷◌, ◌++◌, length, take, replicate, reverse, string_bytes, if◌then◌else◌, OnOk};
+ghost use Rattle.std.specs.Prelude.{◌≡◌, ◌+◌, ◌-◌, ◌^◌, ◌≤◌, ◌||◌, nat_le, ◌++◌, length, take, reverse, string_bytes, if◌then◌else◌, OnOk};
 ghost use Rattle.std.specs.List.{flat_map};
-ghost use Rattle.cedar_tokens.specs.Bytes.{line_feed, space_character};
 ghost use Rattle.cedar_layout.specs.Layout.{broken, print};
 ghost use Rattle.cedar_sheet.specs.Signs.{sign_of, signs_of};
 ghost use Rattle.cedar_sheet.specs.Inside.Measured.{facts, facts_of, first_of, others};
@@ -9,6 +8,7 @@ ghost use Rattle.cedar_sheet.specs.Inside.Printed.{State, pieces_of, nearest, fa
 
 use crate::layout::measure::Known;
 use crate::sheet::Mark;
+use cedar_layout::layout::breaks::write_break;
 use std::alloc::{AllocError, Global};
 
 /// The nest or the group in which a mark stands.
@@ -179,17 +179,4 @@ impl Place {
             self.here = outer;
         }
     }
-}
-
-/// A line feed and the spaces of an indentation. Memory is asked for before any is written.
-fn write_break(out: &mut String, indent: usize) -> Result<(), AllocError>
-    ensures ok { OnOk result (string_bytes out.new ≡ string_bytes out.old ++ line_feed ∷ replicate indent space_character) }
-    ensures kept { take (length (string_bytes out.old)) (string_bytes out.new) ≡ string_bytes out.old }
-{
-    out.reserve(indent.saturating_add(1))?;
-    out.push('\n')?;
-    for _i in 0..indent {
-        out.push(' ')?;
-    }
-    Ok(())
 }

@@ -49,16 +49,16 @@ returns-then-next-clause-bytes c =
     let h : c.args.width < 2 ^ 64 = omega arith in
     piece_bytes c.args.width (todos c.args.stack.now.items) (todo c.args.next) flat_space c.args.column _ _ _ h (space_printed c) (c.in_ok-push-in-Line.ensures.bytes ∙ ap (λ x. string_bytes c.args.out.now ++ x) (c.in_ok-push-in-Line.ensures.ascii (omega arith))) c.saturating_add-then-next.ensures
 
-line_broken : (c : goal.In_ok-break_line-in-Line) → PrintsAs (todo c.args.next) (broken c.args.next.indent ∷ [])
+line_broken : (c : goal.In_ok-write_break-in-Line) → PrintsAs (todo c.args.next) (broken c.args.next.indent ∷ [])
 line_broken c = prints_break (todo c.args.next) (ap doc_of c.in-Line.is ∙ doc_of_line) c.if-next.false
 
-pub returns-in_ok-break_line-in-Line-clause-notes : goal.returns-in_ok-break_line-in-Line-clause-notes
-returns-in_ok-break_line-in-Line-clause-notes c = leaf_notes (todos c.args.stack.now.items) (todo c.args.next) _ c.args.notes.now.items (line_broken c) c.requires
+pub returns-in_ok-write_break-in-Line-clause-notes : goal.returns-in_ok-write_break-in-Line-clause-notes
+returns-in_ok-write_break-in-Line-clause-notes c = leaf_notes (todos c.args.stack.now.items) (todo c.args.next) _ c.args.notes.now.items (line_broken c) c.requires
 
-pub returns-in_ok-break_line-in-Line-clause-bytes : goal.returns-in_ok-break_line-in-Line-clause-bytes
-returns-in_ok-break_line-in-Line-clause-bytes c =
+pub returns-in_ok-write_break-in-Line-clause-bytes : goal.returns-in_ok-write_break-in-Line-clause-bytes
+returns-in_ok-write_break-in-Line-clause-bytes c =
     let h : c.args.width < 2 ^ 64 = omega arith in
-    piece_bytes c.args.width (todos c.args.stack.now.items) (todo c.args.next) (broken c.args.next.indent) c.args.column _ _ _ h (line_broken c) c.in_ok-break_line-in-Line.ensures.ok (omega arith)
+    piece_bytes c.args.width (todos c.args.stack.now.items) (todo c.args.next) (broken c.args.next.indent) c.args.column _ _ _ h (line_broken c) c.in_ok-write_break-in-Line.ensures.ok (omega arith)
 
 nothing_printed : (c : goal.Then-next-2) → PrintsAs (todo c.args.next) (flat_nothing ∷ [])
 nothing_printed c = prints_nothing (todo c.args.next) (ap doc_of c.in-LineOrNil.is ∙ doc_of_line_or_nil) c.if-next-2.true
@@ -71,27 +71,27 @@ returns-then-next-2-clause-bytes c =
     let h : c.args.width < 2 ^ 64 = omega arith in
     piece_bytes c.args.width (todos c.args.stack.now.items) (todo c.args.next) flat_nothing c.args.column _ _ _ h (nothing_printed c) (sym (append-nil (string_bytes c.args.out.now))) (omega arith)
 
-line_or_nil_broken : (c : goal.In_ok-break_line-in-LineOrNil) → PrintsAs (todo c.args.next) (broken c.args.next.indent ∷ [])
+line_or_nil_broken : (c : goal.In_ok-write_break-in-LineOrNil) → PrintsAs (todo c.args.next) (broken c.args.next.indent ∷ [])
 line_or_nil_broken c = prints_break_or_nil (todo c.args.next) (ap doc_of c.in-LineOrNil.is ∙ doc_of_line_or_nil) c.if-next-2.false
 
-pub returns-in_ok-break_line-in-LineOrNil-clause-notes : goal.returns-in_ok-break_line-in-LineOrNil-clause-notes
-returns-in_ok-break_line-in-LineOrNil-clause-notes c = leaf_notes (todos c.args.stack.now.items) (todo c.args.next) _ c.args.notes.now.items (line_or_nil_broken c) c.requires
+pub returns-in_ok-write_break-in-LineOrNil-clause-notes : goal.returns-in_ok-write_break-in-LineOrNil-clause-notes
+returns-in_ok-write_break-in-LineOrNil-clause-notes c = leaf_notes (todos c.args.stack.now.items) (todo c.args.next) _ c.args.notes.now.items (line_or_nil_broken c) c.requires
 
-pub returns-in_ok-break_line-in-LineOrNil-clause-bytes : goal.returns-in_ok-break_line-in-LineOrNil-clause-bytes
-returns-in_ok-break_line-in-LineOrNil-clause-bytes c =
+pub returns-in_ok-write_break-in-LineOrNil-clause-bytes : goal.returns-in_ok-write_break-in-LineOrNil-clause-bytes
+returns-in_ok-write_break-in-LineOrNil-clause-bytes c =
     let h : c.args.width < 2 ^ 64 = omega arith in
-    piece_bytes c.args.width (todos c.args.stack.now.items) (todo c.args.next) (broken c.args.next.indent) c.args.column _ _ _ h (line_or_nil_broken c) c.in_ok-break_line-in-LineOrNil.ensures.ok (omega arith)
+    piece_bytes c.args.width (todos c.args.stack.now.items) (todo c.args.next) (broken c.args.next.indent) c.args.column _ _ _ h (line_or_nil_broken c) c.in_ok-write_break-in-LineOrNil.ensures.ok (omega arith)
 
-hard_broken : (c : goal.In_ok-break_line-in-Hard) → PrintsAs (todo c.args.next) (broken c.args.next.indent ∷ [])
+hard_broken : (c : goal.In_ok-write_break-in-Hard) → PrintsAs (todo c.args.next) (broken c.args.next.indent ∷ [])
 hard_broken c = prints_hard (todo c.args.next) (ap doc_of c.in-Hard.is ∙ doc_of_hard)
 
-pub returns-in_ok-break_line-in-Hard-clause-notes : goal.returns-in_ok-break_line-in-Hard-clause-notes
-returns-in_ok-break_line-in-Hard-clause-notes c = leaf_notes (todos c.args.stack.now.items) (todo c.args.next) _ c.args.notes.now.items (hard_broken c) c.requires
+pub returns-in_ok-write_break-in-Hard-clause-notes : goal.returns-in_ok-write_break-in-Hard-clause-notes
+returns-in_ok-write_break-in-Hard-clause-notes c = leaf_notes (todos c.args.stack.now.items) (todo c.args.next) _ c.args.notes.now.items (hard_broken c) c.requires
 
-pub returns-in_ok-break_line-in-Hard-clause-bytes : goal.returns-in_ok-break_line-in-Hard-clause-bytes
-returns-in_ok-break_line-in-Hard-clause-bytes c =
+pub returns-in_ok-write_break-in-Hard-clause-bytes : goal.returns-in_ok-write_break-in-Hard-clause-bytes
+returns-in_ok-write_break-in-Hard-clause-bytes c =
     let h : c.args.width < 2 ^ 64 = omega arith in
-    piece_bytes c.args.width (todos c.args.stack.now.items) (todo c.args.next) (broken c.args.next.indent) c.args.column _ _ _ h (hard_broken c) c.in_ok-break_line-in-Hard.ensures.ok (omega arith)
+    piece_bytes c.args.width (todos c.args.stack.now.items) (todo c.args.next) (broken c.args.next.indent) c.args.column _ _ _ h (hard_broken c) c.in_ok-write_break-in-Hard.ensures.ok (omega arith)
 
 -- ---- a nest and a group
 
