@@ -43,6 +43,8 @@ struct ParsedPiece<'src> {
 pub struct PolicyReader<'src> {
     text: &'src str,
     at: usize,
+    // Room for the lexemes of the next policy.
+    room: Option<Vec<Lexeme<'src>>>,
 }
 
 impl<'src> Model for PolicyReader<'src> {
@@ -65,7 +67,11 @@ impl<'src> PolicyReader<'src> {
         ensures memory { IfErr result (λ e. e ≢ OutOfMemory) }
     {
         check_tokens(text)?;
-        Ok(PolicyReader { text, at: 0 })
+        Ok(PolicyReader {
+            text,
+            at: 0,
+            room: None,
+        })
     }
 
     /// The next policy of the text, with the places of the whole text; `None` where there is none, as often as it is asked.
@@ -77,10 +83,13 @@ impl<'src> PolicyReader<'src> {
         ensures place { IfOk result (λ next. MatchOption next (self.new ≡ self.old) (λ _. self.old.at < self.new.at)) }
         ensures refused { OnErr result (self.new ≡ self.old) }
     {
-        let Some(piece) = self.read_piece(alloc, self.at)? else {
+        let room = self.take_room(alloc);
+        let at = self.at;
+        let Some(piece) = self.read_piece(alloc, room, at)? else {
             return Ok(None);
         };
         self.at += piece.text.len();
+        self.room = Some(piece.lexemes);
         Ok(Some(piece.policy))
     }
 
@@ -95,11 +104,13 @@ impl<'src> PolicyReader<'src> {
         ensures refused { OnErr result (self.new ≡ self.old) }
     {
         tree_has_the_policies();
-        let Some(piece) = self.read_piece(alloc, 0)? else {
+        let room = self.take_room(alloc);
+        let Some(piece) = self.read_piece(alloc, room, 0)? else {
             return Ok(None);
         };
         let (tokens, _) = commented_tokens(alloc, piece.text, &piece.lexemes)?;
         self.at += piece.text.len();
+        self.room = Some(piece.lexemes);
         Ok(Some(Piece {
             text: piece.text,
             policy: piece.policy,
@@ -114,9 +125,24 @@ impl<'src> PolicyReader<'src> {
         &self.text[self.at..]
     }
 
+    // The room of the policy before, if there was one.
+    fn take_room(&mut self, alloc: Global) -> Vec<Lexeme<'src>>
+        ensures { self.new ≡ self.old }
+    {
+        match self.room.take() {
+            Some(room) => room,
+            None => Vec::new(alloc),
+        }
+    }
+
     // The next policy with its part of the text and its lexemes, their places moved by `by` bytes. A refusal has its place in the
-    // whole text.
-    fn read_piece(&self, alloc: Global, by: usize) -> Result<Option<ParsedPiece<'src>>, FormatError>
+    // whole text. The lexemes stand in this room; what it held is dropped.
+    fn read_piece(
+        &self,
+        alloc: Global,
+        room: Vec<Lexeme<'src>>,
+        by: usize,
+    ) -> Result<Option<ParsedPiece<'src>>, FormatError>
         requires { by ≤ self.now.at }
         ensures answer { IfOk result (λ next. MatchOption next (HasEnded self.now) (λ piece. IsNext self.now piece.text.now × IsPolicyFrom by piece.text.now piece.policy)) }
         ensures lexemes { IfOk result (λ next. IfSome next (λ piece. AreLexemesFrom by piece.text.now piece.lexemes.items)) }
@@ -124,7 +150,7 @@ impl<'src> PolicyReader<'src> {
     {
         let at = self.at;
         let rest = self.rest();
-        let mut lexemes = Vec::new(alloc);
+        let mut lexemes = room;
         let Some(len) = read_piece(rest, &mut lexemes)? else {
             let _ = parse_part(alloc, rest, &mut lexemes, at, by)?;
             return Ok(None);

@@ -4,6 +4,7 @@ use Rattle.cedar_tree.specs.Refusals.{Refuses, OutOfMemoryOr}
 use Rattle.cedar_cst.specs.PolicyReaders.{HasPolicies, HasRead}
 use Rattle.cedar_cst.proofs.Readers.{ends_inside}
 use Rattle.cedar_expected.proofs.Behind.{never_read, never_tokens, never_placed, left_behind}
+use Rattle.cedar_expected.proofs.expected.leave.Goals.{in-Some, in-None}
 use Rattle.cedar_expected.proofs.expected.leave.Goals as goal
 
 pub returns-in_default : goal.returns-in_default
@@ -16,19 +17,16 @@ returns-in-Ok-None c =
     let has : HasPolicies text ps = rw c.in-Ok-None.field-0-is at (c.in-Ok-None.ensures.answer text ps c.policies.invariant.1) in
     never_read c.accepted_is_not_refused.ensures text ps has
 
-pub returns-in-Some : goal.returns-in-Some
-returns-in-Some c =
+pub returns-in-Err : goal.returns-in-Err
+returns-in-Err c =
     let text = c.args.text.now in
     let read = c.policies.invariant.1 in
     let r : OutOfMemoryOr (Refuses text) c.in-Err.error = subst (λ z. OutOfMemoryOr (Refuses z) c.in-Err.error) read.of_text c.in-Err.ensures.refusal in
     let rest : c.rest-rest.result.now ≡ drop c.policies.reader.at text = c.rest-rest.ensures ∙ (ap (λ p. drop p.at p.text) c.in-Err.ensures.refused ∙ ap (drop c.policies.reader.at) read.of_text) in
-    left_behind text c.rest-rest.result c.policies.reader c.policies.invariant.0 read c.in-Err.error _ c.in-Some.at c.in_ok-at-in-Err.ensures c.in-Some.is r rest
-
-pub returns-in-None : goal.returns-in-None
-returns-in-None c =
-    let text = c.args.text.now in
-    let r : OutOfMemoryOr (Refuses text) c.in-Err.error = subst (λ z. OutOfMemoryOr (Refuses z) c.in-Err.error) c.policies.invariant.1.of_text c.in-Err.ensures.refusal in
-    never_placed c.refusal_is_unique.ensures text c.in-Err.error _ c.in_ok-at-in-Err.ensures c.in-None.is r
+    elim c.match-branch-2.branch [
+      | in-Some w ↦ rw w.result-is (left_behind text c.rest-rest.result c.policies.reader c.policies.invariant.0 read c.in-Err.error _ w.in-Some.at c.in_ok-at-in-Err.ensures w.in-Some.is r rest)
+      | in-None w ↦ rw w.result-is (never_placed c.refusal_is_unique.ensures text c.in-Err.error _ c.in_ok-at-in-Err.ensures w.in-None.is r)
+    ]
 
 pub policies-smaller-in-Ok-Some : goal.policies-smaller-in-Ok-Some
 policies-smaller-in-Ok-Some c =
