@@ -1,6 +1,7 @@
 pub mod LastTokens
 pub mod Commas
 pub mod Primaries
+pub mod Ifs
 pub mod Chains
 pub mod Operands
 pub mod Relations

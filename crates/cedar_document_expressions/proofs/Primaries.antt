@@ -1,9 +1,10 @@
--- What stands between brackets, and primaries: what their nodes tell of their parts.
-use Rattle.std.proofs.Common.{◌≡◌, ℕ, List, [], ◌∷◌, ◌++◌, length, Option, Some, None, Bool, true, false, nat_eq, refl, sym, ap, ◌∙◌, subst, arith, rules}
-use Rattle.std.specs.Prelude.{⊤, codes, Vec, if◌then◌else◌, IsTrue, IsFalse, ◌&&◌, Result}
+-- Primaries: what their nodes tell of their parts.
+use Rattle.std.proofs.Common.{◌≡◌, ◌==◌, ℕ, suc, List, [], ◌∷◌, length, Option, Some, None, Bool, true, false, refl, sym, ap, ◌∙◌, subst, arith, rules}
+use Rattle.std.specs.Prelude.{⊤, codes, Vec, if◌then◌else◌, Result}
 use Rattle.std.specs.declared.alloc.Global.{Global}
 use Rattle.std.specs.declared.boxed.Box.{Box}
-use Rattle.std.proofs.lemmas.Bool.{eqb-true}
+use Rattle.std.proofs.lemmas.Bool.Decides.{nat_tests}
+use Rattle.std.proofs.lemmas.Bool.{false≢true}
 use Rattle.cedar_tokens.specs.Listing.{token_value}
 use Rattle.cedar_tokens.specs.declared.token.Span.{Span}
 use Rattle.cedar_grammar.specs.declared.kind.Kind.{Kind}
@@ -11,7 +12,7 @@ use Rattle.cedar_grammar.specs.declared.kind.Kind.TheVariants as K
 use Rattle.cedar_grammar.specs.Trees.{Label, leaf, branch, none, join}
 use Rattle.cedar_grammar.specs.TypedTrees.{Tree, parts, primary, inits, inits_one, inits_more, literal_label, literal, slot, reference, named, parens, list_empty, list_of, record_empty, record_of}
 use Rattle.cedar_layout.specs.Lookups.{Shown}
-use Rattle.cedar_tree.specs.Erased.{Erased, node, variant, expr_parts, or_parts, primary_parts, ref_tree, name_tree, variant_label, literal_text, slot_text}
+use Rattle.cedar_tree.specs.Erased.{Erased, node, variant, expr_parts, primary_parts, ref_tree, name_tree, variant_label, literal_text, slot_text}
 use Rattle.cedar_tree.specs.NodeLists.{init_parts, item_trees}
 use Rattle.cedar_tree.specs.NodeTrees.{is_node, span_of}
 use Rattle.cedar_tree.specs.declared.tree.Node.{Node}
@@ -24,17 +25,11 @@ use Rattle.cedar_tree.specs.declared.tree.RecInit as RecInit
 use Rattle.cedar_tree.specs.declared.tree.Or as Or
 use Rattle.cedar_tree.specs.declared.tree.Expr as Expr
 use Rattle.cedar_tree.proofs.Views.{view_list, view_record}
-use Rattle.cedar_document_rows.specs.Found.{Finds, has_its_tokens, has_own}
-use Rattle.cedar_document_rows.specs.declared.made.NoDocument.{NoDocument}
+use Rattle.cedar_document_rows.specs.Found.{Finds, has_its_tokens}
+use Rattle.cedar_document_rows.specs.declared.written.NoDocument.{NoDocument}
 use Rattle.cedar_document_rows.specs.NodeDocuments.{nodes_of, text_of, kind_of_shown}
-use Rattle.cedar_document_rows.proofs.Opened.{starts_here, in_turn, GivesIf, Always}
-
--- ---- brackets
-
--- a bracket, what is inside, and a bracket, put together in any way
-pub in_brackets : {V W X Y : Type 0} {a u : V} {b v : W} {c w : X} {o m n p : List Shown} (F : V → W → X → Y) (l : Shown) (ts : List Shown) (r : Shown)
-    → GivesIf Always a u o m (l ∷ []) → GivesIf Always b v m n ts → GivesIf Always c w n p (r ∷ []) → GivesIf Always (F a b c) (F u v w) o p (l ∷ (ts ++ (r ∷ [])))
-in_brackets {W = W} {X = X} F l ts r h k q = in_turn (λ x (y : W × X). F x y.0 y.1) Always Always (l ∷ []) (ts ++ (r ∷ [])) h (λ b t. tt) (in_turn {X = W × X} (λ x y. (x, y)) Always Always ts (r ∷ []) k (λ b t. tt) q)
+use Rattle.cedar_document_rows.proofs.Found.{and_one, has_closed}
+use Rattle.cedar_document_rows.proofs.Opened.{starts_here}
 
 -- ---- lists of no items
 
@@ -47,24 +42,20 @@ some_inits [] (inits_one x) e q = cc
 some_inits [] (inits_more x c r) e q = cc
 some_inits (n ∷ ns) t e q = cc
 
-is_false : (b : Bool) → (b ≡ true → ⊥) → IsFalse b
-is_false true e = absurd (e refl)
-is_false false e = refl
+is_zero : (0 == 0) ≡ true
+is_zero = grind (arith, nat_tests)
 
-pub tests_empty : {X : Type 0} (xs : List X) (n : ℕ) (b : Bool) → n ≡ length xs → b ≡ nat_eq n 0 → xs ≡ [] → IsTrue b
-tests_empty [] n b h e q = e ∙ ap (λ m. nat_eq m 0) h
-tests_empty (x ∷ xs) n b h e q = absurd cc
+not_zero : (n : ℕ) → (suc n == 0) ≡ false
+not_zero n = grind (arith, nat_tests)
 
-pub tests_full : {X : Type 0} (xs : List X) (n : ℕ) (b : Bool) → n ≡ length xs → b ≡ nat_eq n 0 → (xs ≡ [] → ⊥) → IsFalse b
-tests_full [] n b h e q = absurd (q refl)
-tests_full (x ∷ xs) n b h e q = is_false b (λ t. let k : n ≡ 0 = eqb-true n 0 (sym e ∙ t) in absurd (omega arith))
+-- what a test tells
+pub tests_empty : {X : Type 0} (xs : List X) (b : Bool) → b ≡ (length xs == 0) → b ≡ true → xs ≡ []
+tests_empty [] b e h = refl
+tests_empty (x ∷ xs) b e h = absurd (false≢true (sym (not_zero (length xs)) ∙ sym e ∙ h))
 
--- the choice that such a test makes
-pub if_so : {A : Type 0} {b : Bool} (x y : A) → b ≡ true → (if b then x else y) ≡ x
-if_so x y h = ap (λ z. if z then x else y) h
-
-pub if_not : {A : Type 0} {b : Bool} (x y : A) → b ≡ false → (if b then x else y) ≡ y
-if_not x y h = ap (λ z. if z then x else y) h
+pub tests_full : {X : Type 0} (xs : List X) (b : Bool) → b ≡ (length xs == 0) → b ≡ false → xs ≡ [] → ⊥
+tests_full [] b e h q = false≢true (sym h ∙ e ∙ is_zero)
+tests_full (x ∷ xs) b e h q = cc
 
 -- ---- literals
 
@@ -204,40 +195,14 @@ module _ (p : Primary.Primary) (t : Tree Shown primary) (e : primary_parts p ≡
   seen_record v ns h k = ap (λ ms. variant Label.fields (leaf (codes "{") (join (item_trees Label.rec_init init_parts ms) (leaf (codes "}") none))) none) k ∙ sym (view_record v) ∙ sym (ap primary_parts h) ∙ e
 
 -- what is found of items between brackets is found of the items
-last_true : (b : Bool) → (b && true) ≡ b
-last_true true = refl
-last_true false = refl
-
-pub closed_has : (places : List Span) (X : Erased) (s : List ℕ) → has_its_tokens places (join X (leaf s none)) ≡ has_its_tokens places X
-closed_has places none s = refl
-closed_has places (leaf t f) s = closed_has places f s
-closed_has places (branch l f g) s = ap (λ b. has_own places l.0 l.1 f && (has_its_tokens places f && b)) (closed_has places g s)
-
 pub list_found : {D : Type 0} (r : Result D NoDocument) (places : List Span) (p : Primary.Primary) (v : Vec (Node Expr.Expr) Global) (ns : List (Node Expr.Expr)) → p ≡ Primary.EList v → ns ≡ v.items → Finds r (has_its_tokens places (item_trees Label.expr expr_parts ns)) → Finds r (has_its_tokens places (primary_parts p))
 list_found r places p v ns h k f =
-    let e : has_its_tokens places (primary_parts p) ≡ has_its_tokens places (item_trees Label.expr expr_parts ns) = ap (λ q. has_its_tokens places (primary_parts q)) h ∙ ap (λ X. has_its_tokens places X) (view_list v) ∙ last_true _
-    ∙ closed_has places (item_trees Label.expr expr_parts v.items) (codes "]") ∙ ap (λ ms. has_its_tokens places (item_trees Label.expr expr_parts ms)) (sym k) in
+    let e : has_its_tokens places (primary_parts p) ≡ has_its_tokens places (item_trees Label.expr expr_parts ns) = ap (λ q. has_its_tokens places (primary_parts q)) h ∙ ap (λ X. has_its_tokens places X) (view_list v) ∙ and_one _
+    ∙ has_closed places (codes "]") (item_trees Label.expr expr_parts v.items) ∙ ap (λ ms. has_its_tokens places (item_trees Label.expr expr_parts ms)) (sym k) in
     subst (λ b. Finds r b) (sym e) f
 
 pub record_found : {D : Type 0} (r : Result D NoDocument) (places : List Span) (p : Primary.Primary) (v : Vec (Node RecInit.RecInit) Global) (ns : List (Node RecInit.RecInit)) → p ≡ Primary.RInits v → ns ≡ v.items → Finds r (has_its_tokens places (item_trees Label.rec_init init_parts ns)) → Finds r (has_its_tokens places (primary_parts p))
 record_found r places p v ns h k f =
-    let e : has_its_tokens places (primary_parts p) ≡ has_its_tokens places (item_trees Label.rec_init init_parts ns) = ap (λ q. has_its_tokens places (primary_parts q)) h ∙ ap (λ X. has_its_tokens places X) (view_record v) ∙ last_true _
-    ∙ closed_has places (item_trees Label.rec_init init_parts v.items) (codes "}") ∙ ap (λ ms. has_its_tokens places (item_trees Label.rec_init init_parts ms)) (sym k) in
+    let e : has_its_tokens places (primary_parts p) ≡ has_its_tokens places (item_trees Label.rec_init init_parts ns) = ap (λ q. has_its_tokens places (primary_parts q)) h ∙ ap (λ X. has_its_tokens places X) (view_record v) ∙ and_one _
+    ∙ has_closed places (codes "}") (item_trees Label.rec_init init_parts v.items) ∙ ap (λ ms. has_its_tokens places (item_trees Label.rec_init init_parts ms)) (sym k) in
     subst (λ b. Finds r b) (sym e) f
-
--- ---- expressions
-
-view_plain : (b : Box (Node Or.Or) Global) → expr_parts (Expr.Or b) ≡ node Label.or b.value.span (or_parts b.value.inner) none
-view_plain b = search (rules, Or.the_lemmas)
-
-pub seen_plain : (x : Expr.Expr) (F : Erased) → expr_parts x ≡ F → (b : Box (Node Or.Or) Global) → x ≡ Expr.Or b → node Label.or b.value.span (or_parts b.value.inner) none ≡ F
-seen_plain x F e b h = sym (view_plain b) ∙ sym (ap expr_parts h) ∙ e
-
-view_if : (a b c : Box (Node Expr.Expr) Global) → expr_parts (Expr.If a b c)
-    ≡ leaf (codes "if") (node Label.expr a.value.span (expr_parts a.value.inner) (leaf (codes "then") (node Label.expr b.value.span (expr_parts b.value.inner) (leaf (codes "else") (node Label.expr c.value.span (expr_parts c.value.inner) none)))))
-view_if a b c = search (rules, Or.the_lemmas)
-
--- the parts of an `if`, where its boxes hold these nodes
-pub seen_if : (x : Expr.Expr) (a b c : Box (Node Expr.Expr) Global) (l m n : Node Expr.Expr) → x ≡ Expr.If a b c → l ≡ a.value → m ≡ b.value → n ≡ c.value
-    → leaf (codes "if") (node Label.expr l.span (expr_parts l.inner) (leaf (codes "then") (node Label.expr m.span (expr_parts m.inner) (leaf (codes "else") (node Label.expr n.span (expr_parts n.inner) none))))) ≡ expr_parts x
-seen_if x a b c l m n h p q r = rw (p, q, r) (sym (view_if a b c) ∙ sym (ap expr_parts h))

@@ -1,21 +1,21 @@
 -- Signs: the tokens between a span's start and a member's, and their documents.
-use Rattle.std.proofs.Common.{◌≡◌, ◌≢◌, ℕ, ℤ, zero, suc, Option, Some, None, ◌+◌, ◌<◌, ◌≤◌, List, [], ◌∷◌, ◌++◌, map, length, take, get_or, true, false, refl, sym, ap, ◌∙◌, subst, arith}
-use Rattle.std.specs.Prelude.{Bool, IsTrue, IsFalse, Result, Ok, Err, IfOk, codes, if◌then◌else◌, ◌==◌, ◌&&◌, ◌||◌}
+use Rattle.std.proofs.Common.{◌≡◌, ◌≢◌, ℕ, ℤ, zero, suc, Option, Some, None, ◌+◌, ◌<◌, ◌≤◌, List, [], ◌∷◌, ◌++◌, map, length, drop, get_or, true, false, refl, sym, ap, ◌∙◌, subst, arith}
+use Rattle.std.specs.Prelude.{Bool, IsTrue, IsFalse, Result, OnOk, codes, if◌then◌else◌, ◌==◌, ◌&&◌, ◌||◌}
 use Rattle.std.specs.List.{AllByRecursion, filter}
 use Rattle.std.proofs.lemmas.Bool.{false≢true}
 use Rattle.std.proofs.lemmas.Bool.Decides.{nat_tests}
-use Rattle.std.proofs.lemmas.List.{append_assoc, append-nil, length-map, map-append, take_more}
+use Rattle.std.proofs.lemmas.List.{append_assoc, append-nil, at_drop_more, length-map, map-append}
 use Rattle.std.proofs.Math.Bool.{and-true, or-true}
 use Rattle.cedar_tokens.specs.Places.{InOrderFrom}
 use Rattle.cedar_tokens.specs.declared.token.Comment.{Comment}
 use Rattle.cedar_tokens.specs.declared.token.Span.{Span}
 use Rattle.cedar_tokens.specs.declared.token.WrappedToken.{WrappedToken}
 use Rattle.cedar_layout.specs.Comments.{lead_of, trail_of}
-use Rattle.cedar_layout.specs.Layout.{Doc, nil, text, ◌·◌}
-use Rattle.cedar_layout.specs.Lookups.{AreInOrder, Shown, Parts, shown, emptied, stands_in, comments_in, emptied_in, comment_parts}
-use Rattle.cedar_layout.specs.Value.{doc_of, docs_of}
-use Rattle.cedar_layout.specs.declared.layout.Document.{Document}
-use Rattle.cedar_layout.proofs.Values.{dot_assoc, dot-nil, docs_of-push}
+use Rattle.cedar_layout.specs.Layout.{nil, text, ◌·◌}
+use Rattle.cedar_layout.specs.Lookups.{AreInOrder, Shown, shown, emptied, stands_in, comments_in, emptied_in, comment_parts}
+use Rattle.cedar_layout.proofs.Values.{dot_assoc}
+use Rattle.cedar_sheet.specs.Marks.{Sign, written}
+use Rattle.cedar_sheet.proofs.Written.{written-dot}
 use Rattle.cedar_tokens.specs.Listing.{token_value}
 use Rattle.cedar_grammar.specs.Trees.{Label, none}
 use Rattle.cedar_grammar.specs.TypedTrees.{Tree, unary, unsigned, signed, parts, tree_yield}
@@ -29,8 +29,9 @@ use Rattle.cedar_tree.specs.declared.tree.Expr.TheBlock.{items_shown-the_row-Mem
 use Rattle.cedar_tree.proofs.Views.{access_row}
 use Rattle.cedar_document_rows.specs.Found.{count_between, has_its_tokens, has_own, signs_before, start_of_node}
 use Rattle.cedar_document_rows.specs.Found as found
-use Rattle.cedar_document_rows.specs.NodeDocuments.{IsAt, IsNodeOf, text_of, kind_of_shown, document}
+use Rattle.cedar_document_rows.specs.NodeDocuments.{IsAt, IsNodeOf, Writes, text_of, kind_of_shown, document}
 use Rattle.cedar_document_expressions.specs.Inside.Signs.{sign_text, sign_count, signs_of, signs_in, member_in}
+use Rattle.cedar_document_rows.proofs.InTurn.{on_ok}
 use Rattle.cedar_document_rows.proofs.LookedUp.{places, shown_order, starts_late}
 use Rattle.cedar_document_rows.proofs.Opened.{opened_tree, opened_token, starts_here}
 
@@ -170,21 +171,14 @@ member_needs ps (Some (NegOp.Dash n)) s p = signs_or_rest ps Label.dash n (codes
 
 -- ---- the documents
 
-signs_of-push : (sign : List ℕ) (ps : List Parts) (p : Parts) → signs_of sign (ps ++ p ∷ []) ≡ signs_of sign ps · lead_of p.leading · text sign · trail_of p.trailing nil
-signs_of-push sign [] p = dot-nil (lead_of p.leading · text sign · trail_of p.trailing nil)
-signs_of-push sign (q ∷ ps) p =
-    let d = lead_of q.leading · text sign · trail_of q.trailing nil in
-    ap (λ z. d · z) (signs_of-push sign ps p) ∙ sym (dot_assoc d (signs_of sign ps) (lead_of p.leading · text sign · trail_of p.trailing nil))
-
 -- a sign more
-pub sign_step : (sign : List ℕ) (old new : List Document) (comments : List Comment) (i : ℕ) (c : Comment) (d : Document) → i < length comments → new ≡ old ++ d ∷ []
-    → doc_of d ≡ lead_of (comment_parts (get_or comments i c)).leading · text sign · trail_of (comment_parts (get_or comments i c)).trailing nil
-    → docs_of old ≡ signs_of sign (map comment_parts (take i comments)) → docs_of new ≡ signs_of sign (map comment_parts (take (i + 1) comments))
-sign_step sign old new comments i c d l e f h =
-    let x = get_or comments i c in
-    let more : map comment_parts (take (i + 1) comments) ≡ map comment_parts (take i comments) ++ comment_parts x ∷ [] = ap (map comment_parts) (take_more comments i c l) ∙ map-append comment_parts (take i comments) (x ∷ []) in
-    ap docs_of e ∙ docs_of-push old d ∙ ap (λ z. z · doc_of d) h ∙ ap (λ z. signs_of sign (map comment_parts (take i comments)) · z) f
-    ∙ sym (ap (signs_of sign) more ∙ signs_of-push sign (map comment_parts (take i comments)) (comment_parts x))
+pub sign_step : (sign : List ℕ) (whole sheet more : List Sign) (comments : List Comment) (i : ℕ) (c : Comment) → i < length comments → c ≡ get_or comments i c → more ≡ written sheet (lead_of (comment_parts c).leading · text sign · trail_of (comment_parts c).trailing nil)
+    → written sheet (signs_of sign (map comment_parts (drop i comments))) ≡ whole → written more (signs_of sign (map comment_parts (drop (i + 1) comments))) ≡ whole
+sign_step sign whole sheet more comments i c l e f h =
+    let d = lead_of (comment_parts c).leading · text sign · trail_of (comment_parts c).trailing nil in
+    let left = map comment_parts (drop (i + 1) comments) in
+    ap (λ z. written z (signs_of sign left)) f ∙ sym (written-dot sheet d (signs_of sign left)) ∙ ap (λ z. written sheet (signs_of sign (map comment_parts (z ∷ drop (i + 1) comments)))) e
+    ∙ sym (at_drop_more (λ z. written sheet (signs_of sign (map comment_parts z))) comments i c l) ∙ h
 
 -- ---- signs and their member
 
@@ -233,38 +227,35 @@ document_signs i sign (signed s u) h =
     let d = λ (w : List ℕ). lead_of s.comment.leading · text w · trail_of s.comment.trailing nil in
     dot_assoc (d sign) (signs_of sign (map (λ (t : Shown). t.comment) (signs_in u))) (document i (member_in u)) ∙ ap (λ z. d sign · z) (document_signs i sign u h.1) ∙ ap (λ w. d w · document i u) h.0
 
--- a made document with other facts
-if_ok : {E : Type 0} {P Q : Document → Type 0} (m : Result Document E) → ((d : Document) → P d → Q d) → IfOk m P → IfOk m Q
-if_ok (Err e) f h = tt
-if_ok (Ok d) f h = f d h
-
 -- no signs
-pub no_signs : (i : ℤ) (u : Tree Shown unary) (s : Span) (p : Erased) (d : Document) → doc_of d ≡ nil → IsNodeOf (sign_leaves None (node Label.member s p none)) u → (tokens before after : List Shown) → tokens ≡ before ++ (tree_yield u ++ after)
-    → (doc_of d · document i (member_in u) ≡ document i u) × (tokens ≡ (before ++ map emptied (signs_in u)) ++ (tree_yield (member_in u) ++ after))
-no_signs i (unsigned m) s p d n e tokens before after h = (ap (λ z. z · document i m) n, h ∙ ap (λ z. z ++ (tree_yield m ++ after)) (sym (append-nil before)))
-no_signs i (signed x u) s p d n e tokens before after h = absurd cc
+pub no_signs : (i : ℤ) (u : Tree Shown unary) (s : Span) (p : Erased) (sheet : List Sign) → IsNodeOf (sign_leaves None (node Label.member s p none)) u → (tokens before after : List Shown) → tokens ≡ before ++ (tree_yield u ++ after)
+    → (written sheet (document i (member_in u)) ≡ written sheet (document i u)) × (tokens ≡ (before ++ map emptied (signs_in u)) ++ (tree_yield (member_in u) ++ after))
+no_signs i (unsigned m) s p sheet e tokens before after h = (refl, h ∙ ap (λ z. z ++ (tree_yield m ++ after)) (sym (append-nil before)))
+no_signs i (signed x u) s p sheet e tokens before after h = absurd cc
 
 -- signs whose comments are handed out together
-pub some_signs : {E : Type 0} (m : Result Document E) (op : NegOp) (span member : Span) (old new : List Shown)
+pub some_signs : {U E : Type 0} (r : Result U E) (op : NegOp) (span member : Span) (sheet more : List Sign) (old new : List Shown)
     → ((s : Shown) (ss : List Shown) (x : Shown) (before after : List Shown) → 0 < sign_count op → s.span.start ≡ span.start → x.span.start ≡ member.start → old ≡ before ++ ((s ∷ ss) ++ (x ∷ after))
-    → IfOk m (λ d. (doc_of d ≡ signs_of (sign_text op) (map (λ t. t.comment) (s ∷ ss))) × (new ≡ (before ++ map emptied (s ∷ ss)) ++ (x ∷ after))))
+    → OnOk r ((more ≡ written sheet (signs_of (sign_text op) (map (λ t. t.comment) (s ∷ ss)))) × (new ≡ (before ++ map emptied (s ∷ ss)) ++ (x ∷ after))))
     → (i : ℤ) (u : Tree Shown unary) (inner : Erased) → IsAt span (tree_yield u) → IsNodeOf (sign_leaves (Some op) (node Label.member member inner none)) u → (before after : List Shown) → old ≡ before ++ (tree_yield u ++ after)
-    → IfOk m (λ d. (doc_of d · document i (member_in u) ≡ document i u) × (new ≡ (before ++ map emptied (signs_in u)) ++ (tree_yield (member_in u) ++ after)))
-some_signs m op span member old new h i u inner at e before after st =
+    → OnOk r ((written more (document i (member_in u)) ≡ written sheet (document i u)) × (new ≡ (before ++ map emptied (signs_in u)) ++ (tree_yield (member_in u) ++ after)))
+some_signs r op span member sheet more old new h i u inner at e before after st =
     let o = opened_operator op member inner u e in
     go (signs_in u) (tree_yield (member_in u)) refl refl (omega (arith, o.0, o.1.count)) (o.1.is_at) (subst (λ z. IsAt span z) (yield_in u) at) (st ∙ ap (λ z. before ++ (z ++ after)) (yield_in u))
   where
     go : (ss ms : List Shown) → ss ≡ signs_in u → ms ≡ tree_yield (member_in u) → 0 < length ss → IsAt member ms → IsAt span (ss ++ ms) → old ≡ before ++ ((ss ++ ms) ++ after)
-        → IfOk m (λ d. (doc_of d · document i (member_in u) ≡ document i u) × (new ≡ (before ++ map emptied (signs_in u)) ++ (tree_yield (member_in u) ++ after)))
+        → OnOk r ((written more (document i (member_in u)) ≡ written sheet (document i u)) × (new ≡ (before ++ map emptied (signs_in u)) ++ (tree_yield (member_in u) ++ after)))
     go [] ms se me n am starts st' = absurd (omega (arith, n))
     go (s ∷ ss) [] se me n am starts st' = absurd cc
     go (s ∷ ss) (x ∷ ms) se me n am starts st' =
         let o = opened_operator op member inner u e in
-        if_ok m (λ d r. (
-          ap (λ z. z · document i (member_in u)) (r.0 ∙ ap (λ z. signs_of (sign_text op) (map (λ (t : Shown). t.comment) z)) se) ∙ document_signs i (sign_text op) u o.1.texts,
-          r.1 ∙ ap (λ z. (before ++ map emptied z) ++ (x ∷ (ms ++ after))) se ∙ ap (λ z. (before ++ map emptied (signs_in u)) ++ (z ++ after)) me,
+        let d = document i (member_in u) in
+        on_ok r (h s ss x before (ms ++ after) o.0 (starts_here span s (ss ++ (x ∷ ms)) starts) (starts_here member x ms am) (st' ∙ ap (λ z. before ++ z) (append_assoc (s ∷ ss) (x ∷ ms) after))) (λ q. (
+          ap (λ z. written z d) (q.0 ∙ ap (λ z. written sheet (signs_of (sign_text op) (map (λ (t : Shown). t.comment) z))) se)
+              ∙ sym (written-dot sheet (signs_of (sign_text op) (map (λ (t : Shown). t.comment) (signs_in u))) d)
+              ∙ ap (written sheet) (document_signs i (sign_text op) u o.1.texts),
+          q.1 ∙ ap (λ z. (before ++ map emptied z) ++ (x ∷ (ms ++ after))) se ∙ ap (λ z. (before ++ map emptied (signs_in u)) ++ (z ++ after)) me,
         ))
-        (h s ss x before (ms ++ after) o.0 (starts_here span s (ss ++ (x ∷ ms)) starts) (starts_here member x ms am) (st' ∙ ap (λ z. before ++ z) (append_assoc (s ∷ ss) (x ∷ ms) after)))
 
 -- a unary seen as its signs and its member
 pub view_of_unary : (u : Unary.Unary) → unary_parts u ≡ sign_leaves (out-Unary u).op (node Label.member (out-Unary u).item.span (member_parts (out-Unary u).item.inner) none)
@@ -280,11 +271,16 @@ unary_needs ps span u =
     let f = sign_leaves v.op (node Label.member v.item.span (member_parts v.item.inner) none) in
     ap (λ z. has_own ps Label.unary (Some span) z && has_its_tokens ps z) (view_of_unary u) ∙ ap (λ z. has_own ps Label.unary (Some span) f && z) (member_needs ps v.op v.item.span (member_parts v.item.inner))
 
--- the document of signs and their member, made one after the other
-pub unary_shown : (i : ℤ) (t : Tree Shown unary) (before after mid new : List Shown) (sd md made : Doc) → sd · document i (member_in t) ≡ document i t → mid ≡ (before ++ map emptied (signs_in t)) ++ (tree_yield (member_in t) ++ after)
-    → ((b a : List Shown) → mid ≡ b ++ (tree_yield (member_in t) ++ a) → (md ≡ document i (member_in t)) × (new ≡ (b ++ map emptied (tree_yield (member_in t))) ++ a)) → made ≡ sd · md
-    → (made ≡ document i t) × (new ≡ (before ++ map emptied (tree_yield t)) ++ after)
-unary_shown i t before after mid new sd md made s m h e =
-    let r = h (before ++ map emptied (signs_in t)) after m in
-    let all : map emptied (signs_in t) ++ map emptied (tree_yield (member_in t)) ≡ map emptied (tree_yield t) = sym (map-append emptied (signs_in t) (tree_yield (member_in t))) ∙ ap (map emptied) (sym (yield_in t)) in
-    (e ∙ ap (λ z. sd · z) r.0 ∙ s, r.1 ∙ ap (λ z. z ++ after) (append_assoc before (map emptied (signs_in t)) (map emptied (tree_yield (member_in t))) ∙ ap (λ z. before ++ z) all))
+-- signs and then their member
+pub unary_written : {U E : Type 0} {r : Result U E} {old mid new : List WrappedToken} {s m t : List Sign} (i : ℤ) (u : Tree Shown unary)
+    → ((before after : List Shown) → map shown old ≡ before ++ (tree_yield u ++ after) → (written m (document i (member_in u)) ≡ written s (document i u)) × (map shown mid ≡ (before ++ map emptied (signs_in u)) ++ (tree_yield (member_in u) ++ after)))
+    → Writes r mid new m t (tree_yield (member_in u)) (document i (member_in u)) → Writes r old new s t (tree_yield u) (document i u)
+unary_written {r = r} i u f h = record {
+  among = λ before after p st.
+      let a = f before after st in
+      let all : map emptied (signs_in u) ++ map emptied (tree_yield (member_in u)) ≡ map emptied (tree_yield u) = sym (map-append emptied (signs_in u) (tree_yield (member_in u))) ∙ ap (map emptied) (sym (yield_in u)) in
+      on_ok r (h.among (before ++ map emptied (signs_in u)) after tt a.1) (λ b. (
+        b.0 ∙ a.0,
+        b.1 ∙ ap (λ z. z ++ after) (append_assoc before (map emptied (signs_in u)) (map emptied (tree_yield (member_in u))) ∙ ap (λ z. before ++ z) all),
+      ));
+}

@@ -1,4 +1,3 @@
 -- What only contracts below the formatter's own calls cite.
 pub mod Signs
 pub mod Breaks
-pub mod Operands

@@ -1,38 +1,37 @@
 //! Fields and indices, and where accesses break.
-#![tactic(auto, using(cedar_document_rows::proofs::Keeping::keeping))]
+#![tactic(auto, using(cedar_document_rows::proofs::Keeping::keeping, cedar_sheet::proofs::Written::written_laws))]
 
-ghost use Rattle.std.specs.Prelude.{◌≡◌, ℤ, ◌<◌, Some, codes, IfOk};
+ghost use Rattle.std.specs.Prelude.{◌≡◌, ℤ, Some, codes, OnOk};
 ghost use Rattle.cedar_grammar.specs.Trees.{Label, branch, leaf, none};
 ghost use Rattle.cedar_grammar.specs.TypedTrees.{Tree, tree_yield};
 ghost use Rattle.cedar_grammar.specs.TypedTrees as kind;
 ghost use Rattle.cedar_tree.specs.Erased.{ident_tree, str_tree};
-ghost use Rattle.cedar_layout.specs.Layout.{◌·◌};
-ghost use Rattle.cedar_layout.specs.Value.{docs_of};
 ghost use Rattle.cedar_layout.specs.Lookups.{AreInOrder, Shown};
+ghost use Rattle.cedar_sheet.specs.Marks.{written};
 ghost use Rattle.cedar_document_expressions.specs.Inside.Breaks.{break_if, breaks, form_before, form_of};
 ghost use Rattle.cedar_document_rows.specs.Found.{Finds, places, starts};
 ghost use Rattle.cedar_document_rows.specs.Kept.{KeepsTokens};
-ghost use Rattle.cedar_document_rows.specs.NodeDocuments.{IsNodeOf, Shows, document};
+ghost use Rattle.cedar_document_rows.specs.NodeDocuments.{IsNodeOf, Writes, document};
 
-use cedar_document_rows::made::Made;
-use cedar_document_rows::names::leaf_doc;
-use cedar_document_rows::tokens::{mark_at_end, mark_at_start};
-use cedar_layout::layout::Document;
+use cedar_document_rows::names::write_leaf;
+use cedar_document_rows::tokens::{token_at_end, token_at_start};
+use cedar_document_rows::written::Written;
+use cedar_sheet::comments::Next;
+use cedar_sheet::sheet::Sheet;
 use cedar_tokens::token::{Span, WrappedToken};
 use cedar_tree::tree::{Ident, MemAccess, Node, Str};
-use std::alloc::{AllocError, Global};
+use std::alloc::AllocError;
 
 // A place to break before this access, if there is one between the access before and it.
-#[inline(never)]
-pub(crate) fn push_break<'src>(
-    docs: &mut Vec<Document<'src>>,
+pub(crate) fn write_break<'src>(
+    sheet: &mut Sheet<'src>,
     before: Option<&MemAccess<'src>>,
     access: &MemAccess<'src>,
 ) -> Result<(), AllocError>
-    ensures { IfOk result (λ u. docs_of docs.new.items ≡ docs_of docs.old.items · break_if (breaks (form_before before.entry) (Some (form_of access.now)))) }
+    ensures { OnOk result (sheet.new ≡ written sheet.old (break_if (breaks (form_before before.entry) (Some (form_of access.now))))) }
 {
     if breaks_between(before, access) {
-        docs.push(Document::LineOrNil)?;
+        sheet.line_or_nil()?;
     }
     Ok(())
 }
@@ -49,38 +48,34 @@ fn breaks_between(before: Option<&MemAccess<'_>>, access: &MemAccess<'_>) -> boo
 }
 
 // C(".") . C(id)
-#[inline(never)]
-pub(crate) fn field_doc<'src>(
-    alloc: Global,
+pub(crate) fn write_field<'src>(
+    sheet: &mut Sheet<'src>,
     field: &Node<Ident<'src>>,
     span: Span,
     tokens: &mut [WrappedToken<'src>],
-) -> Made<'src>
+) -> Written
     requires { AreInOrder tokens.old }
     ensures kept { KeepsTokens tokens.old tokens.new }
     ensures found { Finds result (starts field.now.span.start (places tokens.old)) }
-    ensures shows { (i : ℤ) (t : Tree Shown kind.accesses) → IsNodeOf (branch (Label.access, Some span) (leaf (codes ".") (ident_tree field.now none)) none) t → Shows result tokens.old tokens.new (tree_yield t) (document i t) }
+    ensures writes { (i : ℤ) (t : Tree Shown kind.accesses) → IsNodeOf (branch (Label.access, Some span) (leaf (codes ".") (ident_tree field.now none)) none) t → Writes result tokens.old tokens.new sheet.old sheet.new (tree_yield t) (document i t) }
 {
-    let dot = mark_at_start(alloc, ".", span, Document::Nil, tokens)?;
-    let word = leaf_doc(alloc, field.inner.0, field.span, tokens)?;
-    Ok(Document::Seq(vec![in alloc; dot, word]?))
+    token_at_start(sheet, ".", span, Next::Nothing, tokens)?;
+    write_leaf(sheet, field.inner.0, field.span, tokens)
 }
 
 // C("[") . C(str) . C("]")
-#[inline(never)]
-pub(crate) fn index_doc<'src>(
-    alloc: Global,
+pub(crate) fn write_index<'src>(
+    sheet: &mut Sheet<'src>,
     index: &Node<Str<'src>>,
     span: Span,
     tokens: &mut [WrappedToken<'src>],
-) -> Made<'src>
+) -> Written
     requires { AreInOrder tokens.old }
     ensures kept { KeepsTokens tokens.old tokens.new }
     ensures found { Finds result (starts index.now.span.start (places tokens.old)) }
-    ensures shows { (i : ℤ) (t : Tree Shown kind.accesses) → IsNodeOf (branch (Label.access, Some span) (leaf (codes "[") (str_tree index.now (leaf (codes "]") none))) none) t → Shows result tokens.old tokens.new (tree_yield t) (document i t) }
+    ensures writes { (i : ℤ) (t : Tree Shown kind.accesses) → IsNodeOf (branch (Label.access, Some span) (leaf (codes "[") (str_tree index.now (leaf (codes "]") none))) none) t → Writes result tokens.old tokens.new sheet.old sheet.new (tree_yield t) (document i t) }
 {
-    let open = mark_at_start(alloc, "[", span, Document::Nil, tokens)?;
-    let text = leaf_doc(alloc, index.inner.0, index.span, tokens)?;
-    let close = mark_at_end(alloc, "]", span, Document::Nil, tokens)?;
-    Ok(Document::Seq(vec![in alloc; open, text, close]?))
+    token_at_start(sheet, "[", span, Next::Nothing, tokens)?;
+    write_leaf(sheet, index.inner.0, index.span, tokens)?;
+    Ok(token_at_end(sheet, "]", span, Next::Nothing, tokens)?)
 }

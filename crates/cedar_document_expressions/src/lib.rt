@@ -1,4 +1,4 @@
-//! The documents of expressions.
+//! Rows of the table for expressions, which write on a sheet.
 #![tactic(auto)]
 
 mod accesses;

@@ -10,8 +10,8 @@ use Rattle.cedar_grammar.specs.Trees.{none, leaf, branch, join}
 use Rattle.cedar_tree.specs.Erased.{Erased}
 use Rattle.cedar_document_rows.specs.Found.{Finds, Misses, has_its_tokens, has_own, places, starts}
 use Rattle.cedar_document_rows.specs.Kept.{KeepsTokens}
-use Rattle.cedar_document_rows.specs.declared.made.NoDocument.{NoDocument}
-use Rattle.cedar_document_rows.specs.declared.made.NoDocument.TheVariants.{NoToken, OutOfMemory}
+use Rattle.cedar_document_rows.specs.declared.written.NoDocument.{NoDocument}
+use Rattle.cedar_document_rows.specs.declared.written.NoDocument.TheVariants.{NoToken, OutOfMemory}
 use Rattle.cedar_document_rows.proofs.Keeping.{kept_bare}
 
 -- ---- the token that starts at a place
@@ -57,6 +57,10 @@ as_before has b old mid e h = ap has (sym (places_kept old mid e)) ∙ h
 pub finds_before : {D : Type 0} (has : List Span → Bool) (r : Result D NoDocument) (old mid : List WrappedToken) → KeepsTokens old mid → Finds r (has (places mid)) → Finds r (has (places old))
 finds_before has r old mid e h = subst (λ z. Finds r (has z)) (places_kept old mid e) h
 
+-- the same of the whole, which has its tokens where the last part has
+pub finds_last : {D : Type 0} (has : List Span → Bool) (r : Result D NoDocument) (old mid : List WrappedToken) (c : Bool) → KeepsTokens old mid → c ≡ has (places old) → Finds r (has (places mid)) → Finds r c
+finds_last has r old mid c k e h = subst (λ z. Finds r z) (sym e) (finds_before has r old mid k h)
+
 -- a token that a part inside misses is missed by the whole
 pub missed : {E : Type 0} (q : Result E NoDocument) (e : NoDocument) (b c : Bool) → IsErrAnd q (λ r. r ≡ e) → Misses e b → (b ≡ false → c ≡ false) → Finds q c
 missed (Ok d) e b c i h f = absurd i
@@ -69,6 +73,10 @@ and_false b c h = ap (λ z. z && c) h
 pub and_last : (b c : Bool) → c ≡ false → (b && c) ≡ false
 and_last true c h = h
 and_last false c h = refl
+
+pub and_one : (b : Bool) → (b && true) ≡ b
+and_one true = refl
+and_one false = refl
 
 pub and_true : (b c : Bool) → b ≡ true → (b && c) ≡ c
 and_true b c h = ap (λ z. z && c) h

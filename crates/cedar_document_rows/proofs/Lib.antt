@@ -1,8 +1,7 @@
 pub mod Keeping
 pub mod Found
-pub mod Flat
+pub mod InTurn
 pub mod LookedUp
-pub mod Marks
 pub mod Opened
 pub mod PathWords
-pub mod Put
+pub mod SingleTokens

@@ -1,7 +1,6 @@
--- What a node's tree tells of its parts, and documents made one after the other.
+-- What a node's tree tells of its parts.
 use Rattle.std.proofs.Common.{◌≡◌, ℕ, List, [], ◌∷◌, ◌++◌, map, true, Option, Some, None, refl, sym, ap, ◌∙◌, subst}
-use Rattle.std.specs.Prelude.{⊤, if◌then◌else◌}
-use Rattle.std.proofs.lemmas.List.{append_assoc, map-append}
+use Rattle.std.specs.Prelude.{if◌then◌else◌}
 use Rattle.cedar_tokens.specs.Listing.{token_value}
 use Rattle.cedar_tokens.specs.declared.token.Span.{Span}
 use Rattle.cedar_grammar.specs.Trees.{Label, Forest, leaf, branch}
@@ -11,12 +10,7 @@ use Rattle.cedar_grammar.proofs.TreeLaws.{typed_leaves, part_leaves}
 use Rattle.cedar_layout.specs.Lookups.{Shown, emptied}
 use Rattle.cedar_tree.specs.Erased.{Erased}
 use Rattle.cedar_tree.specs.NodeTrees.{is_node, span_of, end_of}
-use Rattle.cedar_layout.specs.Value.{doc_of}
-use Rattle.cedar_layout.proofs.Values.{doc_of_nil}
-use Rattle.cedar_layout.specs.declared.layout.Document.TheVariants.{Nil as Nil'}
-use Rattle.cedar_laws.specs.Table.{C}
-use Rattle.cedar_laws.specs.Table as table
-use Rattle.cedar_document_rows.specs.NodeDocuments.{as_leaf, nodes_of, text_of, kind_of_shown, end_of_tokens, IsAt}
+use Rattle.cedar_document_rows.specs.NodeDocuments.{nodes_of, text_of, kind_of_shown, end_of_tokens, IsAt}
 
 -- a node's parts, its span, and the trees behind it
 pub opened : (l : Label) (s : Span) (p r : Erased) (f g : Forest Label Shown) → is_node l ≡ true → branch (l, Some s) p r ≡ nodes_of (branch l f g) → (p ≡ nodes_of f) × (IsAt s (forest.yield f)) × (r ≡ nodes_of g)
@@ -74,36 +68,3 @@ ends_here s [] e b = absurd cc
 ends_here s (t ∷ ts) e b =
     let h : end_of text_of (λ t. t.span) t.span ts ≡ s.end = cc in
     last_end s (emptied t) b (map emptied ts) (end_without_comments t.span ts ∙ h)
-
--- ---- one after the other
-
--- the tokens ts give the value v, which is d, and have no comments afterwards
-abbrev pub GivesIf : {V : Type 0} → (List Shown → Type 0) → V → V → List Shown → List Shown → List Shown → Type 0
-GivesIf P v d old new ts = (before after : List Shown) → P before → old ≡ before ++ (ts ++ after) → (v ≡ d) × (new ≡ (before ++ map emptied ts) ++ after)
-
-abbrev pub Always : List Shown → Type 0
-Always b = ⊤
-
-abbrev pub Behind : Span → List Shown → Type 0
-Behind s b = end_of_tokens b ≡ s.end
-
-ap2 : {V W X : Type 0} (F : V → W → X) (v d : V) (w e : W) → v ≡ d → w ≡ e → F v w ≡ F d e
-ap2 F v d w e h k = ap (λ z. F z w) h ∙ ap (F d) k
-
-pub in_turn : {V W X : Type 0} {v d : V} {w e : W} {old mid new : List Shown} (F : V → W → X) (P Q : List Shown → Type 0) (xs ys : List Shown) → GivesIf P v d old mid xs → ((b : List Shown) → P b → Q (b ++ map emptied xs))
-    → GivesIf Q w e mid new ys → GivesIf P (F v w) (F d e) old new (xs ++ ys)
-in_turn {v = v} {d = d} {w = w} {e = e} F P Q xs ys h t k before after p s =
-    let r = h before (ys ++ after) p (s ∙ ap (λ z. before ++ z) (append_assoc xs ys after)) in
-    let q = k (before ++ map emptied xs) after (t before p) r.1 in
-    (ap2 F v d w e r.0 q.0, q.1 ∙ ap (λ z. z ++ after) (append_assoc before (map emptied xs) (map emptied ys) ∙ ap (λ z. before ++ z) (sym (map-append emptied xs ys))))
-
-pub freely : {V : Type 0} {v d : V} {old new : List Shown} (ts : List Shown) → ((before after : List Shown) → old ≡ before ++ (ts ++ after) → (v ≡ d) × (new ≡ (before ++ map emptied ts) ++ after)) → GivesIf Always v d old new ts
-freely ts h before after p s = h before after s
-
--- the same document, written otherwise
-pub rewritten : {V : Type 0} {P : List Shown → Type 0} {v d e : V} {old new : List Shown} (ts : List Shown) → d ≡ e → GivesIf P v d old new ts → GivesIf P v e old new ts
-rewritten ts q h before after p s = let r = h before after p s in (r.0 ∙ q, r.1)
-
--- where a token has no trailing text, nothing stands behind it
-pub nothing_behind : (x : Shown) → C (as_leaf x) (doc_of Nil') ≡ table.printed (as_leaf x)
-nothing_behind x = ap (C (as_leaf x)) doc_of_nil

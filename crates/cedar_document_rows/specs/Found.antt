@@ -5,8 +5,8 @@ use Rattle.cedar_tokens.specs.declared.token.Span.{Span}
 use Rattle.cedar_tokens.specs.declared.token.WrappedToken.{WrappedToken}
 use Rattle.cedar_grammar.specs.Trees.{Label, none, leaf, branch}
 use Rattle.cedar_tree.specs.Erased.{Erased}
-use Rattle.cedar_document_rows.specs.declared.made.NoDocument.{NoDocument}
-use Rattle.cedar_document_rows.specs.declared.made.NoDocument.TheVariants.{NoToken, OutOfMemory}
+use Rattle.cedar_document_rows.specs.declared.written.NoDocument.{NoDocument}
+use Rattle.cedar_document_rows.specs.declared.written.NoDocument.TheVariants.{NoToken, OutOfMemory}
 
 -- where the tokens stand
 abbrev pub places : List WrappedToken → List Span

@@ -1,6 +1,6 @@
 -- The document of a node among the tokens of a context, and what making it does to them.
-use Rattle.std.specs.Prelude.{◌≡◌, ℕ, ℤ, List, [], ◌∷◌, ◌++◌, map, Some, Result, IfOk, OnOk}
-use Rattle.cedar_tokens.specs.Listing.{Decorated, token_value}
+use Rattle.std.specs.Prelude.{◌≡◌, ℕ, ℤ, List, [], ◌∷◌, ◌++◌, map, Some, Result, OnOk, ⊤}
+use Rattle.cedar_tokens.specs.Listing.{Decorated}
 use Rattle.cedar_tokens.specs.Tokens.{token_text}
 use Rattle.cedar_tokens.specs.declared.token.Span.{Span}
 use Rattle.cedar_tokens.specs.declared.token.WrappedToken.{WrappedToken}
@@ -8,10 +8,9 @@ use Rattle.cedar_grammar.specs.TokenKinds.{kind_of}
 use Rattle.cedar_grammar.specs.Trees.{Label, Forest}
 use Rattle.cedar_grammar.specs.TypedTrees.{NodeKind, Tree, parts, tree_map}
 use Rattle.cedar_grammar.specs.declared.kind.Kind.{Kind}
-use Rattle.cedar_layout.specs.Layout.{Doc, ◌·◌}
+use Rattle.cedar_layout.specs.Layout.{Doc}
 use Rattle.cedar_layout.specs.Lookups.{Shown, shown, emptied}
-use Rattle.cedar_layout.specs.Value.{doc_of, docs_of}
-use Rattle.cedar_layout.specs.declared.layout.Document.{Document}
+use Rattle.cedar_sheet.specs.Marks.{Sign, written}
 use Rattle.cedar_tree.specs.Erased.{Erased}
 use Rattle.cedar_tree.specs.NodeTrees.{spanned, span_of}
 use Rattle.cedar_laws.specs.Table.{table}
@@ -49,22 +48,21 @@ end_of_tokens (t ∷ (u ∷ us)) = end_of_tokens (u ∷ us)
 abbrev pub IsAt : Span → List Shown → Type 0
 IsAt span ts = span_of text_of (λ t. t.span) ts ≡ Some span
 
--- the tokens ts stand among the others and are shown in the document, if it is made; then they have no comments, and nothing else has changed
-abbrev pub Shows : {E : Type 0} → Result Document E → List WrappedToken → List WrappedToken → List Shown → Doc → Type 0
-Shows result old new ts doc = (before after : List Shown) → map shown old ≡ before ++ (ts ++ after)
-    → IfOk result (λ d. (doc_of d ≡ doc) × (map shown new ≡ (before ++ map emptied ts) ++ after))
+-- anywhere; right behind this place, where the tokens before end
+abbrev pub Anywhere : List Shown → Type 0
+Anywhere before = ⊤
 
--- the same of tokens right behind this place, where the tokens before them end
-abbrev pub ShowsBehind : {E : Type 0} → ℕ → Result Document E → List WrappedToken → List WrappedToken → List Shown → Doc → Type 0
-ShowsBehind place result old new ts doc = (before after : List Shown) → end_of_tokens before ≡ place → map shown old ≡ before ++ (ts ++ after)
-    → IfOk result (λ d. (doc_of d ≡ doc) × (map shown new ≡ (before ++ map emptied ts) ++ after))
+abbrev pub Behind : ℕ → List Shown → Type 0
+Behind place before = end_of_tokens before ≡ place
 
--- A document is put behind others: this one of a token with this text that stands right behind this place, if one does; then the token has no comments, and
--- nothing else has changed.
-abbrev pub IsPutBehind : ℕ → List WrappedToken → List WrappedToken → List Document → List Document → List ℕ → (Shown → Doc) → Type 0
-IsPutBehind place old new docs more text doc = (d : Doc) × (docs_of more ≡ docs_of docs · d)
-    × ((t : Shown) → text ≡ token_value (text_of t) → (before after : List Shown) → end_of_tokens before ≡ place → map shown old ≡ before ++ (t ∷ after)
-    → (d ≡ doc t) × (map shown new ≡ (before ++ (emptied t ∷ [])) ++ after))
+-- Where the tokens ts stand among the others, behind tokens of which P holds, they are written as this document after what stands on the sheet, if they are
+-- written; then they have no comments, and nothing else has changed.
+pub record WritesWhere {U E : Type 0} (P : List Shown → Type 0) (result : Result U E) (old new : List WrappedToken) (sheet more : List Sign) (ts : List Shown) (doc : Doc) : Type 0 where
+  pub among : (before after : List Shown) → P before → map shown old ≡ before ++ (ts ++ after)
+      → OnOk result ((more ≡ written sheet doc) × (map shown new ≡ (before ++ map emptied ts) ++ after))
 
-abbrev pub PutsBehind : {U E : Type 0} → ℕ → Result U E → List WrappedToken → List WrappedToken → List Document → List Document → List ℕ → (Shown → Doc) → Type 0
-PutsBehind place result old new docs more text doc = OnOk result (IsPutBehind place old new docs more text doc)
+abbrev pub Writes : {U E : Type 0} → Result U E → List WrappedToken → List WrappedToken → List Sign → List Sign → List Shown → Doc → Type 0
+Writes result old new sheet more ts doc = WritesWhere Anywhere result old new sheet more ts doc
+
+abbrev pub WritesBehind : {U E : Type 0} → ℕ → Result U E → List WrappedToken → List WrappedToken → List Sign → List Sign → List Shown → Doc → Type 0
+WritesBehind place result old new sheet more ts doc = WritesWhere (Behind place) result old new sheet more ts doc

@@ -1,7 +1,6 @@
-//! The documents of tokens, words, paths and entities, and the rows of the table over documents that are made already.
+//! Rows of the table that write tokens, words, paths and entities on a sheet.
 #![tactic(auto)]
 
-pub mod made;
 pub mod names;
-pub mod rows;
 pub mod tokens;
+pub mod written;

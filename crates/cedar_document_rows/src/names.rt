@@ -1,4 +1,4 @@
-//! The documents of words, strings, literals, slots, paths and entities.
+//! Words, strings, literals, slots, paths and entities.
 #![tactic(auto, using(crate::proofs::Keeping::keeping))]
 
 ghost use Rattle.std.specs.Prelude.{◌≡◌, ◌∷◌, [], ℤ, codes};
@@ -10,71 +10,64 @@ ghost use Rattle.cedar_tree.specs.Erased.{addop_text, literal_text, name_tree, p
 ghost use Rattle.cedar_layout.specs.Lookups.{AreInOrder, Shown};
 ghost use Rattle.cedar_document_rows.specs.Found.{Finds, has_its_tokens, places, starts};
 ghost use Rattle.cedar_document_rows.specs.Kept.{KeepsTokens};
-ghost use Rattle.cedar_document_rows.specs.NodeDocuments.{IsNodeOf, Shows, as_leaf, document, text_of};
+ghost use Rattle.cedar_document_rows.specs.NodeDocuments.{IsNodeOf, Writes, as_leaf, document, text_of};
 ghost use Rattle.cedar_laws.specs.Table as table;
 
-use crate::made::Made;
-use crate::tokens::{comment_at_start, mark_after};
-use cedar_layout::layout::Document;
-use cedar_layout::utils::add_comment;
+use crate::tokens::{comment_at_start, token_after};
+use crate::written::Written;
+use cedar_sheet::comments::{Next, token};
+use cedar_sheet::sheet::Sheet;
 use cedar_tokens::token::{Span, WrappedToken};
 use cedar_tree::tree::{AddOp, Literal, Name, Ref, RelOp, Slot};
-use std::alloc::Global;
 
 /// `C(token)`: `text` between the comments of the token that starts where the part does.
-#[inline(never)]
-pub fn leaf_doc<'src>(
-    alloc: Global,
+pub fn write_leaf<'src>(
+    sheet: &mut Sheet<'src>,
     text: &'src str,
     span: Span,
     tokens: &mut [WrappedToken<'src>],
-) -> Made<'src>
+) -> Written
     requires { AreInOrder tokens.old }
     ensures kept { KeepsTokens tokens.old tokens.new }
     ensures found { Finds result (starts span.start (places tokens.old)) }
-    ensures shows { (t : Shown) → t.span.start ≡ span.start → text.now ≡ token_value (text_of t) → Shows result tokens.old tokens.new (t ∷ []) (table.printed (as_leaf t)) }
+    ensures writes { (t : Shown) → t.span.start ≡ span.start → text.now ≡ token_value (text_of t) → Writes result tokens.old tokens.new sheet.old sheet.new (t ∷ []) (table.printed (as_leaf t)) }
 {
     let comment = comment_at_start(span, tokens)?;
-    Ok(add_comment(alloc, Document::Text(text), &comment, Document::Nil)?)
+    Ok(token(sheet, text, &comment, Next::Nothing)?)
 }
 
 /// Identifiers `C(id)` joined by `C("::")`.
-#[inline(never)]
-pub fn name_doc<'src>(
-    alloc: Global,
+pub fn write_name<'src>(
+    sheet: &mut Sheet<'src>,
     name: &Name<'src>,
     tokens: &mut [WrappedToken<'src>],
-) -> Made<'src>
+) -> Written
     requires { AreInOrder tokens.old }
     ensures kept { KeepsTokens tokens.old tokens.new }
     ensures found { Finds result (has_its_tokens (places tokens.old) (path_parts name.now.path.items name.now.name)) }
-    ensures shows { (i : ℤ) (t : Tree Shown kind.name) → IsNodeOf (path_parts name.now.path.items name.now.name) t → Shows result tokens.old tokens.new (tree_yield t) (document i t) }
+    ensures writes { (i : ℤ) (t : Tree Shown kind.name) → IsNodeOf (path_parts name.now.path.items name.now.name) t → Writes result tokens.old tokens.new sheet.old sheet.new (tree_yield t) (document i t) }
 {
-    let mut docs = Vec::new(alloc);
     for word in &name.path {
-        docs.push(leaf_doc(alloc, word.inner.0, word.span, tokens)?)?;
-        docs.push(mark_after(alloc, "::", word.span, Document::Nil, tokens)?)?;
+        write_leaf(sheet, word.inner.0, word.span, tokens)?;
+        token_after(sheet, "::", word.span, Next::Nothing, tokens)?;
     }
-    docs.push(leaf_doc(alloc, name.name.inner.0, name.name.span, tokens)?)?;
-    Ok(Document::Seq(docs))
+    write_leaf(sheet, name.name.inner.0, name.name.span, tokens)
 }
 
 /// `path . C("::") . C(str)`
-#[inline(never)]
-pub fn ref_doc<'src>(
-    alloc: Global,
+pub fn write_ref<'src>(
+    sheet: &mut Sheet<'src>,
     entity: &Ref<'src>,
     tokens: &mut [WrappedToken<'src>],
-) -> Made<'src>
+) -> Written
     requires { AreInOrder tokens.old }
     ensures kept { KeepsTokens tokens.old tokens.new }
     ensures found { Finds result (has_its_tokens (places tokens.old) (name_tree entity.now.path (leaf (codes "::") (str_tree entity.now.eid none)))) }
-    ensures shows { (i : ℤ) (t : Tree Shown kind.ref) → IsNodeOf (name_tree entity.now.path (leaf (codes "::") (str_tree entity.now.eid none))) t → Shows result tokens.old tokens.new (tree_yield t) (document i t) }
+    ensures writes { (i : ℤ) (t : Tree Shown kind.ref) → IsNodeOf (name_tree entity.now.path (leaf (codes "::") (str_tree entity.now.eid none))) t → Writes result tokens.old tokens.new sheet.old sheet.new (tree_yield t) (document i t) }
 {
-    let path = name_doc(alloc, &entity.path.inner, tokens)?;
-    let colons = mark_after(alloc, "::", entity.path.span, Document::Nil, tokens)?;
-    let eid = leaf_doc(alloc, entity.eid.inner.0, entity.eid.span, tokens)?;
-    Ok(Document::Seq(vec![in alloc; path, colons, eid]?))
+    write_name(sheet, &entity.path.inner, tokens)?;
+    token_after(sheet, "::", entity.path.span, Next::Nothing, tokens)?;
+    write_leaf(sheet, entity.eid.inner.0, entity.eid.span, tokens)
 }
 
 /// The text of a literal; that of a number has no leading zeros.

@@ -1,5 +1,6 @@
 pub mod ScopeTrees
 pub mod PolicyParts
+pub mod WrittenParts
 pub mod PolicyRows
 pub mod FirstToken
 pub mod WholePolicies

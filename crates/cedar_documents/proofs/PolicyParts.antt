@@ -1,5 +1,5 @@
 -- What the parts of policies tell of their tokens.
-use Rattle.std.proofs.Common.{◌≡◌, ℕ, List, [], ◌∷◌, ◌++◌, map, Option, Some, None}
+use Rattle.std.proofs.Common.{◌≡◌, ℕ, List, [], ◌∷◌, ◌++◌, map, Option, Some, None, sym, ◌∙◌}
 use Rattle.std.specs.Prelude.{IsSomeAnd}
 use Rattle.cedar_grammar.specs.Trees.{Label, Forest, leaf, branch}
 use Rattle.cedar_grammar.specs.Trees as forest
@@ -19,6 +19,10 @@ no_token x g e = absurd cc
 
 pub no_part : (s : List ℕ) (r : Erased) → ◌≡◌ {A = Erased} (leaf s r) forest.none → ⊥
 no_part s r e = absurd cc
+
+-- nothing is not something
+pub not_both : {V : Type 0} {q : Option V} {v : V} → q ≡ None → q ≡ Some v → ⊥
+not_both {V = V} {v = v} h k = let f : ◌≡◌ {A = Option V} None (Some v) = sym h ∙ k in absurd cc
 
 -- what holds of an answer, and what holds beside it
 pub apart : {V : Type 0} (P : V → Type 0) (Q : Type 0) (r : Option V) → IsSomeAnd r (λ v. P v × Q) → IsSomeAnd r P × Q

@@ -1,16 +1,16 @@
 -- What the trees of a scope tell of its variables, and their documents.
-use Rattle.std.proofs.Common.{◌≡◌, Bool, true, false, List, [], ◌∷◌, ◌++◌, map, ℕ, ℤ, Option, Some, None, refl, sym, ap, subst, append_assoc, append-nil, arith}
+use Rattle.std.proofs.Common.{◌≡◌, Bool, true, false, List, [], ◌∷◌, ◌++◌, map, ℕ, Option, Some, None, refl, sym, ap, subst, ◌∙◌, append_assoc, arith}
 use Rattle.std.proofs.lemmas.Bool.Decides.{nat_tests}
 use Rattle.std.specs.Prelude.{codes, not, is_some, ◌||◌, ◌&&◌, if◌then◌else◌, ◌==◌, length, suc}
 use Rattle.cedar_tokens.specs.Listing.{Decorated, token_value}
 use Rattle.cedar_tokens.specs.declared.token.Span.{Span}
 use Rattle.cedar_grammar.specs.Trees.{Label, Forest, leaf, branch, none}
-use Rattle.cedar_grammar.specs.TypedTrees.{Tree, Clause, parts, part_yield, tree_yield, variable_bare, variable_is, variable_op, variable_is_op, no_cond, conds_more}
+use Rattle.cedar_grammar.specs.TypedTrees.{Tree, Clause, parts, tree_yield, variable_bare, variable_is, variable_op, variable_is_op, no_cond, conds_more}
 use Rattle.cedar_grammar.specs.TypedTrees as kind
-use Rattle.cedar_layout.specs.Comments.{lead_of, trail_of}
+use Rattle.cedar_layout.specs.Comments.{trail_of}
 use Rattle.cedar_layout.specs.Layout.{Doc, ◌·◌, hard, nil, text}
 use Rattle.cedar_layout.specs.Lookups.{Parts, Shown, emptied}
-use Rattle.cedar_layout.proofs.Values.{dot-nil, dot_assoc}
+use Rattle.cedar_layout.proofs.Values.{dot_assoc}
 use Rattle.cedar_tree.specs.Erased.{Erased, add_parts, cond_trees, operator_parts, path_parts, relop_text, type_parts, variable_parts}
 use Rattle.cedar_tree.specs.declared.tree.Cond.{Cond}
 use Rattle.cedar_tree.specs.declared.tree.Expr as Expr
@@ -21,12 +21,12 @@ use Rattle.cedar_tree.specs.declared.tree.VariableDef.{VariableDef}
 use Rattle.cedar_document_rows.specs.Found.{has_its_tokens}
 use Rattle.cedar_laws.specs.Leaves.{part_map}
 use Rattle.cedar_document_rows.specs.NodeDocuments.{IsAt, IsNodeOf, as_leaf, end_of_tokens, kind_of_shown, nodes_of, text_of}
-use Rattle.cedar_documents.specs.PartDocuments.{IsPartOf, compared_document, part_document, variables_document}
-use Rattle.cedar_laws.specs.Table.{C, between_conds, is_bare, lead, tok, trail}
+use Rattle.cedar_documents.specs.PartDocuments.{IsPartOf}
+use Rattle.cedar_laws.specs.Table.{between_conds, is_bare, lead, tok, trail}
 use Rattle.cedar_laws.specs.Table.{printed as leaf_document}
-use Rattle.cedar_document_rows.proofs.Opened.{Always, Behind, GivesIf, ends_here, in_turn, opened_leaf, opened_token, opened_tree}
+use Rattle.cedar_document_rows.proofs.Opened.{ends_here, opened_leaf, opened_token, opened_tree}
 
-abbrev Operator : Type 0
+abbrev pub Operator : Type 0
 Operator = RelOp × Node Expr.TheBlock.the_data-4
 
 abbrev first : Erased → Option Label
@@ -116,44 +116,18 @@ typed_found ps (Some n) f = with_true (has_its_tokens ps (path_parts n.inner.pat
 
 -- ---- tokens in a row
 
-pub nothing_more : {V : Type 0} {v d : V} {old new : List Shown} (P : List Shown → Type 0) (ts : List Shown) → GivesIf P v d old new (ts ++ []) → GivesIf P v d old new ts
-nothing_more {v = v} {d = d} {old = old} {new = new} P ts h = subst (λ z. GivesIf P v d old new z) (append-nil ts) h
-
 -- behind tokens with this span, and one token before them
 pub ends_later : (s : Span) (x : Shown) (ts : List Shown) → IsAt s ts → (b : List Shown) → end_of_tokens (b ++ map emptied (x ∷ ts)) ≡ s.end
 ends_later s x ts h b = subst (λ z. end_of_tokens z ≡ s.end) (append_assoc b (emptied x ∷ []) (map emptied ts)) (ends_here s ts h (b ++ (emptied x ∷ [])))
 
--- ---- the document of a scope
-
--- three variables, the first two with this span, and two commas
-pub scope_in_turn : {first comma second other third : Doc} {o m n p q r : List Shown} (i : ℤ) (next : Doc) (s u : Span) (x y z : Clause Shown kind.variable) (c d : Shown) → IsAt s (part_yield x) → IsAt u (part_yield y)
-    → GivesIf Always first (part_document i x) o m (part_yield x) → GivesIf (Behind s) comma (C (as_leaf c) next) m n (c ∷ []) → GivesIf Always second (part_document i y) n p (part_yield y)
-    → GivesIf (Behind u) other (C (as_leaf d) next) p q (d ∷ []) → GivesIf Always third (part_document i z) q r (part_yield z)
-    → GivesIf Always (first · comma · second · other · third) (variables_document i next x c y d z) o r (part_yield x ++ (c ∷ (part_yield y ++ (d ∷ part_yield z))))
-scope_in_turn i next s u x y z c d sx uy h1 h2 h3 h4 h5 =
-    let behind_other = in_turn (λ a b. a · b) (Behind u) Always (d ∷ []) (part_yield z) h4 (λ b h. tt) h5 in
-    let behind_second = in_turn (λ a b. a · b) Always (Behind u) (part_yield y) (d ∷ part_yield z) h3 (λ b h. ends_here u (part_yield y) uy b) behind_other in
-    let behind_comma = in_turn (λ a b. a · b) (Behind s) Always (c ∷ []) (part_yield y ++ (d ∷ part_yield z)) h2 (λ b h. tt) behind_second in
-    in_turn (λ a b. a · b) Always (Behind s) (part_yield x) (c ∷ (part_yield y ++ (d ∷ part_yield z))) h1 (λ b h. ends_here s (part_yield x) sx b) behind_comma
-
 -- ---- the document of a variable
 
-abbrev pub pair : {V W : Type 0} → V → W → V × W
-pair v w = (v, w)
-
--- a variable's word and its type stand in a document k: the word's comment is p
-pub assembled : (k : Doc → Doc) (p : Parts) (x : Shown) (txt : List ℕ) (type type' left whole made : Doc) → p ≡ x.comment → type ≡ type' → whole ≡ k left → txt ≡ token_value (text_of x)
-    → left ≡ text txt · (trail_of p.trailing nil · type) → made ≡ lead_of p.leading · whole → made ≡ lead (as_leaf x) · k (tok (as_leaf x) · (trail (as_leaf x) nil · type'))
-assembled k p x txt type type' left whole made hp ht hw hx hl hm = rw (hm, hw, hl, ht, hx, hp) refl
-
-pub document_bare : (x : Decorated) → lead x · tok x · (trail x nil · nil) ≡ leaf_document x
-document_bare x = ap (λ z. lead x · tok x · z) (dot-nil (trail x nil))
+-- a variable's word with its trailing text, and what is behind it
+pub word_same : (k : Doc → Doc) (x : Shown) (txt : List ℕ) (p : Parts) → txt ≡ token_value (text_of x) → p ≡ x.comment → text txt · k (trail_of p.trailing nil) ≡ tok (as_leaf x) · k (trail (as_leaf x) nil)
+word_same k x txt p h w = ap (λ z. text z · k (trail_of p.trailing nil)) h ∙ ap (λ z. tok (as_leaf x) · k (trail_of z.trailing nil)) w
 
 pub document_is : (x : Decorated) (type : Doc) → lead x · tok x · (trail x nil · type) ≡ leaf_document x · type
 document_is x type = sym (dot_assoc (lead x) (tok x · trail x nil) type)
-
-pub document_compared : (i : ℤ) (x : Decorated) (o : Shown) (t : Tree Shown kind.add) → lead x · compared_document i (tok x · (trail x nil · nil)) o t ≡ lead x · compared_document i (tok x · trail x nil) o t
-document_compared i x o t = ap (λ z. lead x · compared_document i (tok x · z) o t) (dot-nil (trail x nil))
 
 -- ---- the break behind a scope
 

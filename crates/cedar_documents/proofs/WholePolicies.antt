@@ -1,5 +1,5 @@
 -- What the tree of a policy tells of its parts.
-use Rattle.std.proofs.Common.{◌≡◌, ℕ, Bool, true, false, List, [], ◌∷◌, ◌++◌, map, Option, refl, ap, sym, ◌∙◌, subst}
+use Rattle.std.proofs.Common.{◌≡◌, ℕ, Bool, true, false, List, [], ◌∷◌, ◌++◌, map, Option, refl, ap, sym, ◌∙◌}
 use Rattle.std.specs.Prelude.{◌&&◌, codes}
 use Rattle.std.proofs.lemmas.List.{append_assoc, map-append}
 use Rattle.cedar_tokens.specs.declared.token.Span.{Span}
@@ -13,7 +13,6 @@ use Rattle.cedar_tree.specs.declared.tree.Node.{Node}
 use Rattle.cedar_tree.specs.declared.tree.Policy.{Policy}
 use Rattle.cedar_document_rows.specs.Found.{has_its_tokens, has_own, starts}
 use Rattle.cedar_document_rows.specs.NodeDocuments.{IsAt, end_of_tokens, kind_of_shown, nodes_of}
-use Rattle.cedar_document_rows.proofs.Opened.{GivesIf}
 use Rattle.cedar_documents.proofs.PolicyParts.{behind_token}
 
 -- trees of two labels differ
@@ -43,10 +42,6 @@ EndAt p ts = (b : List Shown) → end_of_tokens (b ++ map emptied ts) ≡ p
 -- tokens in front of them change nothing
 pub ends_after : (p : ℕ) (us ts : List Shown) → EndAt p ts → EndAt p (us ++ ts)
 ends_after p us ts h b = ap end_of_tokens (ap (λ z. b ++ z) (map-append emptied us ts) ∙ sym (append_assoc b (map emptied us) (map emptied ts))) ∙ h (b ++ map emptied us)
-
--- the same tokens, written otherwise
-pub retold : {V : Type 0} {v d : V} {old new : List Shown} (P : List Shown → Type 0) (xs ys : List Shown) → xs ≡ ys → GivesIf P v d old new xs → GivesIf P v d old new ys
-retold {v = v} {d = d} {old = old} {new = new} P xs ys q h = subst (λ z. GivesIf P v d old new z) q h
 
 -- where one token ends
 pub one_end : (s : Span) (x : Shown) → IsAt s (x ∷ []) → x.span.end ≡ s.end

@@ -7,7 +7,7 @@ use Rattle.cedar_grammar.specs.TypedTrees.{Tree, PartKind, Clause, parts, part_p
 use Rattle.cedar_grammar.specs.Trees.{yield}
 use Rattle.cedar_layout.specs.Layout.{Doc, ◌·◌, group, line, nest}
 use Rattle.cedar_layout.specs.Lookups.{Shown}
-use Rattle.cedar_layout.specs.declared.layout.Document.{Document}
+use Rattle.cedar_sheet.specs.Marks.{Sign}
 use Rattle.cedar_tree.specs.Erased.{Erased, variable_parts}
 use Rattle.cedar_tree.specs.declared.tree.Name.{Name}
 use Rattle.cedar_tree.specs.declared.tree.Node.{Node}
@@ -16,7 +16,7 @@ use Rattle.cedar_tree.specs.declared.tree.VariableDef.{VariableDef}
 use Rattle.cedar_laws.specs.Leaves.{part_map}
 use Rattle.cedar_laws.specs.Table.{literal_kind, part_table, is_bare}
 use Rattle.cedar_laws.specs.Table as table
-use Rattle.cedar_document_rows.specs.NodeDocuments.{text_of, kind_of_shown, as_leaf, nodes_of, document, IsAt, Shows}
+use Rattle.cedar_document_rows.specs.NodeDocuments.{text_of, kind_of_shown, as_leaf, nodes_of, document, IsAt, Writes}
 
 -- a part of a policy outside expressions with these parts is the tree of these tokens
 abbrev pub IsPartOf : {k : PartKind} → Erased → Clause Shown k → Type 0
@@ -56,10 +56,10 @@ body_document i t = table.lead_of (table.lines_of_first (yield (parts literal_ki
 abbrev pub braced_document : ℤ → Shown → Tree Shown expr → Shown → Doc
 braced_document i l t r = table.lead (as_leaf l) · table.tok (as_leaf l) · group (nest i (table.trail (as_leaf l) line · body_document i t) · line · table.printed (as_leaf r))
 
--- the variables of a policy and the commas between them are shown in the document that these have
-abbrev pub ShowsScope : {E : Type 0} → Result Document E → List WrappedToken → List WrappedToken → Policy → (Clause Shown variable → Shown → Clause Shown variable → Shown → Clause Shown variable → Doc) → Type 0
-ShowsScope result old new policy doc = (p a r : Clause Shown variable) (c d : Shown) → IsPartOf (variable_parts policy.variables.0.inner) p → IsAt policy.variables.0.span (part_yield p)
+-- the variables of a policy and the commas between them are written as the document that these have
+abbrev pub WritesScope : {U E : Type 0} → Result U E → List WrappedToken → List WrappedToken → List Sign → List Sign → Policy → (Clause Shown variable → Shown → Clause Shown variable → Shown → Clause Shown variable → Doc) → Type 0
+WritesScope result old new sheet more policy doc = (p a r : Clause Shown variable) (c d : Shown) → IsPartOf (variable_parts policy.variables.0.inner) p → IsAt policy.variables.0.span (part_yield p)
     → IsPartOf (variable_parts policy.variables.1.inner) a → IsAt policy.variables.1.span (part_yield a)
     → IsPartOf (variable_parts policy.variables.2.inner) r → IsAt policy.variables.2.span (part_yield r)
     → codes "," ≡ token_value (text_of c) → codes "," ≡ token_value (text_of d)
-    → Shows result old new (part_yield p ++ (c ∷ (part_yield a ++ (d ∷ part_yield r)))) (doc p c a d r)
+    → Writes result old new sheet more (part_yield p ++ (c ∷ (part_yield a ++ (d ∷ part_yield r)))) (doc p c a d r)

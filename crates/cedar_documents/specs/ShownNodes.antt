@@ -1,5 +1,5 @@
 -- That a node is made of tokens and has a document, and what `to_doc` answers.
-use Rattle.std.specs.Prelude.{◌≡◌, ℕ, ℤ, List, [], ◌∷◌, ◌++◌, map, Option, Some, Result, Ok, Err, IfOk, IsSomeAnd, None, alloc_error}
+use Rattle.std.specs.Prelude.{◌≡◌, ℕ, ℤ, List, [], ◌∷◌, ◌++◌, map, Option, Result, IfOk, IsSomeAnd}
 use Rattle.cedar_tokens.specs.Listing.{token_value}
 use Rattle.cedar_tokens.specs.declared.token.Span.{Span}
 use Rattle.cedar_tokens.specs.declared.token.WrappedToken.{WrappedToken}
@@ -11,8 +11,6 @@ use Rattle.cedar_layout.specs.declared.layout.Document.{Document}
 use Rattle.cedar_tree.specs.Erased.{Erased}
 use Rattle.cedar_laws.specs.Table.{printed as leaf_of}
 use Rattle.std.specs.declared.alloc.AllocError.{AllocError}
-use Rattle.cedar_document_rows.specs.declared.made.NoDocument.{NoDocument}
-use Rattle.cedar_document_rows.specs.declared.made.NoDocument.TheVariants.{NoToken, OutOfMemory}
 use Rattle.cedar_document_rows.specs.NodeDocuments.{text_of, as_leaf, IsNodeOf, document, IsAt}
 use Rattle.cedar_documents.specs.PartDocuments.{IsPartOf, part_document}
 
@@ -36,9 +34,3 @@ IsLeafWith span text ts doc = (t : Shown) × (t.span ≡ span) × (text ≡ toke
 abbrev pub ShowsPart : Result (Option Document) AllocError → List WrappedToken → List WrappedToken → List Shown → Doc → Type 0
 ShowsPart result old new ts doc = (before after : List Shown) → map shown old ≡ before ++ (ts ++ after)
     → IfOk result (λ r. IsSomeAnd r (λ d. (doc_of d ≡ doc) × (map shown new ≡ (before ++ map emptied ts) ++ after)))
-
--- the answer of a part whose document is made, or for this reason not
-abbrev pub answer_of : {D : Type 0} → Result D NoDocument → Result (Option D) AllocError
-answer_of (Ok d) = Ok (Some d)
-answer_of (Err NoToken) = Ok None
-answer_of (Err OutOfMemory) = Err alloc_error

@@ -1,33 +1,36 @@
 //! The document of each node: its tokens, each between its comments, with the places where a line may break.
 #![tactic(auto, using(cedar_document_rows::proofs::Keeping::all_kept))]
 
-ghost use Rattle.std.specs.Prelude.{◌≡◌, ℤ, List, [], Some, None, Ok, codes, true, IfOk, is_some};
+ghost use Rattle.std.specs.Prelude.{◌≡◌, ℤ, Bool, List, [], Some, Ok, codes, true, IsOk, IsSomeAnd, IfOk, is_some};
 ghost use Rattle.cedar_grammar.specs.Trees.{Label, branch, leaf, none};
 ghost use Rattle.cedar_grammar.specs.TypedTrees as kind;
 ghost use Rattle.cedar_layout.specs.Layout as layout;
 ghost use Rattle.cedar_layout.specs.Value.{doc_of};
+ghost use Rattle.cedar_sheet.specs.Marks.{written};
 ghost use Rattle.cedar_tree.specs.Erased as erased;
 ghost use Rattle.cedar_tree.specs.NodeLists as lists;
 ghost use Rattle.cedar_layout.specs.Lookups.{AreInOrder, Shown};
-ghost use Rattle.cedar_document_rows.specs.Found.{has_its_tokens, places};
+ghost use Rattle.cedar_document_rows.specs.Found.{Finds, has_its_tokens, places};
 ghost use Rattle.cedar_document_rows.specs.Kept.{KeepsTokens};
-ghost use Rattle.cedar_documents.specs.ShownNodes.{IsLeafWith, IsNodeWith, IsPartWith, IsRowWith, ShowsPart, answer_of};
+ghost use Rattle.cedar_documents.specs.ShownNodes.{IsLeafWith, IsNodeWith, IsPartWith, IsRowWith, ShowsPart};
 ghost use Rattle.cedar_tree.specs.Erased.{annotation_parts, cond_parts, variable_parts};
 
-use crate::conditions::cond_doc;
+use crate::conditions::write_cond;
 use crate::config::Context;
 pub use crate::laws::{every_gap_holds, raw_layouts_read_back};
-use crate::policies::{annotation_doc, policy_doc};
-use crate::scopes::variable_doc;
+use crate::policies::{write_annotation, write_policy};
+use crate::scopes::write_variable;
 use cedar_document_expressions::expressions::{
-    access_doc, add_doc, and_doc, expr_doc, init_doc, member_doc, mult_doc, or_doc, primary_doc,
-    relation_doc, unary_doc,
+    write_access, write_add, write_and, write_expr, write_init, write_member, write_mult, write_or,
+    write_primary, write_relation, write_unary,
 };
-use cedar_document_rows::made::{Made, NoDocument};
 use cedar_document_rows::names::{
-    add_op_text, leaf_doc, literal_text, name_doc, ref_doc, slot_text,
+    add_op_text, literal_text, slot_text, write_leaf, write_name, write_ref,
 };
+use cedar_document_rows::written::{NoDocument, Written};
 use cedar_layout::layout::Document;
+use cedar_sheet::document::to_document;
+use cedar_sheet::sheet::Sheet;
 use cedar_tree::tree::{
     Add, AddOp, And, Annotation, Cond, Expr, Ident, Literal, MemAccess, Member, Mult, MultOp, Name,
     Node, Or, Policy, Primary, RecInit, Ref, Relation, Slot, Str, Unary, VariableDef,
@@ -66,12 +69,17 @@ pub trait Doc<'src> {
         ensures shows { (ts : List Shown) (doc : layout.Doc) → is_shown self.now context.old.config.now.indent_width ts doc → ShowsPart result context.old.tokens.items context.new.tokens.items ts doc };
 }
 
-// The same as `to_doc` answers it.
-fn answer<'src>(made: Made<'src>) -> Result<Option<Document<'src>>, AllocError>
-    ensures { result ≡ answer_of made.entry }
+// What `to_doc` answers of a part that was written on an empty sheet, or was not for this reason.
+fn answer<'src>(
+    alloc: Global,
+    sheet: &Sheet<'src>,
+    wrote: Written,
+) -> Result<Option<Document<'src>>, AllocError>
+    ensures found { (has : Bool) → Finds wrote has → IfOk result (λ doc. is_some doc ≡ has) }
+    ensures document { (d : layout.Doc) → IsOk wrote → sheet.now ≡ written [] d → IfOk result (λ doc. IsSomeAnd doc (λ x. doc_of x ≡ d)) }
 {
-    match made {
-        Ok(doc) => Ok(Some(doc)),
+    match wrote {
+        Ok(()) => Ok(Some(to_document(alloc, sheet)?)),
         Err(NoDocument::NoToken) => Ok(None),
         Err(NoDocument::OutOfMemory) => Err(AllocError),
     }
@@ -87,13 +95,15 @@ impl<'src> Doc<'src> for Node<Policy<'src>> {
         alloc: Global,
         context: &mut Context<'_, 'src>,
     ) -> Result<Option<Document<'src>>, AllocError> {
-        answer(policy_doc(
-            alloc,
+        let mut sheet = Sheet::new(alloc);
+        let wrote = write_policy(
+            &mut sheet,
             &self.inner,
             self.span,
             context.config.indent_width,
             context.tokens.as_mut_slice(),
-        ))
+        );
+        answer(alloc, &sheet, wrote)
     }
 }
 
@@ -107,7 +117,14 @@ impl<'src> Doc<'src> for Node<Annotation<'src>> {
         alloc: Global,
         context: &mut Context<'_, 'src>,
     ) -> Result<Option<Document<'src>>, AllocError> {
-        answer(annotation_doc(alloc, &self.inner, self.span, context.tokens.as_mut_slice()))
+        let mut sheet = Sheet::new(alloc);
+        let wrote = write_annotation(
+            &mut sheet,
+            &self.inner,
+            self.span,
+            context.tokens.as_mut_slice(),
+        );
+        answer(alloc, &sheet, wrote)
     }
 }
 
@@ -121,12 +138,14 @@ impl<'src> Doc<'src> for Node<VariableDef<'src>> {
         alloc: Global,
         context: &mut Context<'_, 'src>,
     ) -> Result<Option<Document<'src>>, AllocError> {
-        answer(variable_doc(
-            alloc,
+        let mut sheet = Sheet::new(alloc);
+        let wrote = write_variable(
+            &mut sheet,
             &self.inner,
             context.config.indent_width,
             context.tokens.as_mut_slice(),
-        ))
+        );
+        answer(alloc, &sheet, wrote)
     }
 }
 
@@ -140,13 +159,15 @@ impl<'src> Doc<'src> for Node<Cond<'src>> {
         alloc: Global,
         context: &mut Context<'_, 'src>,
     ) -> Result<Option<Document<'src>>, AllocError> {
-        answer(cond_doc(
-            alloc,
+        let mut sheet = Sheet::new(alloc);
+        let wrote = write_cond(
+            &mut sheet,
             &self.inner,
             self.span,
             context.config.indent_width,
             context.tokens.as_mut_slice(),
-        ))
+        );
+        answer(alloc, &sheet, wrote)
     }
 }
 
@@ -160,13 +181,15 @@ impl<'src> Doc<'src> for Node<Expr<'src>> {
         alloc: Global,
         context: &mut Context<'_, 'src>,
     ) -> Result<Option<Document<'src>>, AllocError> {
-        answer(expr_doc(
-            alloc,
+        let mut sheet = Sheet::new(alloc);
+        let wrote = write_expr(
+            &mut sheet,
             &self.inner,
             self.span,
             context.config.indent_width,
             context.tokens.as_mut_slice(),
-        ))
+        );
+        answer(alloc, &sheet, wrote)
     }
 }
 
@@ -180,12 +203,14 @@ impl<'src> Doc<'src> for Node<Or<'src>> {
         alloc: Global,
         context: &mut Context<'_, 'src>,
     ) -> Result<Option<Document<'src>>, AllocError> {
-        answer(or_doc(
-            alloc,
+        let mut sheet = Sheet::new(alloc);
+        let wrote = write_or(
+            &mut sheet,
             &self.inner,
             context.config.indent_width,
             context.tokens.as_mut_slice(),
-        ))
+        );
+        answer(alloc, &sheet, wrote)
     }
 }
 
@@ -199,12 +224,14 @@ impl<'src> Doc<'src> for Node<And<'src>> {
         alloc: Global,
         context: &mut Context<'_, 'src>,
     ) -> Result<Option<Document<'src>>, AllocError> {
-        answer(and_doc(
-            alloc,
+        let mut sheet = Sheet::new(alloc);
+        let wrote = write_and(
+            &mut sheet,
             &self.inner,
             context.config.indent_width,
             context.tokens.as_mut_slice(),
-        ))
+        );
+        answer(alloc, &sheet, wrote)
     }
 }
 
@@ -218,12 +245,14 @@ impl<'src> Doc<'src> for Node<Relation<'src>> {
         alloc: Global,
         context: &mut Context<'_, 'src>,
     ) -> Result<Option<Document<'src>>, AllocError> {
-        answer(relation_doc(
-            alloc,
+        let mut sheet = Sheet::new(alloc);
+        let wrote = write_relation(
+            &mut sheet,
             &self.inner,
             context.config.indent_width,
             context.tokens.as_mut_slice(),
-        ))
+        );
+        answer(alloc, &sheet, wrote)
     }
 }
 
@@ -237,12 +266,14 @@ impl<'src> Doc<'src> for Node<Add<'src>> {
         alloc: Global,
         context: &mut Context<'_, 'src>,
     ) -> Result<Option<Document<'src>>, AllocError> {
-        answer(add_doc(
-            alloc,
+        let mut sheet = Sheet::new(alloc);
+        let wrote = write_add(
+            &mut sheet,
             &self.inner,
             context.config.indent_width,
             context.tokens.as_mut_slice(),
-        ))
+        );
+        answer(alloc, &sheet, wrote)
     }
 }
 
@@ -256,12 +287,14 @@ impl<'src> Doc<'src> for Node<Mult<'src>> {
         alloc: Global,
         context: &mut Context<'_, 'src>,
     ) -> Result<Option<Document<'src>>, AllocError> {
-        answer(mult_doc(
-            alloc,
+        let mut sheet = Sheet::new(alloc);
+        let wrote = write_mult(
+            &mut sheet,
             &self.inner,
             context.config.indent_width,
             context.tokens.as_mut_slice(),
-        ))
+        );
+        answer(alloc, &sheet, wrote)
     }
 }
 
@@ -321,13 +354,15 @@ impl<'src> Doc<'src> for Node<Unary<'src>> {
         alloc: Global,
         context: &mut Context<'_, 'src>,
     ) -> Result<Option<Document<'src>>, AllocError> {
-        answer(unary_doc(
-            alloc,
+        let mut sheet = Sheet::new(alloc);
+        let wrote = write_unary(
+            &mut sheet,
             &self.inner,
             self.span,
             context.config.indent_width,
             context.tokens.as_mut_slice(),
-        ))
+        );
+        answer(alloc, &sheet, wrote)
     }
 }
 
@@ -341,12 +376,14 @@ impl<'src> Doc<'src> for Member<'src> {
         alloc: Global,
         context: &mut Context<'_, 'src>,
     ) -> Result<Option<Document<'src>>, AllocError> {
-        answer(member_doc(
-            alloc,
+        let mut sheet = Sheet::new(alloc);
+        let wrote = write_member(
+            &mut sheet,
             self,
             context.config.indent_width,
             context.tokens.as_mut_slice(),
-        ))
+        );
+        answer(alloc, &sheet, wrote)
     }
 }
 
@@ -360,13 +397,15 @@ impl<'src> Doc<'src> for Node<MemAccess<'src>> {
         alloc: Global,
         context: &mut Context<'_, 'src>,
     ) -> Result<Option<Document<'src>>, AllocError> {
-        answer(access_doc(
-            alloc,
+        let mut sheet = Sheet::new(alloc);
+        let wrote = write_access(
+            &mut sheet,
             &self.inner,
             self.span,
             context.config.indent_width,
             context.tokens.as_mut_slice(),
-        ))
+        );
+        answer(alloc, &sheet, wrote)
     }
 }
 
@@ -380,13 +419,15 @@ impl<'src> Doc<'src> for Node<Primary<'src>> {
         alloc: Global,
         context: &mut Context<'_, 'src>,
     ) -> Result<Option<Document<'src>>, AllocError> {
-        answer(primary_doc(
-            alloc,
+        let mut sheet = Sheet::new(alloc);
+        let wrote = write_primary(
+            &mut sheet,
             &self.inner,
             self.span,
             context.config.indent_width,
             context.tokens.as_mut_slice(),
-        ))
+        );
+        answer(alloc, &sheet, wrote)
     }
 }
 
@@ -400,12 +441,14 @@ impl<'src> Doc<'src> for Node<RecInit<'src>> {
         alloc: Global,
         context: &mut Context<'_, 'src>,
     ) -> Result<Option<Document<'src>>, AllocError> {
-        answer(init_doc(
-            alloc,
+        let mut sheet = Sheet::new(alloc);
+        let wrote = write_init(
+            &mut sheet,
             &self.inner,
             context.config.indent_width,
             context.tokens.as_mut_slice(),
-        ))
+        );
+        answer(alloc, &sheet, wrote)
     }
 }
 
@@ -419,7 +462,9 @@ impl<'src> Doc<'src> for Node<Name<'src>> {
         alloc: Global,
         context: &mut Context<'_, 'src>,
     ) -> Result<Option<Document<'src>>, AllocError> {
-        answer(name_doc(alloc, &self.inner, context.tokens.as_mut_slice()))
+        let mut sheet = Sheet::new(alloc);
+        let wrote = write_name(&mut sheet, &self.inner, context.tokens.as_mut_slice());
+        answer(alloc, &sheet, wrote)
     }
 }
 
@@ -433,7 +478,9 @@ impl<'src> Doc<'src> for Node<Ref<'src>> {
         alloc: Global,
         context: &mut Context<'_, 'src>,
     ) -> Result<Option<Document<'src>>, AllocError> {
-        answer(ref_doc(alloc, &self.inner, context.tokens.as_mut_slice()))
+        let mut sheet = Sheet::new(alloc);
+        let wrote = write_ref(&mut sheet, &self.inner, context.tokens.as_mut_slice());
+        answer(alloc, &sheet, wrote)
     }
 }
 
@@ -447,12 +494,14 @@ impl<'src> Doc<'src> for Node<Ident<'src>> {
         alloc: Global,
         context: &mut Context<'_, 'src>,
     ) -> Result<Option<Document<'src>>, AllocError> {
-        answer(leaf_doc(
-            alloc,
+        let mut sheet = Sheet::new(alloc);
+        let wrote = write_leaf(
+            &mut sheet,
             self.inner.0,
             self.span,
             context.tokens.as_mut_slice(),
-        ))
+        );
+        answer(alloc, &sheet, wrote)
     }
 }
 
@@ -466,12 +515,14 @@ impl<'src> Doc<'src> for Node<Str<'src>> {
         alloc: Global,
         context: &mut Context<'_, 'src>,
     ) -> Result<Option<Document<'src>>, AllocError> {
-        answer(leaf_doc(
-            alloc,
+        let mut sheet = Sheet::new(alloc);
+        let wrote = write_leaf(
+            &mut sheet,
             self.inner.0,
             self.span,
             context.tokens.as_mut_slice(),
-        ))
+        );
+        answer(alloc, &sheet, wrote)
     }
 }
 
@@ -485,12 +536,14 @@ impl<'src> Doc<'src> for Node<Literal<'src>> {
         alloc: Global,
         context: &mut Context<'_, 'src>,
     ) -> Result<Option<Document<'src>>, AllocError> {
-        answer(leaf_doc(
-            alloc,
+        let mut sheet = Sheet::new(alloc);
+        let wrote = write_leaf(
+            &mut sheet,
             literal_text(&self.inner),
             self.span,
             context.tokens.as_mut_slice(),
-        ))
+        );
+        answer(alloc, &sheet, wrote)
     }
 }
 
@@ -504,12 +557,14 @@ impl<'src> Doc<'src> for Node<Slot> {
         alloc: Global,
         context: &mut Context<'_, 'src>,
     ) -> Result<Option<Document<'src>>, AllocError> {
-        answer(leaf_doc(
-            alloc,
+        let mut sheet = Sheet::new(alloc);
+        let wrote = write_leaf(
+            &mut sheet,
             slot_text(self.inner),
             self.span,
             context.tokens.as_mut_slice(),
-        ))
+        );
+        answer(alloc, &sheet, wrote)
     }
 }
 

@@ -1,7 +1,6 @@
 //! The documents of policies, the trait for the document of every node, and the laws of outputs.
 #![tactic(auto)]
 
-mod comments;
 pub mod conditions;
 pub mod config;
 pub mod doc;

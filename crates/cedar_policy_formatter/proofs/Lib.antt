@@ -8,3 +8,4 @@ pub mod OutputPolicies
 pub mod Runs
 pub mod PieceOutputs
 pub mod Piecewise
+pub mod Sinks

@@ -1,6 +1,5 @@
 -- The output of a piece: its policy laid out.
-use Rattle.std.proofs.Common.{◌≡◌, ℕ, ℤ, List, [], ◌∷◌, ◌++◌, length, map, Option, Some, None, refl, sym, ap, ◌∙◌, subst, arith, append-nil}
-use Rattle.std.specs.Prelude.{IsSomeAnd}
+use Rattle.std.proofs.Common.{◌≡◌, ℕ, ℤ, List, [], ◌∷◌, ◌++◌, length, map, refl, sym, ap, ◌∙◌, subst, arith, append-nil}
 use Rattle.std.specs.List.{flat_map}
 use Rattle.std.proofs.lemmas.List.{take_all}
 use Rattle.cedar_grammar.specs.Trees.{Label}
@@ -9,14 +8,13 @@ use Rattle.cedar_grammar.specs.TypedTrees.{Clause, policy, part_parts, part_yiel
 use Rattle.cedar_layout.specs.Cleaning.{IsCleaned}
 use Rattle.cedar_layout.specs.Layout.{IsTheLayoutAt}
 use Rattle.cedar_layout.specs.Lookups.{Shown}
-use Rattle.cedar_layout.specs.Value.{doc_of}
-use Rattle.cedar_layout.specs.declared.layout.Document.{Document}
+use Rattle.cedar_layout.specs.Layout.{Doc}
 use Rattle.cedar_tree.specs.Erased as erased
 use Rattle.cedar_tree.specs.declared.tree.Node.{Node}
 use Rattle.cedar_tree.specs.declared.tree.Policy.{Policy}
 use Rattle.cedar_laws.specs.Leaves.{part_map}
 use Rattle.cedar_document_rows.specs.NodeDocuments.{IsAt, as_leaf, kind_of_shown, nodes_of}
-use Rattle.cedar_documents.specs.PartDocuments.{IsPartOf, part_document}
+use Rattle.cedar_documents.specs.PartDocuments.{IsPartOf}
 use Rattle.cedar_laws.specs.Output.{PolicyTexts}
 use Rattle.cedar_document_rows.proofs.Opened.{opened, part_at}
 use Rattle.cedar_laws.specs.Output.{closing_text}
@@ -35,17 +33,11 @@ use Rattle.cedar_pieces.specs.Pieces.{IsPiece}
 use Rattle.cedar_pieces.proofs.Lists.{piece_ends}
 use Rattle.cedar_cst.specs.PolicyReaders.{IsPolicyOf, AreTokensOf}
 use Rattle.std.specs.Str.{IsUtf8}
-use Rattle.cedar_policy_formatter.specs.Inside.Written.{IsPolicyText, IsPlainStream}
+use Rattle.cedar_policy_formatter.specs.Inside.Written.{IsCleanLayout, IsPolicyText, IsPlainStream}
 
-pub some_is : {X : Type 0} (P : X → Type 0) (o : Option X) (x : X) → o ≡ Some x → IsSomeAnd o P → P x
-some_is P o x e h = subst (λ z. IsSomeAnd z P) e h
-
-pub none_is : {X : Type 0} (P : X → Type 0) (o : Option X) → o ≡ None → IsSomeAnd o P → ⊥
-none_is P o e h = subst (λ z. IsSomeAnd z P) e h
-
-pub cleaned_layout : (w : ℕ) (i : ℤ) (p : Clause Shown policy) (d : Document) (empty rendered text out : List ℕ) → doc_of d ≡ part_document i p → empty ≡ [] → ((t : List ℕ) × IsTheLayoutAt w (doc_of d) t × (rendered ≡ empty ++ t))
-    → text ≡ rendered → IsCleaned text out → IsPolicyText w i p out
-cleaned_layout w i p d empty rendered text out e b (t, l, r) f k = (t, subst (λ z. IsTheLayoutAt w z t) e l, subst (λ z. IsCleaned z out) (f ∙ r ∙ ap (λ z. z ++ t) b) k)
+-- a layout that was appended to an empty text, and cleaned
+pub cleaned_layout : (w : ℕ) (d : Doc) (empty laid text out : List ℕ) → empty ≡ [] → ((t : List ℕ) × IsTheLayoutAt w d t × (laid ≡ empty ++ t)) → text ≡ laid → IsCleaned text out → IsCleanLayout w d out
+cleaned_layout w d empty laid text out b (t, l, r) f k = (t, l, subst (λ z. IsCleaned z out) (f ∙ r ∙ ap (λ z. z ++ t) b) k)
 
 -- ---- the tokens of a piece
 

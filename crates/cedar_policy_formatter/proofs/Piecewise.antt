@@ -1,7 +1,6 @@
 -- A text is laid out policy by policy: what is written of its pieces so far.
-use Rattle.std.proofs.Common.{◌≡◌, ◌<◌, ◌+◌, ℕ, ℤ, Bool, true, false, List, [], ◌∷◌, ◌++◌, length, take, drop, refl, ap, sym, ◌∙◌, subst, arith, inl, inr, append-nil, append_assoc}
-use Rattle.std.specs.Prelude.{◌⊎◌, ◌==◌, not, if◌then◌else◌}
-use Rattle.std.proofs.lemmas.Bool.Decides.{nat_tests}
+use Rattle.std.proofs.Common.{◌≡◌, ◌+◌, ℕ, ℤ, Bool, true, false, List, [], ◌∷◌, ◌++◌, length, take, drop, ap, sym, ◌∙◌, subst, arith, inl, inr, append-nil, append_assoc}
+use Rattle.std.specs.Prelude.{◌⊎◌, not, if◌then◌else◌}
 use Rattle.std.proofs.lemmas.List.{length-take-le}
 use Rattle.cedar_tokens.specs.Bytes.{line_feed}
 use Rattle.cedar_tokens.specs.Listing.{comments}
@@ -35,12 +34,13 @@ abbrev pub TellsEmpty : Bool → List ℕ → Type 0
 TellsEmpty true out = out ≡ []
 TellsEmpty false out = out ≡ [] → ⊥
 
-not_zero : (n : ℕ) → 0 < n → (n == 0) ≡ false
-not_zero n h = grind (arith, nat_tests)
-
-pub tells_empty : (len : ℕ) (out : List ℕ) → len ≡ length out → TellsEmpty (len == 0) out
-tells_empty len [] e = subst (λ k. TellsEmpty (k == 0) []) (sym e) refl
-tells_empty len (b ∷ out) e = subst (λ t. TellsEmpty t (b ∷ out)) (sym (not_zero len (omega (arith, e)))) (λ h. absurd cc)
+-- a layout has bytes, and so has what it is put behind
+pub some_more : (w : ℕ) (i : ℤ) (text out more layout : List ℕ) → IsOutputOf w i text layout → more ≡ out ++ layout → TellsEmpty false more
+some_more w i text out more layout o e n = output_is_some w i text layout o (no_end out layout (sym e ∙ n))
+  where
+    no_end : (xs ys : List ℕ) → xs ++ ys ≡ [] → ys ≡ []
+    no_end [] ys h = h
+    no_end (x ∷ xs) ys h = absurd cc
 
 -- the bytes of a reader's piece are a piece
 pub piece_of : (old new : Position) (piece : List ℕ) → GoesOn old new piece → IsPiece piece (length piece)

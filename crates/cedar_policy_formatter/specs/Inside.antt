@@ -1,2 +1,3 @@
 -- What only contracts below the formatter's own calls cite.
 pub mod Written
+pub mod Sinks

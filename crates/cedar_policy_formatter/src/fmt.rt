@@ -9,14 +9,16 @@ ghost use Rattle.cedar_grammar.specs.TypedTrees.{Clause, part_yield};
 ghost use Rattle.cedar_grammar.specs.TypedTrees as kind;
 ghost use Rattle.cedar_pieces.specs.Pieces.{IsPiece};
 ghost use Rattle.cedar_cst.specs.PolicyReaders.{IsPolicyOf, AreTokensOf};
+ghost use Rattle.cedar_layout.specs.Layout.{Doc};
 ghost use Rattle.cedar_layout.specs.Lookups.{AreInOrder, Shown, shown};
+ghost use Rattle.cedar_sheet.specs.Marks.{flat};
 ghost use Rattle.cedar_laws.specs.Canonical.{IsOutputOf};
 ghost use Rattle.cedar_laws.specs.Output.{closing_text};
 ghost use Rattle.cedar_document_rows.specs.Kept.{KeepsTokens};
 ghost use Rattle.cedar_document_rows.specs.NodeDocuments.{IsAt};
 ghost use Rattle.cedar_documents.specs.PartDocuments.{IsPartOf};
 ghost use Rattle.cedar_policy_formatter.specs.Compared.{HaveEqualLists};
-ghost use Rattle.cedar_policy_formatter.specs.Inside.Written.{IsPolicyText, IsPlainStream};
+ghost use Rattle.cedar_policy_formatter.specs.Inside.Written.{IsCleanLayout, IsPolicyText, IsPlainStream};
 ghost use Rattle.cedar_policy_formatter.specs.Refused.{IsMemory, RefusesOne};
 ghost use Rattle.cedar_policy_formatter.specs.Texts.{IsTextOf, FailsCheck};
 
@@ -24,25 +26,29 @@ use cedar_cst::cst::laws::{accepted_is_not_refused, tree_is_of_accepted};
 use cedar_cst::cst::{
     FormatError, Node, Policies, Policy, PolicyReader, parse_policies, same_tree,
 };
-use cedar_documents::config::{Config, Context};
-use cedar_documents::doc::Doc;
+use cedar_document_rows::written::NoDocument;
+use cedar_documents::config::Config;
 pub use cedar_documents::laws::{
     accepted_texts_have_trees, cleaning_is_unique, cleaning_keeps_the_list, cleaning_takes_blanks,
     every_layout_reads_back, every_list_is_good, last_width_decides, lists_join,
     outputs_are_canonical, outputs_are_determined, outputs_have_the_trees, own_tokens_are_met,
     policies_stand_alone,
 };
-use cedar_layout::layout::render;
+use cedar_documents::policies::write_policy;
 use cedar_layout::utils::remove_empty_lines;
 use cedar_pieces::check::has_tokens;
+use cedar_sheet::layout;
+use cedar_sheet::sheet::Sheet;
 use cedar_tokens::lexer::{drop_trailing_commas, listing_is_unique};
 use cedar_tokens::token::{Comments, WrappedToken, get_comment};
 use std::alloc::{AllocError, Global};
 
+mod sink;
 mod stream;
 
 pub use crate::laws::{kept_policies_have_the_same_tokens, outputs_keep_the_policies};
 pub use cedar_streams::{ReadFault, Watched, read_text};
+use sink::{Rest, Sink};
 pub use stream::{RunFault, check_stream, format_stream};
 
 /// The policies `ps`, laid out.
@@ -59,16 +65,32 @@ pub fn policies_str_to_pretty(
     ensures answer { MatchResult result (λ _. Accepted ps.now) (OutOfMemoryOr (Refuses ps.now)) }
     ensures output { IfOk result (λ out. IsOutputOf config.now.line_width config.now.indent_width ps.now (string_bytes out)) }
 {
-    let mut reader = PolicyReader::new(ps)?;
     let mut text = String::new(alloc);
-    'pieces: while let Some(piece) = reader.next_piece(alloc)? {
-        let layout = lay_out(alloc, piece.text, piece.policy, piece.tokens, config)?;
-        push_feed(!text.is_empty(), &mut text)?;
-        text.push_str(layout.as_str())?;
-    }
-    push_feed(text.is_empty(), &mut text)?;
-    push_closing(get_comment(reader.rest()), &mut text)?;
+    write_policies(alloc, ps, config, &mut text)?;
     Ok(text)
+}
+
+// Puts the output of a text, policy by policy.
+fn write_policies<S: Sink>(
+    alloc: Global,
+    ps: &str,
+    config: &Config,
+    sink: &mut S,
+) -> Result<(), FormatError>
+    ensures answer { MatchResult result (λ _. Accepted ps.now) (OutOfMemoryOr (Refuses ps.now)) }
+    ensures output { OnOk result ((out : List ℕ) × IsOutputOf config.now.line_width config.now.indent_width ps.now out × S.takes sink.old out sink.new) }
+{
+    let mut reader = PolicyReader::new(ps)?;
+    let mut sheet = Sheet::new(alloc);
+    let mut is_empty = true;
+    'pieces: while let Some(piece) = reader.next_piece(alloc)? {
+        let layout = lay_out(&mut sheet, piece.text, piece.policy, piece.tokens, config)?;
+        put_feed(!is_empty, sink)?;
+        sink.put(layout.as_str())?;
+        is_empty = false;
+    }
+    put_feed(is_empty, sink)?;
+    Ok(put_closing(get_comment(reader.rest()), sink)?)
 }
 
 /// Whether `ps` is a text of these policies: it is accepted, and its tree is this one but for spans. `Unsound` is answered
@@ -103,8 +125,9 @@ pub fn is_formatted(alloc: Global, ps: &str, config: &Config) -> Result<bool, Fo
 {
     outputs_are_canonical();
     listing_is_unique();
-    let text = policies_str_to_pretty(alloc, ps, config)?;
-    Ok(text.as_str() == ps)
+    let mut rest = Rest::new(ps);
+    write_policies(alloc, ps, config, &mut rest)?;
+    Ok(rest.is_used_up())
 }
 
 /// Whether `a` and `b` are laid out alike: their lists without trailing commas are equal by value. Accepted texts get an
@@ -116,13 +139,15 @@ pub fn same_layout(alloc: Global, a: &str, b: &str, config: &Config) -> Result<b
     outputs_are_canonical();
     listing_is_unique();
     let first = policies_str_to_pretty(alloc, a, config)?;
-    let second = policies_str_to_pretty(alloc, b, config)?;
-    Ok(first.as_str() == second.as_str())
+    let mut rest = Rest::new(first.as_str());
+    write_policies(alloc, b, config, &mut rest)?;
+    Ok(rest.is_used_up())
 }
 
-// The layout of a policy, with a line feed. Its tokens are held against those of the policy's text.
+// The layout of a policy, with a line feed. Its tokens are held against those of the policy's text. What stood on the sheet
+// is replaced.
 fn lay_out<'src>(
-    alloc: Global,
+    sheet: &mut Sheet<'src>,
     text: &'src str,
     policy: Node<Policy<'src>>,
     tokens: Vec<WrappedToken<'src>>,
@@ -135,11 +160,10 @@ fn lay_out<'src>(
 {
     tree_is_of_accepted();
     outputs_are_canonical();
-    let tokens = plain_tokens(alloc, tokens)?;
-    let mut context = Context { config, tokens };
-    let mut layout = policy_text(alloc, policy, &mut context)?;
+    let mut tokens = plain_tokens(sheet.allocator(), tokens)?;
+    let mut layout = policy_text(sheet, policy, tokens.as_mut_slice(), config)?;
     layout.push('\n')?;
-    if has_tokens(layout.as_str(), &context.tokens) {
+    if has_tokens(layout.as_str(), &tokens) {
         Ok(layout)
     } else {
         Err(FormatError::Unsound)
@@ -159,45 +183,61 @@ fn plain_tokens<'src>(
     Ok(tokens)
 }
 
-// The layout of a policy over its own tokens, without empty lines. The policy is dropped before its document is laid out.
+// The layout of a policy over its own tokens, without empty lines. The policy is dropped before it is laid out.
 fn policy_text<'src>(
-    alloc: Global,
+    sheet: &mut Sheet<'src>,
     policy: Node<Policy<'src>>,
-    context: &mut Context<'_, 'src>,
+    tokens: &mut [WrappedToken<'src>],
+    config: &Config,
 ) -> Result<String, FormatError>
-    requires { AreInOrder context.old.tokens.items }
-    ensures kept { KeepsTokens context.old.tokens.items context.new.tokens.items }
-    ensures text { (p : Clause Shown kind.policy) → IsAt policy.entry.span (part_yield p) → IsPartOf (erased.policy_parts policy.entry.inner) p → map shown context.old.tokens.items ≡ part_yield p
-        → MatchResult result (λ out. IsPolicyText context.old.config.now.line_width context.old.config.now.indent_width p (string_bytes out)) IsMemory }
+    requires { AreInOrder tokens.old }
+    ensures kept { KeepsTokens tokens.old tokens.new }
+    ensures text { (p : Clause Shown kind.policy) → IsAt policy.entry.span (part_yield p) → IsPartOf (erased.policy_parts policy.entry.inner) p → map shown tokens.old ≡ part_yield p
+        → MatchResult result (λ out. IsPolicyText config.now.line_width config.now.indent_width p (string_bytes out)) IsMemory }
 {
-    let width = context.config.line_width;
-    let made = policy.to_doc(alloc, context);
+    sheet.clear();
+    let wrote = write_policy(
+        sheet,
+        &policy.inner,
+        policy.span,
+        config.indent_width,
+        tokens,
+    );
     drop(policy);
-    let Some(doc) = made? else {
-        return Err(FormatError::NoDocument);
-    };
+    match wrote {
+        Ok(()) => clean_layout(sheet, config.line_width),
+        Err(NoDocument::NoToken) => Err(FormatError::NoDocument),
+        Err(NoDocument::OutOfMemory) => Err(FormatError::OutOfMemory),
+    }
+}
+
+// The layout of a sheet at a width, without empty lines.
+fn clean_layout(sheet: &mut Sheet<'_>, width: usize) -> Result<String, FormatError>
+    ensures { (d : Doc) → sheet.old ≡ flat d → MatchResult result (λ out. IsCleanLayout width d (string_bytes out)) IsMemory }
+{
+    let alloc = sheet.allocator();
     let mut layout = String::new(alloc);
-    render(alloc, &doc, width, &mut layout)?;
+    layout::lay_out(sheet, width, &mut layout)?;
     Ok(remove_empty_lines(alloc, layout.as_str())?)
 }
 
 // A line feed, where one is wanted.
-fn push_feed(is_wanted: bool, text: &mut String) -> Result<(), AllocError>
-    ensures { OnOk result (string_bytes text.new ≡ string_bytes text.old ++ (if is_wanted then line_feed ∷ [] else [])) }
+fn put_feed<S: Sink>(is_wanted: bool, sink: &mut S) -> Result<(), AllocError>
+    ensures { OnOk result (S.takes sink.old (if is_wanted then line_feed ∷ [] else []) sink.new) }
 {
     if is_wanted {
-        text.push('\n')?;
+        sink.put("\n")?;
     }
     Ok(())
 }
 
 // Each closing comment with a line feed.
-fn push_closing(closing: Comments<'_>, text: &mut String) -> Result<(), AllocError>
-    ensures { OnOk result (string_bytes text.new ≡ string_bytes text.old ++ closing_text (comments_left closing.entry)) }
+fn put_closing<S: Sink>(closing: Comments<'_>, sink: &mut S) -> Result<(), AllocError>
+    ensures { OnOk result (S.takes sink.old (closing_text (comments_left closing.entry)) sink.new) }
 {
     for comment in closing {
-        text.push_str(comment)?;
-        text.push('\n')?;
+        sink.put(comment)?;
+        sink.put("\n")?;
     }
     Ok(())
 }

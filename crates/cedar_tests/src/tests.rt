@@ -7,6 +7,7 @@ use std::process::Abort;
 
 mod answers;
 mod devices;
+mod documents;
 mod examples;
 mod large;
 mod memory;

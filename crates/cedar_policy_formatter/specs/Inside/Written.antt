@@ -7,13 +7,17 @@ use Rattle.cedar_tokens.specs.Tokens.{bare, decorated}
 use Rattle.cedar_tokens.specs.declared.token.WrappedToken.{WrappedToken}
 use Rattle.cedar_grammar.specs.TypedTrees.{Clause, policy}
 use Rattle.cedar_layout.specs.Cleaning.{IsCleaned}
-use Rattle.cedar_layout.specs.Layout.{IsTheLayoutAt}
+use Rattle.cedar_layout.specs.Layout.{Doc, IsTheLayoutAt}
 use Rattle.cedar_layout.specs.Lookups.{Shown}
 use Rattle.cedar_documents.specs.PartDocuments.{part_document}
 
--- the text of one policy: its document's layout at the width, cleaned
+-- the layout of a document at the width, cleaned
+abbrev pub IsCleanLayout : ℕ → Doc → List ℕ → Type 0
+IsCleanLayout w d y = (x : List ℕ) × IsTheLayoutAt w d x × IsCleaned x y
+
+-- the text of one policy: that of its document
 abbrev pub IsPolicyText : ℕ → ℤ → Clause Shown policy → List ℕ → Type 0
-IsPolicyText w i p y = (x : List ℕ) × IsTheLayoutAt w (part_document i p) x × IsCleaned x y
+IsPolicyText w i p y = IsCleanLayout w (part_document i p) y
 
 -- the tokens are those of the text without trailing commas
 pub record IsPlainStream (text : List ℕ) (tokens : List WrappedToken) : Type 0 where

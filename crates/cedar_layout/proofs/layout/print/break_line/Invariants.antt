@@ -1,5 +1,0 @@
-use Rattle.std.proofs.Common.{◌≡◌, ◌++◌, ◌∷◌, replicate, string_bytes}
-use Rattle.cedar_layout.proofs.layout.print.break_line.Given as goal
-
-abbrev pub invariant-loop-i : goal.invariant-loop-i
-invariant-loop-i l = string_bytes l.out ≡ string_bytes l.fn.out ++ 10 ∷ replicate l._i 32

@@ -1,0 +1,58 @@
+//! The worked layouts once more, from the documents of their policies: the formatter lays out what rows write on a sheet, and
+//! `render` what `to_doc` makes of the same rows.
+use super::rows::rows;
+use super::*;
+use cedar_policy_formatter::Context;
+use cedar_policy_formatter::doc::Doc;
+use cedar_policy_formatter::layout::render;
+use cedar_policy_formatter::lexer::{drop_trailing_commas, get_token_stream};
+use cedar_policy_formatter::utils::{in_order, remove_empty_lines};
+
+// The layouts of a text's policies, an empty line between them, and then the closing comments.
+fn rendered(
+    rt: &impl Abort,
+    alloc: Global,
+    text: &str,
+    config: &Config,
+) -> Result<String, FormatError> {
+    let tree = parse_policies(alloc, text)?;
+    let (mut tokens, closing) = get_token_stream(alloc, text)?.expect(rt, text);
+    drop_trailing_commas(alloc, &mut tokens)?;
+    let mut context = Context { config, tokens };
+    let mut out = String::new(alloc);
+    for policy in &tree.policies {
+        assert!(rt; in_order(&context.tokens));
+        let Some(doc) = policy.to_doc(alloc, &mut context)? else {
+            return Err(FormatError::NoDocument);
+        };
+        let mut layout = String::new(alloc);
+        render(alloc, &doc, config.line_width, &mut layout)?;
+        if !out.is_empty() {
+            out.push('\n')?;
+        }
+        out.push_str(remove_empty_lines(alloc, layout.as_str())?.as_str())?;
+        out.push('\n')?;
+    }
+    if out.is_empty() {
+        out.push('\n')?;
+    }
+    for comment in closing {
+        out.push_str(comment)?;
+        out.push('\n')?;
+    }
+    Ok(out)
+}
+
+fn expect_row(rt: &impl Abort, alloc: Global, row: &(usize, isize, &str, &str)) {
+    let text = expand(rt, alloc, row.2);
+    let want = expand(rt, alloc, row.3);
+    let got = rendered(rt, alloc, text.as_str(), &config(row.0, row.1)).expect(rt, row.2);
+    expect_text(rt, got.as_str(), want.as_str(), row.2);
+}
+
+#[test]
+fn layouts_from_documents(rt: HostRuntime) {
+    for row in rows() {
+        expect_row(&rt, rt.alloc(), row);
+    }
+}
