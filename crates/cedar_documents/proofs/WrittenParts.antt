@@ -8,7 +8,7 @@ use Rattle.cedar_sheet.specs.Marks.{Sign, hard_mark, line_mark, text_mark, then_
 use Rattle.cedar_document_rows.specs.NodeDocuments.{Anywhere, WritesWhere}
 use Rattle.cedar_document_rows.proofs.InTurn.{first, last, on_ok}
 
--- a document that is told otherwise
+-- the same of an equal document
 pub written_so : {A : Type 0} {m : List Sign} {a b : A} (s : List Sign) (k : A → Doc) → m ≡ written s (k a) → a ≡ b → m ≡ written s (k b)
 written_so s k h e = h ∙ ap (λ z. written s (k z)) e
 
