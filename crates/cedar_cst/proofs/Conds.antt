@@ -1,13 +1,13 @@
 -- Conditions: what reads them, and what stands for them.
 use Rattle.std.specs.Prelude.{◌≡◌, Bool, List}
 use Rattle.std.proofs.Common.{refl}
-use Rattle.cedar_grammar.specs.declared.kind.Kind.TheVariants as K
+use Rattle.cedar_tokens.specs.declared.kind.Kind.TheVariants as K
 use Rattle.cedar_grammar.specs.Trees.{Label, Forest, none, leaf, branch}
 use Rattle.cedar_grammar.specs.Reader.Reading.{Reader, done, stuck, both, tree, token, one}
 use Rattle.cedar_grammar.proofs.ReadingLaws.{tree_done, tree_fails, both_done, both_fails, both_then_fails}
 use Rattle.cedar_tree.specs.Erased.{expr_parts, cond_parts}
 use Rattle.cedar_parser_steps.specs.Reading.{kind, Stands, ident_parts}
-use Rattle.cedar_grammar.specs.Kinds.{is_cond_word}
+use Rattle.cedar_tokens.specs.Kinds.{is_cond_word}
 use Rattle.cedar_parser_steps.specs.declared.lexeme.Lexeme.{Lexeme}
 use Rattle.cedar_tree.specs.declared.tree.Cond.{Cond}
 use Rattle.cedar_parser_steps.proofs.LeafTexts.{from_to}

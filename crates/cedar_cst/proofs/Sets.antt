@@ -2,8 +2,8 @@
 use Rattle.std.specs.Prelude.{◌≡◌, ◌==◌, ℕ, suc, ◌||◌, Bool, true, false, List, [], ◌∷◌, length, Ok, Err, None}
 use Rattle.std.proofs.Common.{refl, sym, ap, ◌∙◌, inl, inr, arith}
 use Rattle.std.proofs.lemmas.Bool.Decides.{nat_tests}
-use Rattle.cedar_grammar.specs.declared.kind.Kind.TheVariants as K
-use Rattle.cedar_grammar.specs.Kinds.{is, begins, is_effect}
+use Rattle.cedar_tokens.specs.declared.kind.Kind.TheVariants as K
+use Rattle.cedar_tokens.specs.Kinds.{is, begins, is_effect}
 use Rattle.cedar_grammar.specs.Trees.{Label, Forest, none, branch}
 use Rattle.cedar_grammar.specs.Reader.Reading.{Answer, Reader, done, stuck, tree, repeat}
 use Rattle.cedar_grammar.proofs.ReadingLaws.{tree_done, tree_fails, read_end, read_fails}

@@ -4,7 +4,7 @@ use Rattle.std.specs.List.{filter, slice_get, AllByRecursion}
 use Rattle.std.proofs.Common.{refl, sym, ap, ◌∙◌, arith, inl, inr, subst, length-append}
 use Rattle.std.proofs.lemmas.Option.{slice_get_past}
 use Rattle.cedar_tokens.specs.Units.{is_token}
-use Rattle.cedar_grammar.specs.TokenKinds.{kind_of}
+use Rattle.cedar_tokens.specs.TokenKinds.{kind_of}
 use Rattle.cedar_grammar.specs.Trees.{Label, Forest, none, leaf, branch, yield}
 use Rattle.cedar_grammar.specs.Texts.{greatest_depth, LeavesGrammar}
 use Rattle.cedar_grammar.specs.Reader.Hopeless.{IsRefused}

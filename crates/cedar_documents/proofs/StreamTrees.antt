@@ -14,9 +14,9 @@ use Rattle.cedar_tokens.specs.declared.token.Token.{Token}
 use Rattle.cedar_tokens.specs.declared.token.WrappedToken.{WrappedToken}
 use Rattle.cedar_tokens.proofs.Scanning.{split_unique}
 use Rattle.cedar_grammar.specs.Trees.{Label, none, branch}
-use Rattle.cedar_grammar.specs.declared.kind.Kind.TheVariants as K
-use Rattle.cedar_grammar.specs.Kinds.{is, is_closing}
-use Rattle.cedar_grammar.specs.TokenKinds.{kind_of}
+use Rattle.cedar_tokens.specs.declared.kind.Kind.TheVariants as K
+use Rattle.cedar_tokens.specs.Kinds.{is, is_closing}
+use Rattle.cedar_tokens.specs.TokenKinds.{kind_of}
 use Rattle.cedar_grammar.specs.KindGrammar.{G}
 use Rattle.cedar_grammar.specs.Laws.{kind_of_decorated}
 use Rattle.cedar_grammar.specs.Texts.{greatest_depth, only_tokens}

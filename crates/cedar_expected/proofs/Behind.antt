@@ -8,7 +8,7 @@ use Rattle.std.proofs.lemmas.List.{length-drop}
 use Rattle.cedar_tokens.specs.Split.{SplitsInto}
 use Rattle.cedar_grammar.specs.KindGrammar.{G}
 use Rattle.cedar_grammar.specs.Placed.{Placed, placed, kind_of_placed}
-use Rattle.cedar_grammar.specs.TokenKinds.{kind_of}
+use Rattle.cedar_tokens.specs.TokenKinds.{kind_of}
 use Rattle.cedar_grammar.specs.Texts.{greatest_depth, only_tokens, Accepted, LeavesGrammar}
 use Rattle.cedar_grammar.proofs.AcceptedKinds.{is_accepted}
 use Rattle.cedar_grammar.proofs.PlacedKinds.{tree_by_kinds}

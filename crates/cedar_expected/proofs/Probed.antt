@@ -6,7 +6,7 @@ use Rattle.std.proofs.lemmas.Bool.Decides.{Decides-eqb}
 use Rattle.cedar_tokens.specs.Units.{IsToken}
 use Rattle.cedar_tokens.specs.Split.{SplitsInto}
 use Rattle.cedar_tokens.proofs.Scanning.{split_unique}
-use Rattle.cedar_grammar.specs.declared.kind.Kind.{Kind}
+use Rattle.cedar_tokens.specs.declared.kind.Kind.{Kind}
 use Rattle.cedar_grammar.specs.Beginnings.{Begins}
 use Rattle.cedar_grammar.specs.Numbers.{is_too_large}
 use Rattle.cedar_grammar.specs.Texts.{greatest_depth, only_tokens, Accepted}

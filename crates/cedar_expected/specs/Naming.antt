@@ -1,8 +1,8 @@
 -- What a message names: kinds of tokens that have a word together, or one kind.
 use Rattle.std.specs.Prelude.{Bool, ◌||◌, IsTrue, List, Contains, All, Any}
-use Rattle.cedar_grammar.specs.declared.kind.Kind.{Kind}
-use Rattle.cedar_grammar.specs.declared.kind.Kind.TheVariants as K
-use Rattle.cedar_grammar.specs.Kinds.{is, is_boolean, is_ident, is_any_word, is_effect, is_cond_word, is_comparison}
+use Rattle.cedar_tokens.specs.declared.kind.Kind.{Kind}
+use Rattle.cedar_tokens.specs.declared.kind.Kind.TheVariants as K
+use Rattle.cedar_tokens.specs.Kinds.{is, is_boolean, is_ident, is_any_word, is_effect, is_cond_word, is_comparison}
 use Rattle.cedar_grammar.specs.Reader.Rules.{expr_first}
 use Rattle.cedar_expected.specs.declared.kinds.Name.{Name}
 use Rattle.cedar_expected.specs.declared.kinds.Name.TheVariants.{Policy, Condition, Word, Expression, Operand, FlatOperand, Identifier, Operator, ArithmeticOrLogical, Token}

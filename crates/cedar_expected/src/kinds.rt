@@ -3,7 +3,8 @@ ghost use Rattle.std.specs.Prelude.{◌≡◌, ◌↔◌, Contains, Any, IsTrue,
 ghost use Rattle.cedar_expected.specs.Naming.{names, AreIn, AreNamed, is_flat, is_opening, is_arithmetic_or_logical, is_relational};
 
 use crate::samples::all_kinds;
-use cedar_grammar::kind::Kind;
+use cedar_grammar::kind::begins_expression;
+use cedar_tokens::kind::Kind;
 use std::alloc::{AllocError, Global};
 
 /// A set of kinds of tokens.
@@ -47,7 +48,7 @@ impl Name {
             Name::Policy => kind == Kind::At || kind.is_effect(),
             Name::Condition => kind.is_cond_word(),
             Name::Word => kind.is_word(),
-            Name::Expression => kind.begins_expression(),
+            Name::Expression => begins_expression(kind),
             Name::Operand => is_flat(kind) || is_opening(kind),
             Name::FlatOperand => is_flat(kind),
             Name::Identifier => kind.is_identifier(),

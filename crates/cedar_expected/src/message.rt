@@ -2,7 +2,7 @@
 use crate::expectation::Expected;
 use crate::kinds::Name;
 use crate::samples::sample;
-use cedar_grammar::kind::Kind;
+use cedar_tokens::kind::Kind;
 use std::fmt;
 
 // How many characters of a token are printed.

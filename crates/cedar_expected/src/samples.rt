@@ -2,7 +2,7 @@
 ghost use Rattle.std.specs.Prelude.{◌≡◌};
 ghost use Rattle.cedar_expected.specs.Inside.Samples.{all_kinds, sample};
 
-use cedar_grammar::kind::Kind;
+use cedar_tokens::kind::Kind;
 
 /// All kinds, in the order of `Kind`.
 pub fn all_kinds() -> [Kind; 48]

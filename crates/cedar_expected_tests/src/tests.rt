@@ -2,7 +2,7 @@
 use cedar_cst::cst::parse_policies;
 use cedar_expected::expected::expected;
 use cedar_expected::explain::explain;
-use cedar_grammar::kind::{Kind, kind_of};
+use cedar_tokens::kind::{Kind, kind_of};
 use std::alloc::{AllocError, Global};
 use std::process::Abort;
 

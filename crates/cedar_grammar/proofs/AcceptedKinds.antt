@@ -7,7 +7,7 @@ use Rattle.cedar_grammar.specs.Trees.{Label, Forest}
 use Rattle.cedar_grammar.specs.KindGrammar.{G}
 use Rattle.cedar_grammar.specs.Laws.{AreTokens}
 use Rattle.cedar_grammar.specs.Numbers.{is_too_large}
-use Rattle.cedar_grammar.specs.TokenKinds.{kind_of}
+use Rattle.cedar_tokens.specs.TokenKinds.{kind_of}
 use Rattle.cedar_grammar.specs.Texts.{greatest_depth, only_tokens, IsAccepted}
 use Rattle.cedar_grammar.proofs.SameGrammars.{grammars_agree}
 

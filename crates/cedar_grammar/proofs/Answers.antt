@@ -1,7 +1,7 @@
 -- What the reader's answer says of the list, in the grammar's words.
 use Rattle.std.specs.Prelude.{◌≡◌, ℕ, Bool, true, false, List, [], ◌∷◌, ◌++◌, IsTrue, ◌⊎◌}
 use Rattle.std.proofs.Common.{refl, sym, ap, ◌∙◌, append-nil, inl, inr}
-use Rattle.cedar_grammar.specs.declared.kind.Kind.{Kind}
+use Rattle.cedar_tokens.specs.declared.kind.Kind.{Kind}
 use Rattle.cedar_grammar.specs.Trees.{Label, Forest, yield}
 use Rattle.cedar_grammar.specs.KindGrammar.{G, PolicySet}
 use Rattle.cedar_grammar.specs.Reader.Reading.{Answer, done, stuck}

@@ -1,10 +1,10 @@
 -- With more room a reader does the same, but where it failed by depth alone it goes on.
 use Rattle.std.specs.Prelude.{◌≡◌, ℕ, zero, suc, ◌<◌, ◌≤◌, Bool, true, false, List, [], ◌∷◌, length}
 use Rattle.std.proofs.Common.{refl, sym, ap, ◌∙◌, arith, length-append, subst}
-use Rattle.cedar_grammar.specs.declared.kind.Kind.{Kind}
+use Rattle.cedar_tokens.specs.declared.kind.Kind.{Kind}
 use Rattle.cedar_grammar.specs.Trees.{Label, Forest, yield}
 use Rattle.cedar_grammar.specs.Reader.Reading.{Answer, Reader, done, stuck, choice, both, skip, tree, nest, too_deep, many, repeat, token}
-use Rattle.cedar_grammar.specs.Kinds.{begins}
+use Rattle.cedar_tokens.specs.Kinds.{begins}
 use Rattle.cedar_grammar.proofs.ReadingLaws.{choice_yes, choice_no, both_done, both_fails, both_then_fails, tree_done, tree_fails, token_yes, token_no, token_end, token_begins}
 use Rattle.cedar_grammar.proofs.PlaceLaws.{Local}
 

@@ -1,7 +1,7 @@
 -- What was read before a failure can be completed; what fails by depth alone goes on where there is room.
 use Rattle.std.specs.Prelude.{◌≡◌, ℕ, zero, suc, Bool, true, false, List, [], ◌∷◌, ◌++◌, length, IsTrue, ◌⊎◌}
 use Rattle.std.proofs.Common.{refl, sym, ap, ◌∙◌, append_assoc, append-nil, inl, inr}
-use Rattle.cedar_grammar.specs.declared.kind.Kind.{Kind}
+use Rattle.cedar_tokens.specs.declared.kind.Kind.{Kind}
 use Rattle.cedar_grammar.specs.Trees.{Label, Forest, none, branch, yield, join}
 use Rattle.cedar_grammar.specs.Languages.{Lang, ◌⋄◌, Many, no_more, one_more, Branch, Of}
 use Rattle.cedar_grammar.specs.Reader.Reading.{Answer, Reader, done, stuck, choice, both, skip, tree, nest, too_deep, many, repeat, token}

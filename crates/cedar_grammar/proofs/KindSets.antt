@@ -1,9 +1,9 @@
 -- Tests of sets over all kinds; a test gives the fact for each kind.
 use Rattle.std.specs.Prelude.{◌≡◌, ℕ, zero, suc, Bool, true, false, ◌||◌, ◌&&◌, not, IsTrue, List, [], ◌∷◌}
 use Rattle.std.proofs.Common.{refl}
-use Rattle.cedar_grammar.specs.declared.kind.Kind.{Kind}
-use Rattle.cedar_grammar.specs.declared.kind.Kind.TheVariants as K
-use Rattle.cedar_grammar.specs.Kinds.{code}
+use Rattle.cedar_tokens.specs.declared.kind.Kind.{Kind}
+use Rattle.cedar_tokens.specs.declared.kind.Kind.TheVariants as K
+use Rattle.cedar_tokens.specs.Kinds.{code}
 
 abbrev pub kinds : List Kind
 kinds = K.True ∷ K.False ∷ K.If ∷ K.Then ∷ K.Else ∷ K.In ∷ K.Is ∷ K.Like ∷ K.Has ∷ K.Permit ∷ K.Forbid ∷ K.When ∷ K.Unless ∷ K.Principal ∷ K.Action ∷ K.Resource ∷ K.Context ∷ K.Identifier ∷ K.PrincipalSlot ∷ K.ResourceSlot ∷ K.Number ∷ K.Str ∷ K.At ∷ K.Dot ∷ K.Comma ∷ K.SemiColon ∷ K.Colon ∷ K.DoubleColon ∷ K.LParen ∷ K.RParen ∷ K.LBrace ∷ K.RBrace ∷ K.LBracket ∷ K.RBracket ∷ K.Equal ∷ K.NotEqual ∷ K.Lt ∷ K.Le ∷ K.Gt ∷ K.Ge ∷ K.Or ∷ K.And ∷ K.Add ∷ K.Dash ∷ K.Mul ∷ K.Div ∷ K.Modulo ∷ K.Neg ∷ []

@@ -10,7 +10,7 @@ use Rattle.cedar_grammar.specs.KindGrammar.{G}
 use Rattle.cedar_grammar.specs.Laws.{AreTokens}
 use Rattle.cedar_grammar.specs.Beginnings.{Begins}
 use Rattle.cedar_grammar.specs.Numbers.{is_too_large}
-use Rattle.cedar_grammar.specs.TokenKinds.{kind_of}
+use Rattle.cedar_tokens.specs.TokenKinds.{kind_of}
 use Rattle.cedar_grammar.specs.Texts.{greatest_depth, only_tokens, LeaveAfter, LeavesGrammar}
 use Rattle.cedar_grammar.specs.Reader.Hopeless.{BeginsByKinds, IsRefused}
 use Rattle.cedar_grammar.proofs.SameLanguages.{whole}

@@ -1,10 +1,10 @@
 -- Where a reader stops depends on the tokens through that place alone.
 use Rattle.std.specs.Prelude.{◌≡◌, ℕ, zero, suc, ◌<◌, Bool, true, false, List, [], ◌∷◌, ◌++◌, length}
 use Rattle.std.proofs.Common.{refl, sym, ap, ◌∙◌, arith, append_assoc, append-nil}
-use Rattle.cedar_grammar.specs.declared.kind.Kind.{Kind}
+use Rattle.cedar_tokens.specs.declared.kind.Kind.{Kind}
 use Rattle.cedar_grammar.specs.Trees.{Label, Forest, none, leaf, branch, yield, join}
 use Rattle.cedar_grammar.specs.Reader.Reading.{Answer, Reader, done, stuck, after, choice, both, skip, tree, nest, too_deep, many, repeat, token}
-use Rattle.cedar_grammar.specs.Kinds.{begins}
+use Rattle.cedar_tokens.specs.Kinds.{begins}
 use Rattle.cedar_grammar.proofs.ReadingLaws.{choice_yes, choice_no, both_done, both_fails, both_then_fails, tree_done, tree_fails, Takes, many_step, many_end, many_fails, repeat_step, repeat_end, repeat_fails, token_yes, token_no, token_end}
 use Rattle.cedar_grammar.proofs.LanguageLaws.{yield_join_more}
 

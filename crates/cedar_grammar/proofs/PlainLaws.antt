@@ -3,9 +3,9 @@ use Rattle.std.specs.Prelude.{◌≡◌, ℕ, zero, suc, Bool, true, false, ◌|
 use Rattle.std.proofs.Common.{refl, sym, ap, ◌∙◌, inl, inr, append_assoc, append-nil, subst}
 use borrow.Author.Tests.{eqb-true}
 use Rattle.cedar_grammar.proofs.KindSets.{apart, and_left, and_right, not_true, apart_at}
-use Rattle.cedar_grammar.specs.declared.kind.Kind.{Kind}
-use Rattle.cedar_grammar.specs.declared.kind.Kind.TheVariants as K
-use Rattle.cedar_grammar.specs.Kinds.{is, code, is_variable, begins, is_closing}
+use Rattle.cedar_tokens.specs.declared.kind.Kind.{Kind}
+use Rattle.cedar_tokens.specs.declared.kind.Kind.TheVariants as K
+use Rattle.cedar_tokens.specs.Kinds.{is, code, is_variable, begins, is_closing}
 use Rattle.cedar_grammar.specs.Trees.{Label, Forest, none, leaf, yield, join}
 use Rattle.cedar_grammar.specs.Trees as L
 use Rattle.cedar_grammar.specs.Languages.{Lang, Many, no_more, one_more}

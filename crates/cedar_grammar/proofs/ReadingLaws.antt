@@ -1,10 +1,10 @@
 -- Equations of the readers.
 use Rattle.std.specs.Prelude.{◌≡◌, ℕ, zero, suc, ◌<◌, ◌≤◌, Bool, true, false, List, [], ◌∷◌, length}
 use Rattle.std.proofs.Common.{refl, sym, ap, ◌∙◌, arith}
-use Rattle.cedar_grammar.specs.declared.kind.Kind.{Kind}
+use Rattle.cedar_tokens.specs.declared.kind.Kind.{Kind}
 use Rattle.cedar_grammar.specs.Trees.{Label, Forest, none, leaf, branch, join}
 use Rattle.cedar_grammar.specs.Reader.Reading.{Answer, Reader, done, stuck, after, choice, both, tree, many, repeat, token}
-use Rattle.cedar_grammar.specs.Kinds.{begins}
+use Rattle.cedar_tokens.specs.Kinds.{begins}
 
 pub join_none : {L A : Type 0} → (f : Forest L A) → join f none ≡ f
 join_none none = refl

@@ -1,8 +1,8 @@
 -- Where a rule's reader stops depends on the tokens through that place alone.
 use Rattle.std.specs.Prelude.{◌≡◌, ℕ, zero, suc, ◌<◌, ◌≤◌, ◌+◌, Bool, true, false, IsTrue, List, [], ◌∷◌, ◌++◌, length}
 use Rattle.std.proofs.Common.{refl, sym, ap, ◌∙◌, arith, length-append}
-use Rattle.cedar_grammar.specs.declared.kind.Kind.{Kind}
-use Rattle.cedar_grammar.specs.Kinds.{is, begins}
+use Rattle.cedar_tokens.specs.declared.kind.Kind.{Kind}
+use Rattle.cedar_tokens.specs.Kinds.{is, begins}
 use Rattle.cedar_grammar.proofs.KindSets.{and_left, and_right, not_true}
 use Rattle.cedar_grammar.specs.Trees.{Label, Forest, none, leaf, yield, join}
 use Rattle.cedar_grammar.specs.Languages.{Lang}

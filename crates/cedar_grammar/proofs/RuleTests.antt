@@ -1,7 +1,7 @@
 -- The rules mean the lines of the grammar, and pass the tests that the laws need.
 use Rattle.std.specs.Prelude.{◌≡◌, ℕ, Bool, true, false, IsTrue}
 use Rattle.std.proofs.Common.{refl}
-use Rattle.cedar_grammar.specs.declared.kind.Kind.{Kind}
+use Rattle.cedar_tokens.specs.declared.kind.Kind.{Kind}
 use Rattle.cedar_grammar.proofs.KindSets.{within}
 use Rattle.cedar_grammar.specs.Languages.{Lang}
 use Rattle.cedar_grammar.specs.KindGrammar as G

@@ -3,13 +3,13 @@ use Rattle.std.proofs.Common.{◌≡◌, ℕ, zero, suc, Bool, true, false, ◌|
 use Rattle.std.specs.Prelude.{codes}
 use Prim.Native.String.{String}
 use Rattle.cedar_tokens.specs.Units.{is_word, is_number, is_string}
-use Rattle.cedar_grammar.specs.declared.kind.Kind.{Kind}
-use Rattle.cedar_grammar.specs.declared.kind.Kind.TheVariants as K
-use Rattle.cedar_grammar.specs.Kinds.{is, is_any_word, is_ident, is_comparison, is_boolean, is_variable, is_effect, is_cond_word}
+use Rattle.cedar_tokens.specs.declared.kind.Kind.{Kind}
+use Rattle.cedar_tokens.specs.declared.kind.Kind.TheVariants as K
+use Rattle.cedar_tokens.specs.Kinds.{is, is_any_word, is_ident, is_comparison, is_boolean, is_variable, is_effect, is_cond_word}
 use Rattle.cedar_grammar.specs.Trees.{Label}
 use Rattle.cedar_grammar.specs.Languages.{Lang, ◌∪◌, Of}
 use Rattle.cedar_grammar.specs.KindGrammar as G
-use Rattle.cedar_grammar.specs.TokenKinds.{kind_of}
+use Rattle.cedar_tokens.specs.TokenKinds.{kind_of}
 use Rattle.cedar_grammar.specs.Grammar as T
 use Rattle.cedar_grammar.specs.Laws.{AreTokens, GrammarsAgree, TextsAreTokens}
 use Rattle.cedar_grammar.proofs.TextTests.{has_text, number_agrees, string_agrees, any_word_agrees, ident_agrees, number_is_token, string_is_token, word_is_token, ident_is_token}

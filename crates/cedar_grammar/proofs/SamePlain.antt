@@ -2,11 +2,11 @@
 use Rattle.std.proofs.Common.{◌≡◌, ℕ, Bool, true, false, ◌&&◌, List, refl, ap, sym, ◌∙◌}
 use Rattle.std.specs.Prelude.{if◌then◌else◌}
 use Rattle.cedar_tokens.specs.PlainList.{is_comma}
-use Rattle.cedar_grammar.specs.declared.kind.Kind.{Kind}
-use Rattle.cedar_grammar.specs.declared.kind.Kind.TheVariants as K
-use Rattle.cedar_grammar.specs.Kinds.{is}
+use Rattle.cedar_tokens.specs.declared.kind.Kind.{Kind}
+use Rattle.cedar_tokens.specs.declared.kind.Kind.TheVariants as K
+use Rattle.cedar_tokens.specs.Kinds.{is}
 use Rattle.cedar_grammar.specs.Trees.{Label, Forest, none, leaf, branch}
-use Rattle.cedar_grammar.specs.TokenKinds.{kind_of}
+use Rattle.cedar_tokens.specs.TokenKinds.{kind_of}
 use Rattle.cedar_grammar.specs.PlainTrees.{closes, plain_trees}
 use Rattle.cedar_grammar.specs.TrailingCommas.{drop_if, closes_next, without_trailing}
 use Rattle.cedar_grammar.proofs.TextKinds.{comma_agrees, closing_agrees}

@@ -11,10 +11,10 @@ use Rattle.cedar_tokens.specs.Inside.Scanners.{IsNotFixed}
 use Rattle.cedar_tokens.specs.Listing.{Decorated}
 use Rattle.cedar_tokens.specs.PlainList.{is_comma, is_closing_bracket, is_trailing_comma, touches, with_trailing_of, with_lines_of, plain_from}
 use Rattle.cedar_tokens.proofs.Prefixes.{and_parts, apart_from}
-use Rattle.cedar_grammar.specs.declared.kind.Kind.{Kind}
-use Rattle.cedar_grammar.specs.declared.kind.Kind.TheVariants as K
-use Rattle.cedar_grammar.specs.Kinds.{is, is_closing, begins}
-use Rattle.cedar_grammar.specs.TokenKinds.{fixed_tokens, other_kind, kind_among, kind_of}
+use Rattle.cedar_tokens.specs.declared.kind.Kind.{Kind}
+use Rattle.cedar_tokens.specs.declared.kind.Kind.TheVariants as K
+use Rattle.cedar_tokens.specs.Kinds.{is, is_closing, begins}
+use Rattle.cedar_tokens.specs.TokenKinds.{fixed_tokens, other_kind, kind_among, kind_of}
 use Rattle.cedar_grammar.specs.TrailingCommas.{drop_if, plain}
 use Rattle.cedar_grammar.specs.Laws.{PlainTextsAgree}
 use Rattle.cedar_grammar.proofs.KindSets.{apart_at}
@@ -74,27 +74,6 @@ samples K.Neg = (codes "!", refl)
 abbrev pub NotIn : List (List ℕ × Kind) → List ℕ → Type 0
 NotIn [] text = Unit {0}
 NotIn (f ∷ fs) text = (bytes_eq f.0 text ≡ false) × NotIn fs text
-
-abbrev pub IsNone : List (List ℕ × Kind) → List ℕ → Type 0
-IsNone [] text = Unit {0}
-IsNone (f ∷ fs) text = (text ≢ f.0) × IsNone fs text
-
-pub kind_among-none : (fs : List (List ℕ × Kind)) (text : List ℕ) → IsNone fs text → kind_among fs text ≡ other_kind text
-kind_among-none [] text n = refl
-kind_among-none (f ∷ fs) text (d, n) = ap (λ b. if b then f.1 else kind_among fs text) (differ (bytes_eq f.0 text) refl) ∙ kind_among-none fs text n
-  where
-    differ : (x : Bool) → bytes_eq f.0 text ≡ x → x ≡ false
-    differ true e = absurd (d (sym ((bytes_eq-Decides f.0 text).0 e)))
-    differ false e = refl
-
--- a text that is no keyword, no slot and no punctuator has one of the other kinds
-pub kind_of-not_fixed : (text : List ℕ) → IsNotFixed text → kind_of text ≡ other_kind text
-unfolding keywords slots punctuators
-kind_of-not_fixed text (a, b, c) =
-    let k = apart_from keywords text a in
-    let s = apart_from slots text b in
-    let p = apart_from punctuators text c in
-    kind_among-none fixed_tokens text (k.0, (k.1.0, (k.1.1.0, (k.1.1.1.1.1.1.1.1.1.1.1.0, (k.1.1.1.1.1.1.1.1.1.1.1.1.0, (k.1.1.1.1.1.1.1.0, (k.1.1.1.1.1.1.1.1.1.1.0, (k.1.1.1.1.1.1.1.1.1.0, (k.1.1.1.1.1.1.1.1.0, (k.1.1.1.0, (k.1.1.1.1.0, (k.1.1.1.1.1.0, (k.1.1.1.1.1.1.0, (k.1.1.1.1.1.1.1.1.1.1.1.1.1.0, (k.1.1.1.1.1.1.1.1.1.1.1.1.1.1.0, (k.1.1.1.1.1.1.1.1.1.1.1.1.1.1.1.0, (k.1.1.1.1.1.1.1.1.1.1.1.1.1.1.1.1.0, (s.0, (s.1.0, (p.0, (p.1.0, (p.1.1.0, (p.1.1.1.0, (p.1.1.1.1.0, (p.1.1.1.1.1.0, (p.1.1.1.1.1.1.0, (p.1.1.1.1.1.1.1.0, (p.1.1.1.1.1.1.1.1.0, (p.1.1.1.1.1.1.1.1.1.0, (p.1.1.1.1.1.1.1.1.1.1.0, (p.1.1.1.1.1.1.1.1.1.1.1.0, (p.1.1.1.1.1.1.1.1.1.1.1.1.0, (p.1.1.1.1.1.1.1.1.1.1.1.1.1.0, (p.1.1.1.1.1.1.1.1.1.1.1.1.1.1.0, (p.1.1.1.1.1.1.1.1.1.1.1.1.1.1.1.0, (p.1.1.1.1.1.1.1.1.1.1.1.1.1.1.1.1.0, (p.1.1.1.1.1.1.1.1.1.1.1.1.1.1.1.1.1.0, (p.1.1.1.1.1.1.1.1.1.1.1.1.1.1.1.1.1.1.0, (p.1.1.1.1.1.1.1.1.1.1.1.1.1.1.1.1.1.1.1.0, (p.1.1.1.1.1.1.1.1.1.1.1.1.1.1.1.1.1.1.1.1.0, (p.1.1.1.1.1.1.1.1.1.1.1.1.1.1.1.1.1.1.1.1.1.0, (p.1.1.1.1.1.1.1.1.1.1.1.1.1.1.1.1.1.1.1.1.1.1.0, (p.1.1.1.1.1.1.1.1.1.1.1.1.1.1.1.1.1.1.1.1.1.1.1.0, (p.1.1.1.1.1.1.1.1.1.1.1.1.1.1.1.1.1.1.1.1.1.1.1.1.0, (p.1.1.1.1.1.1.1.1.1.1.1.1.1.1.1.1.1.1.1.1.1.1.1.1.1.0, tt)))))))))))))))))))))))))))))))))))))))))))))
 
 -- a number's kind
 abbrev none_numbers : List (List ℕ × Kind) → Bool

@@ -8,10 +8,10 @@ use Rattle.std.proofs.lemmas.Bool.Decides.{nat_tests}
 use Rattle.cedar_tokens.specs.Units.{IsToken, is_token, is_word, is_number, is_string, is_one_of, is_word_start, slots, punctuators}
 use Rattle.cedar_tokens.proofs.Prefixes.{and_parts, or_right}
 use Rattle.cedar_tokens.proofs.Heads.{class, word, number, string, slot, punctuator, token_of, no_empty_token, one_of}
-use Rattle.cedar_grammar.specs.declared.kind.Kind.{Kind}
-use Rattle.cedar_grammar.specs.declared.kind.Kind.TheVariants as K
-use Rattle.cedar_grammar.specs.Kinds.{is, is_any_word, is_ident}
-use Rattle.cedar_grammar.specs.TokenKinds.{fixed_tokens, other_kind, kind_among, kind_of}
+use Rattle.cedar_tokens.specs.declared.kind.Kind.{Kind}
+use Rattle.cedar_tokens.specs.declared.kind.Kind.TheVariants as K
+use Rattle.cedar_tokens.specs.Kinds.{is, is_any_word, is_ident}
+use Rattle.cedar_tokens.specs.TokenKinds.{fixed_tokens, other_kind, kind_among, kind_of}
 use Rattle.cedar_grammar.specs.Grammar.{reserved}
 
 -- ---- the table of tokens that have one text

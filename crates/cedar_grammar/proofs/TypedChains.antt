@@ -1,10 +1,10 @@
 -- From forests to typed trees: chains, names and items.
 use Rattle.std.specs.Prelude.{◌≡◌, Bool, true, false, ◌||◌, ◌&&◌, IsTrue, nat_eq}
 use Rattle.std.proofs.Common.{refl, sym, ap, ◌∙◌, inl, inr}
-use Rattle.cedar_grammar.specs.declared.kind.Kind.{Kind}
-use Rattle.cedar_grammar.specs.declared.kind.Kind.TheVariants as K
+use Rattle.cedar_tokens.specs.declared.kind.Kind.{Kind}
+use Rattle.cedar_tokens.specs.declared.kind.Kind.TheVariants as K
 use borrow.Author.Tests.{eqb-true}
-use Rattle.cedar_grammar.specs.Kinds.{is, code, is_closing}
+use Rattle.cedar_tokens.specs.Kinds.{is, code, is_closing}
 use Rattle.cedar_grammar.specs.Trees.{Label, Forest, none, leaf, branch, join}
 use Rattle.cedar_grammar.specs.Trees as L
 use Rattle.cedar_grammar.specs.Languages.{Lang, ◌⋄◌, ◌∪◌, Empty, Many, no_more, one_more, Branch, Of}
@@ -13,7 +13,7 @@ use Rattle.cedar_grammar.specs.TrailingCommas.{drop_if, closes_next, without_tra
 use Rattle.cedar_grammar.specs.TypedTrees as T
 use Rattle.cedar_grammar.specs.TypedTrees.{NodeKind, parts}
 use Rattle.cedar_grammar.proofs.FittingLeaves.{Fits, is_atom}
-use Rattle.cedar_grammar.specs.Kinds.{is_ident}
+use Rattle.cedar_tokens.specs.Kinds.{is_ident}
 use Rattle.cedar_grammar.proofs.KindSets.{within_at}
 
 module _ {A : Type 0} (kind : A → Kind) where

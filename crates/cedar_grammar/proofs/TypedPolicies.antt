@@ -1,9 +1,9 @@
 -- Each policy of the grammar, without trailing commas, is that of a typed tree.
 use Rattle.std.specs.Prelude.{◌≡◌, ℕ, false, IsTrue, List, [], ◌∷◌}
 use Rattle.std.proofs.Common.{refl, ap, ◌∙◌, inl, inr}
-use Rattle.cedar_grammar.specs.declared.kind.Kind.{Kind}
-use Rattle.cedar_grammar.specs.declared.kind.Kind.TheVariants as K
-use Rattle.cedar_grammar.specs.Kinds.{is, is_closing}
+use Rattle.cedar_tokens.specs.declared.kind.Kind.{Kind}
+use Rattle.cedar_tokens.specs.declared.kind.Kind.TheVariants as K
+use Rattle.cedar_tokens.specs.Kinds.{is, is_closing}
 use Rattle.cedar_grammar.specs.Trees.{Label, Forest, none, leaf, branch, join}
 use Rattle.cedar_grammar.specs.Trees as L
 use Rattle.cedar_grammar.specs.Languages.{◌⋄◌, ◌∪◌, Empty, Many, no_more, one_more, Maybe, Branch}
@@ -11,7 +11,7 @@ use Rattle.cedar_grammar.specs.KindGrammar as G
 use Rattle.cedar_grammar.specs.TrailingCommas.{without_trailing}
 use Rattle.cedar_grammar.specs.TypedTrees as T
 use Rattle.cedar_grammar.specs.TypedTrees.{PartKind, Clause, parts, part_parts, policy_trees, set_tree}
-use Rattle.cedar_grammar.specs.Kinds.{is_any_word, is_effect, is_cond_word}
+use Rattle.cedar_tokens.specs.Kinds.{is_any_word, is_effect, is_cond_word}
 use Rattle.cedar_grammar.proofs.FittingLeaves.{PartFits, is_atom}
 use Rattle.std.specs.List.{AllByRecursion}
 use Rattle.cedar_grammar.proofs.KindSets.{within, within_at}

@@ -7,8 +7,8 @@ use Rattle.std.proofs.Math.Seq.{drop-append_seam}
 use Rattle.std.proofs.lemmas.List.Sums.{sum_by-cons}
 use Rattle.cedar_tokens.specs.Units.{is_token}
 use Rattle.cedar_tokens.specs.Split.{SplitsInto}
-use Rattle.cedar_grammar.specs.declared.kind.Kind.{Kind}
-use Rattle.cedar_grammar.specs.TokenKinds.{kind_of}
+use Rattle.cedar_tokens.specs.declared.kind.Kind.{Kind}
+use Rattle.cedar_tokens.specs.TokenKinds.{kind_of}
 use Rattle.cedar_grammar.specs.Reader.Hopeless.{Hopeless, Unfinished, IsRefused}
 use Rattle.cedar_grammar.specs.KindGrammar.{G}
 use Rattle.cedar_grammar.specs.Numbers.{is_too_large, IsFirstTooLarge}

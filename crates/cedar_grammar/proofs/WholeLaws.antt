@@ -1,7 +1,7 @@
 -- The laws of the whole grammar.
 use Rattle.std.specs.Prelude.{◌≡◌, ℕ, zero, suc, Bool, true, false, List, [], ◌∷◌, IsTrue}
 use Rattle.std.proofs.Common.{refl, sym, ap, ◌∙◌, append-nil}
-use Rattle.cedar_grammar.specs.declared.kind.Kind.{Kind}
+use Rattle.cedar_tokens.specs.declared.kind.Kind.{Kind}
 use Rattle.cedar_grammar.proofs.KindSets.{within_at}
 use Rattle.cedar_grammar.specs.Trees.{Label, Forest, yield}
 use Rattle.cedar_grammar.specs.Languages.{Lang, Never}

@@ -1,5 +1,3 @@
-pub mod Kinds
-pub mod TokenKinds
 pub mod Trees
 pub mod Languages
 pub mod Grammar

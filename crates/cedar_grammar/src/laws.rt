@@ -1,7 +1,7 @@
 //! Laws of the grammar. They speak of the definitions alone, so their bodies do nothing.
 ghost use Rattle.std.specs.Prelude.{ℕ, List};
 ghost use Rattle.cedar_tokens.specs.Listing.{Decorated};
-ghost use Rattle.cedar_grammar.specs.TokenKinds.{kind_of};
+ghost use Rattle.cedar_tokens.specs.TokenKinds.{kind_of};
 ghost use Rattle.cedar_grammar.specs.Placed.{Placed, kind_of_placed};
 ghost use Rattle.cedar_grammar.specs.Laws.{GrammarsAgree, TextsAreTokens, ListHasOneTree, GrammarIsDecidable, DeeperHasMore, LeavesArePlain, PlainIsInTheGrammar, CommasStandAlone, PlainIsPlain, EveryTreeIsTyped, TypedTreeIsUnique, TypedLeavesAgree, PlainTextsAgree, kind_of_decorated};
 

@@ -9,9 +9,9 @@ use Rattle.cedar_tokens.specs.PlainList.{plain_list}
 use Rattle.cedar_tokens.proofs.Prefixes.{and_parts}
 use Rattle.cedar_tokens.proofs.Scanning.{split_unique}
 use Rattle.cedar_tokens.proofs.Longest.{is_token-number}
-use Rattle.cedar_grammar.specs.declared.kind.Kind.TheVariants as K
-use Rattle.cedar_grammar.specs.Kinds.{is, is_closing, begins}
-use Rattle.cedar_grammar.specs.TokenKinds.{kind_of}
+use Rattle.cedar_tokens.specs.declared.kind.Kind.TheVariants as K
+use Rattle.cedar_tokens.specs.Kinds.{is, is_closing, begins}
+use Rattle.cedar_tokens.specs.TokenKinds.{kind_of}
 use Rattle.cedar_grammar.specs.KindGrammar.{G}
 use Rattle.cedar_grammar.specs.Laws.{kind_of_decorated}
 use Rattle.cedar_grammar.specs.Numbers.{is_too_large}

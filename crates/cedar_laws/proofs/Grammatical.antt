@@ -4,10 +4,10 @@ use Rattle.cedar_tokens.specs.Units.{is_number, is_token, IsToken}
 use Rattle.cedar_tokens.specs.Listing.{Decorated, Listing, IsListing, token_value, without_zeros}
 use Rattle.cedar_tokens.specs.PlainList.{plain_list, plain_from}
 use Rattle.cedar_tokens.proofs.Scanning.{split_unique}
-use Rattle.cedar_grammar.specs.declared.kind.Kind.{Kind}
-use Rattle.cedar_grammar.specs.declared.kind.Kind.TheVariants as K
-use Rattle.cedar_grammar.specs.Kinds.{is, is_closing, begins}
-use Rattle.cedar_grammar.specs.TokenKinds.{kind_of}
+use Rattle.cedar_tokens.specs.declared.kind.Kind.{Kind}
+use Rattle.cedar_tokens.specs.declared.kind.Kind.TheVariants as K
+use Rattle.cedar_tokens.specs.Kinds.{is, is_closing, begins}
+use Rattle.cedar_tokens.specs.TokenKinds.{kind_of}
 use Rattle.cedar_grammar.specs.Trees.{Label, Forest, yield}
 use Rattle.cedar_grammar.specs.Grammar.{IsSyntaxTree}
 use Rattle.cedar_grammar.specs.KindGrammar.{G, PolicySet}

@@ -3,8 +3,8 @@
 use Rattle.std.specs.Prelude.{ℕ, ℤ, pos, List, [], ◌∷◌, Bool, true, false, if◌then◌else◌, ◌&&◌}
 use Rattle.cedar_tokens.specs.Listing.{Decorated, token_value}
 use Rattle.cedar_grammar.specs.Trees.{yield}
-use Rattle.cedar_grammar.specs.declared.kind.Kind.{Kind}
-use Rattle.cedar_grammar.specs.TokenKinds.{other_kind}
+use Rattle.cedar_tokens.specs.declared.kind.Kind.{Kind}
+use Rattle.cedar_tokens.specs.TokenKinds.{other_kind}
 use Rattle.cedar_grammar.specs.TypedTrees.{Tree, NodeKind, PartKind, Clause, accesses, variable, parts, map_first, conds, name_one, name_more, ref_of, args_one, args_more, init_of, inits_one, inits_more, literal, slot, reference, named, parens, list_empty, list_of, record_empty, record_of, no_access, field, call_empty, call, index, member_of, unsigned, signed, products_one, products_more, mult_of, sums_one, sums_more, add_of, single, compare, has_or_like, is_type, is_in, ands_one, ands_more, ors_one, ors_more, ors_expr, if_expr, variable_bare, variable_is, variable_op, variable_is_op, cond_of, no_cond, conds_more, annotation_bare, annotation_value, no_annotation, annotations_more, policy_of}
 pub use Rattle.cedar_layout.specs.Comments.{space, broken_lines, lead_of, trail_of}
 use Rattle.cedar_layout.specs.Layout.{Doc, nil, line, line_or_nil, hard, text, ◌·◌, nest, group}

@@ -2,9 +2,9 @@
 use Rattle.std.specs.Prelude.{◌≡◌, ℕ, zero, suc, Bool, true, false, IsTrue, List, [], ◌∷◌, ◌++◌}
 use Rattle.std.proofs.Common.{refl, ap, ◌∙◌, sym}
 use Rattle.cedar_tokens.specs.declared.token.Span.{Span}
-use Rattle.cedar_grammar.specs.declared.kind.Kind.{Kind}
-use Rattle.cedar_grammar.specs.declared.kind.Kind.TheVariants as K
-use Rattle.cedar_grammar.specs.Kinds.{is, begins}
+use Rattle.cedar_tokens.specs.declared.kind.Kind.{Kind}
+use Rattle.cedar_tokens.specs.declared.kind.Kind.TheVariants as K
+use Rattle.cedar_tokens.specs.Kinds.{is, begins}
 use Rattle.cedar_grammar.specs.KindGrammar as G
 use Rattle.cedar_grammar.specs.Languages.{Lang}
 use Rattle.cedar_grammar.specs.Trees.{Label, Forest, none, leaf, branch, yield}

@@ -2,8 +2,8 @@
 use Rattle.std.specs.Prelude.{◌≡◌, ◌≤◌, ℕ, List, length, Result, Ok, Err, box_value}
 use Rattle.std.specs.Global.{Box}
 use Rattle.std.specs.Borrow.{Bor}
-use Rattle.cedar_grammar.specs.declared.kind.Kind.{Kind}
-use Rattle.cedar_grammar.specs.declared.kind.Kind.TheVariants as K
+use Rattle.cedar_tokens.specs.declared.kind.Kind.{Kind}
+use Rattle.cedar_tokens.specs.declared.kind.Kind.TheVariants as K
 use Rattle.cedar_grammar.specs.Trees.{Label, Forest, none, leaf, branch}
 use Rattle.cedar_grammar.specs.Reader.Reading.{Reader, Answer, done, both, one}
 use Rattle.cedar_parser_steps.specs.Reading.{kind, flat, Fails, Stands, FollowedBy, GivesBehind, PassesOn}

@@ -3,11 +3,11 @@ use Rattle.std.specs.Prelude.{◌≡◌, ℕ, zero, suc, Bool, true, false, List
 use Rattle.std.specs.declared.alloc.Global.{Global}
 use Rattle.std.specs.Borrow.{Bor}
 use Rattle.cedar_tokens.specs.declared.token.Span.{Span}
-use Rattle.cedar_grammar.specs.declared.kind.Kind.{Kind}
+use Rattle.cedar_tokens.specs.declared.kind.Kind.{Kind}
 use Rattle.cedar_grammar.specs.Trees.{Label, Forest, none, leaf, branch}
 use Rattle.cedar_parser_expressions.specs.ReadingItems.{Boxed, bracketed, IsBracketsOf}
 use Rattle.cedar_grammar.specs.Reader.Reading.{Reader, Answer, done, too_deep}
-use Rattle.cedar_grammar.specs.declared.kind.Kind.TheVariants as K
+use Rattle.cedar_tokens.specs.declared.kind.Kind.TheVariants as K
 use Rattle.cedar_grammar.specs.Reader.Rules.{Rule, inner, items, read, core}
 use Rattle.cedar_grammar.specs.Reader.Rules as R
 use Rattle.cedar_grammar.specs.Reader.Lines.{◌▸◌, ◌∥◌, one_of, maybe, init, expr_to}

@@ -3,7 +3,7 @@ use Rattle.std.specs.Prelude.{◌≡◌, ℕ, true, List, [], ◌∷◌, Result,
 use Rattle.std.specs.Global.{Box}
 use Rattle.std.specs.declared.alloc.Global.{Global}
 use Rattle.std.specs.Borrow.{Bor}
-use Rattle.cedar_grammar.specs.Kinds.{is_closing}
+use Rattle.cedar_tokens.specs.Kinds.{is_closing}
 use Rattle.cedar_grammar.specs.Trees.{Label, Forest, none, leaf, join}
 use Rattle.cedar_grammar.specs.Reader.Reading.{Answer, done}
 use Rattle.cedar_parser_steps.specs.declared.lexeme.Lexeme.{Lexeme}

@@ -1,8 +1,8 @@
 //! Expressions. Recursion goes down the nesting alone; `depth` says how many brackets and `if`s may still be nested.
 ghost use Rattle.std.specs.Prelude.{suc, ◌<◌, ◌≤◌, length, IfOk};
-ghost use Rattle.cedar_grammar.specs.Kinds.{is_comparison};
+ghost use Rattle.cedar_tokens.specs.Kinds.{is_comparison};
 ghost use Rattle.cedar_grammar.specs.Trees.{Label};
-ghost use Rattle.cedar_grammar.specs.declared.kind.Kind.TheVariants as K;
+ghost use Rattle.cedar_tokens.specs.declared.kind.Kind.TheVariants as K;
 ghost use Rattle.cedar_grammar.specs.Reader.Rules.{inner, leaf_of, items, reference};
 ghost use Rattle.cedar_grammar.specs.Reader.Lines.{◌▸◌, one_of, maybe, path, call_parts, call, init, item, member_rule, unary_rule, mult_rule, add_rule, relation_rule, and_rule, or_rule, expr_rule};
 ghost use Rattle.cedar_tree.specs.Erased.{expr_parts, or_parts, relation_parts, add_parts, mult_parts, unary_parts, access_parts, primary_parts};
@@ -19,7 +19,7 @@ use crate::nodes::{
     lone_relation, member_node, mult_node, or_expr, or_node, parens_node, record_key, record_node,
     type_and_operand, unary_node, uncalled,
 };
-use cedar_grammar::kind::Kind;
+use cedar_tokens::kind::Kind;
 use cedar_parser_steps::accesses::{begins_access, begins_call, parse_access};
 use cedar_parser_steps::lexeme::Lexeme;
 use cedar_parser_steps::literals::parse_literal;

@@ -2,7 +2,7 @@
 //! nodes up in boxes, and a function that makes one is never inlined, so that no node lies on the stack while what is nested
 //! in it is read.
 ghost use Rattle.std.specs.Prelude.{◌≡◌, ◌<◌, length, IfOk, MatchResult, box_value, codes};
-ghost use Rattle.cedar_grammar.specs.declared.kind.Kind.TheVariants as K;
+ghost use Rattle.cedar_tokens.specs.declared.kind.Kind.TheVariants as K;
 ghost use Rattle.cedar_grammar.specs.Reader.Lines.{◌▸◌, ◌∥◌, one_of, text_operand, has_field};
 ghost use Rattle.cedar_parser_steps.specs.Reading.{flat, Keeps, PassesOn};
 ghost use Rattle.cedar_parser_steps.specs.ReadingParts.{Makes, IsOrExprOf};
@@ -11,7 +11,7 @@ ghost use Rattle.cedar_parser_expressions.specs.Boxed.{unboxed, signed, IsNotLon
 ghost use Rattle.cedar_parser_expressions.specs.ReadingItems.{IsListOf};
 ghost use Rattle.cedar_parser_expressions.specs.ReadingExprs.{end_of_last, IsOrOf, IsAndOf, IsAddOf, IsMultOf, IsMemberOf, IsUnaryOf, IsLoneRelationOf, IsComparedOf, IsTypeTestOf, IsCallOf, IsParensOf, IsRecordOf, IsInitOf, IsIfOf, IsBeside, IsTyped, IsUncalled, IsCalled, type_test_end};
 
-use cedar_grammar::kind::Kind;
+use cedar_tokens::kind::Kind;
 use cedar_parser_steps::accesses::{accesses_end, parse_has_field, parse_pattern};
 use cedar_parser_steps::lexeme::Lexeme;
 use cedar_parser_steps::names::{name_primary, parse_key};

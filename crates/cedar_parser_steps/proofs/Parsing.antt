@@ -8,14 +8,14 @@ use Rattle.cedar_tokens.specs.Split.{SplitsInto}
 use Rattle.cedar_tokens.specs.Places.{token_spans}
 use Rattle.cedar_tokens.specs.Listing.{token_value}
 use Rattle.cedar_tokens.specs.declared.token.Span.{Span}
-use Rattle.cedar_grammar.specs.declared.kind.Kind.{Kind}
-use Rattle.cedar_grammar.specs.declared.kind.Kind.TheVariants as K
+use Rattle.cedar_tokens.specs.declared.kind.Kind.{Kind}
+use Rattle.cedar_tokens.specs.declared.kind.Kind.TheVariants as K
 use Rattle.cedar_parser_steps.specs.declared.lexeme.Lexeme.{Lexeme}
 use Rattle.cedar_tree.specs.declared.tree.Policies.{Policies}
-use Rattle.cedar_grammar.specs.Kinds.{is, is_closing}
+use Rattle.cedar_tokens.specs.Kinds.{is, is_closing}
 use Rattle.cedar_grammar.specs.Trees.{Label, Forest, none, leaf, branch, yield}
 use Rattle.cedar_grammar.specs.KindGrammar.{G}
-use Rattle.cedar_grammar.specs.TokenKinds.{kind_of}
+use Rattle.cedar_tokens.specs.TokenKinds.{kind_of}
 use Rattle.cedar_grammar.specs.Reader.Hopeless.{Hopeless, Unfinished, IsRefused}
 use Rattle.cedar_grammar.specs.Numbers.{is_too_large}
 use Rattle.cedar_grammar.specs.Texts.{greatest_depth, only_tokens}

@@ -3,10 +3,10 @@ use Rattle.std.specs.Prelude.{◌≡◌, ℕ, zero, suc, ◌+◌, ◌<◌, ◌�
 use Rattle.std.specs.Borrow.{Bor}
 use Rattle.std.proofs.Common.{refl, sym, ap, ◌∙◌, arith, subst}
 use Rattle.cedar_tokens.specs.declared.token.Span.{Span}
-use Rattle.cedar_grammar.specs.declared.kind.Kind.{Kind}
-use Rattle.cedar_grammar.specs.declared.kind.Kind.TheVariants as K
-use Rattle.cedar_grammar.specs.Kinds.{code, is, begins}
-use Rattle.cedar_grammar.specs.TokenKinds.{fixed_tokens}
+use Rattle.cedar_tokens.specs.declared.kind.Kind.{Kind}
+use Rattle.cedar_tokens.specs.declared.kind.Kind.TheVariants as K
+use Rattle.cedar_tokens.specs.Kinds.{code, is, begins}
+use Rattle.cedar_tokens.specs.TokenKinds.{fixed_tokens}
 use Rattle.cedar_grammar.specs.Trees.{Label, Forest, none, leaf, join}
 use Rattle.cedar_grammar.specs.Reader.Reading.{Reader, done, choice, both, skip, one}
 use Rattle.cedar_grammar.proofs.ReadingLaws.{choice_yes, choice_no, both_done}

@@ -1,8 +1,8 @@
 -- Items with a separator before each, and what may follow the last one.
 use Rattle.std.specs.Prelude.{◌≡◌, ◌<◌, ℕ, zero, suc, Bool, true, false, List, [], ◌∷◌, length}
 use Rattle.std.proofs.Common.{refl, sym, ap, ◌∙◌, arith}
-use Rattle.cedar_grammar.specs.declared.kind.Kind.{Kind}
-use Rattle.cedar_grammar.specs.Kinds.{is, begins}
+use Rattle.cedar_tokens.specs.declared.kind.Kind.{Kind}
+use Rattle.cedar_tokens.specs.Kinds.{is, begins}
 use Rattle.cedar_grammar.specs.Trees.{Label, Forest, none, leaf}
 use Rattle.cedar_grammar.specs.Reader.Reading.{Answer, Reader, done, stuck, choice, both, one}
 use Rattle.cedar_grammar.specs.Reader.Rules.{tail_to, tailed}

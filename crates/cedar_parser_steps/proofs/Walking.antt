@@ -18,7 +18,7 @@ use Rattle.cedar_tokens.proofs.UnitsSoFar.{texts, texts_more}
 use Rattle.cedar_tokens.specs.Units.{is_token}
 use Rattle.cedar_tokens.proofs.Streaming.{Placed, placed_skip, placed_token}
 use Rattle.cedar_grammar.specs.Numbers.{is_too_large, IsFirstTooLarge}
-use Rattle.cedar_grammar.specs.TokenKinds.{kind_of}
+use Rattle.cedar_tokens.specs.TokenKinds.{kind_of}
 use Rattle.cedar_grammar.specs.Texts.{only_tokens}
 use Rattle.cedar_parser_steps.specs.declared.lexeme.Lexeme.{Lexeme}
 

@@ -20,12 +20,12 @@ use Rattle.cedar_parser_steps.specs.Lexemes.{lexeme_nodes}
 use Rattle.cedar_tree.specs.NodeTrees.{span_of}
 use Rattle.cedar_tokens.specs.Units.{is_token}
 use Rattle.cedar_tokens.specs.declared.token.Span.{Span}
-use Rattle.cedar_grammar.specs.declared.kind.Kind.{Kind}
-use Rattle.cedar_grammar.specs.declared.kind.Kind.TheVariants as K
+use Rattle.cedar_tokens.specs.declared.kind.Kind.{Kind}
+use Rattle.cedar_tokens.specs.declared.kind.Kind.TheVariants as K
 use Rattle.cedar_tree.specs.declared.tree.RelOp.{RelOp}
 use Rattle.cedar_tree.specs.declared.tree.AddOp.{AddOp}
-use Rattle.cedar_grammar.specs.Kinds.{is, begins}
-use Rattle.cedar_grammar.specs.TokenKinds.{kind_of}
+use Rattle.cedar_tokens.specs.Kinds.{is, begins}
+use Rattle.cedar_tokens.specs.TokenKinds.{kind_of}
 use Rattle.cedar_grammar.specs.Trees.{Label, Forest, none, leaf, branch, yield}
 use Rattle.cedar_grammar.specs.TrailingCommas.{without_trailing}
 use Rattle.cedar_grammar.specs.Reader.Reading.{Reader, Answer, done, stuck, one}

@@ -50,7 +50,8 @@ pub fn commented_tokens<'src>(
     for (at, lexeme) in lexemes.iter().enumerate() {
         let gap = text_before(text, lexeme.span.end, &lexemes[at + 1..]);
         let (trailing, ahead) = split_gap(gap);
-        tokens.push(commented_token(alloc, lexeme.text, lexeme.span, leading, trailing)?)?;
+        let Lexeme { kind, text, span } = *lexeme;
+        tokens.push(commented_token(alloc, kind, text, span, leading, trailing)?)?;
         leading = ahead;
     }
     Ok((tokens, get_comment(leading)))

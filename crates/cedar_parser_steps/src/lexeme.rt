@@ -9,7 +9,7 @@ ghost use Rattle.cedar_tree.specs.Refusals.{RefusesTokens};
 ghost use Rattle.cedar_tree.specs.declared.error.FormatError.TheVariants.{OutOfMemory};
 ghost use Rattle.cedar_parser_steps.specs.Tokens.{HasTokens};
 
-use cedar_grammar::kind::Kind;
+use cedar_tokens::kind::Kind;
 use cedar_tokens::token::Span;
 use cedar_tokens::units::Units;
 use cedar_tree::error::FormatError;

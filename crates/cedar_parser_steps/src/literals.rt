@@ -9,7 +9,7 @@ ghost use Rattle.cedar_parser_steps.specs.ReadingParts.{literal_rule, text_prima
 
 use crate::lexeme::Lexeme;
 use crate::reading::{Parsed, expect, refuse};
-use cedar_grammar::kind::Kind;
+use cedar_tokens::kind::Kind;
 use cedar_tokens::token::Span;
 use cedar_tree::tree::{Literal, Node, Primary, Slot, Str};
 

@@ -1,8 +1,8 @@
 //! Words, and what is made of them: names, keys of records, entities.
 ghost use Rattle.std.specs.Prelude.{◌≡◌, ◌<◌, ◌||◌, length, IfOk};
-ghost use Rattle.cedar_grammar.specs.Kinds.{is, is_ident, is_variable, set_of, begins};
+ghost use Rattle.cedar_tokens.specs.Kinds.{is, is_ident, is_variable, set_of, begins};
 ghost use Rattle.cedar_grammar.specs.Trees.{Label};
-ghost use Rattle.cedar_grammar.specs.declared.kind.Kind.TheVariants as K;
+ghost use Rattle.cedar_tokens.specs.declared.kind.Kind.TheVariants as K;
 ghost use Rattle.cedar_grammar.specs.Reader.Rules.{word_of, entity};
 ghost use Rattle.cedar_grammar.specs.Reader.Lines.{path};
 ghost use Rattle.cedar_tree.specs.Erased.{primary_parts};
@@ -12,7 +12,7 @@ ghost use Rattle.cedar_parser_steps.specs.ReadingParts.{key_rule, GivesWords, Is
 use crate::lexeme::Lexeme;
 use crate::literals::{parse_str, parse_text, slot_kind, slot_primary};
 use crate::reading::{Parsed, begins, expect, first_kind, past, refuse};
-use cedar_grammar::kind::{Kind, Words};
+use cedar_tokens::kind::{Kind, Words};
 use cedar_tokens::token::Span;
 use cedar_tree::tree::{Ident, Name, Node, Primary, Ref, Slot, Str};
 use std::alloc::Global;

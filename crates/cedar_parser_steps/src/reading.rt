@@ -1,14 +1,14 @@
 //! Steps over tokens that every parse function shares.
 ghost use Rattle.std.specs.Prelude.{◌≡◌, ◌<◌, ◌≤◌, ◌||◌, true, false, length, IfOk, IfSome};
-ghost use Rattle.cedar_grammar.specs.declared.kind.Kind.TheVariants as K;
-ghost use Rattle.cedar_grammar.specs.Kinds.{is, begins};
+ghost use Rattle.cedar_tokens.specs.declared.kind.Kind.TheVariants as K;
+ghost use Rattle.cedar_tokens.specs.Kinds.{is, begins};
 ghost use Rattle.cedar_grammar.specs.Reader.Reading.{one, stuck};
 ghost use Rattle.cedar_grammar.specs.Reader.Rules.{expr_first};
 ghost use Rattle.cedar_parser_steps.specs.Reading.{Keeps, Follows, kind, first_kind, GivesToken, GoesPast, Fails, FollowedBy, first_place, Skips};
 ghost use Rattle.cedar_parser_steps.specs.declared.reading.Refusal.TheVariants.{OutOfMemory};
 
 use crate::lexeme::Lexeme;
-use cedar_grammar::kind::Kind;
+use cedar_tokens::kind::Kind;
 use std::alloc::AllocFailed;
 
 /// Why tokens are refused, where `left` counts the tokens from the refused one on.
@@ -66,7 +66,7 @@ pub fn begins(tokens: &[Lexeme], wanted: Kind) -> bool
 pub fn begins_expression(tokens: &[Lexeme]) -> bool
     ensures { result ≡ begins kind expr_first tokens.now }
 {
-    first_kind(tokens).is_some_and(Kind::begins_expression)
+    first_kind(tokens).is_some_and(cedar_grammar::kind::begins_expression)
 }
 
 /// Whether a parenthesis, a list or a record begins with the first token.

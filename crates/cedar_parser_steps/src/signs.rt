@@ -1,13 +1,13 @@
 //! Signs: of comparisons, of sums, and those before a member.
 ghost use Rattle.std.specs.Prelude.{◌≡◌, ◌<◌, ◌≤◌, length, is_some, IfOk, IfSome};
-ghost use Rattle.cedar_grammar.specs.Kinds.{is_comparison, begins};
+ghost use Rattle.cedar_tokens.specs.Kinds.{is_comparison, begins};
 ghost use Rattle.cedar_grammar.specs.Reader.Reading.{token};
 ghost use Rattle.cedar_parser_steps.specs.Reading.{kind, relop_kind, GoesPastSign, GivesSign};
 ghost use Rattle.cedar_parser_steps.specs.ReadingSigns.{GoesPastSigns, GivesSigns, signs_start};
 
 use crate::lexeme::Lexeme;
 use crate::reading::{Parsed, first_kind, refuse, skip, start_of};
-use cedar_grammar::kind::Kind;
+use cedar_tokens::kind::Kind;
 use cedar_tokens::token::Span;
 use cedar_tree::tree::{AddOp, NegOp, RelOp};
 

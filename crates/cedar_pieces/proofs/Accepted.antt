@@ -10,7 +10,7 @@ use Rattle.cedar_tokens.proofs.Scanning.{split_unique}
 use Rattle.cedar_grammar.specs.KindGrammar.{G}
 use Rattle.cedar_grammar.specs.Numbers.{is_too_large}
 use Rattle.cedar_grammar.specs.Texts.{greatest_depth, only_tokens, Accepted}
-use Rattle.cedar_grammar.specs.TokenKinds.{kind_of}
+use Rattle.cedar_tokens.specs.TokenKinds.{kind_of}
 use Rattle.cedar_grammar.proofs.AcceptedKinds.{is_accepted, kinds_of}
 use Rattle.cedar_pieces.specs.Pieces.{IsPiece}
 use Rattle.cedar_pieces.proofs.Lists.{piece_splits, units_follow}

@@ -11,12 +11,12 @@ use Rattle.std.proofs.lemmas.Slice.Eq.{bytes_eq-Decides}
 use Rattle.cedar_tokens.specs.Units.{is_token, slots, punctuators, keywords}
 use Rattle.cedar_tokens.specs.Split.{SplitsInto}
 use Rattle.cedar_tokens.proofs.Scanning.{split_unique}
-use Rattle.cedar_grammar.specs.declared.kind.Kind.{Kind}
-use Rattle.cedar_grammar.specs.declared.kind.Kind.TheVariants as K
-use Rattle.cedar_grammar.specs.Kinds.{is}
+use Rattle.cedar_tokens.specs.declared.kind.Kind.{Kind}
+use Rattle.cedar_tokens.specs.declared.kind.Kind.TheVariants as K
+use Rattle.cedar_tokens.specs.Kinds.{is}
 use Rattle.cedar_grammar.specs.KindGrammar.{G}
 use Rattle.cedar_grammar.specs.Numbers.{is_too_large}
-use Rattle.cedar_grammar.specs.TokenKinds.{fixed_tokens, other_kind, kind_among, kind_of}
+use Rattle.cedar_tokens.specs.TokenKinds.{fixed_tokens, other_kind, kind_among, kind_of}
 use Rattle.cedar_grammar.specs.Texts.{greatest_depth, only_tokens, Accepted}
 use Rattle.cedar_grammar.specs.Reader.Hopeless.{BeginsByKinds, IsHopeless, IsRefused}
 use Rattle.cedar_grammar.specs.Trees.{Label, Forest}

@@ -7,7 +7,7 @@ use Rattle.cedar_tokens.specs.declared.token.Span.{Span}
 use Rattle.cedar_tokens.proofs.Scanning.{listing_unique}
 use Rattle.cedar_grammar.specs.Trees.{Label, Forest, none, leaf, branch, yield}
 use Rattle.cedar_grammar.specs.KindGrammar.{G}
-use Rattle.cedar_grammar.specs.TokenKinds.{kind_of}
+use Rattle.cedar_tokens.specs.TokenKinds.{kind_of}
 use Rattle.cedar_grammar.specs.Texts.{Accepted, greatest_depth, only_tokens}
 use Rattle.cedar_grammar.specs.Placed.{Placed, placed, kind_of_placed}
 use Rattle.cedar_grammar.specs.TrailingCommas.{plain, without_trailing}

@@ -9,9 +9,9 @@ use Rattle.cedar_layout.specs.Layout.{Doc, IsTheLayoutAt}
 use Rattle.cedar_tokens.specs.Split.{SplitsInto}
 use Rattle.cedar_tokens.specs.Listing.{Decorated, IsListing, comments}
 use Rattle.cedar_tokens.specs.PlainList.{is_closing_bracket, plain_list}
-use Rattle.cedar_grammar.specs.declared.kind.Kind.{Kind}
-use Rattle.cedar_grammar.specs.declared.kind.Kind.TheVariants as K
-use Rattle.cedar_grammar.specs.Kinds.{is, code, is_closing}
+use Rattle.cedar_tokens.specs.declared.kind.Kind.{Kind}
+use Rattle.cedar_tokens.specs.declared.kind.Kind.TheVariants as K
+use Rattle.cedar_tokens.specs.Kinds.{is, code, is_closing}
 use Rattle.cedar_grammar.specs.Trees.{Label, Forest, none, branch}
 use Rattle.cedar_grammar.specs.Trees as F
 use Rattle.cedar_grammar.specs.Languages.{Many, no_more, one_more}

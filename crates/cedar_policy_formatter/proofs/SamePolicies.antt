@@ -5,7 +5,7 @@ use Rattle.cedar_tokens.specs.Listing.{Decorated, Listing, IsListing, listing, t
 use Rattle.cedar_tokens.specs.PlainList.{plain_list}
 use Rattle.cedar_grammar.specs.Trees.{Label, Forest, none, leaf, branch}
 use Rattle.cedar_grammar.specs.KindGrammar.{G, PolicySet}
-use Rattle.cedar_grammar.specs.TokenKinds.{kind_of}
+use Rattle.cedar_tokens.specs.TokenKinds.{kind_of}
 use Rattle.cedar_grammar.specs.Texts.{greatest_depth}
 use Rattle.cedar_grammar.specs.Placed.{Placed, placed, kind_of_placed}
 use Rattle.cedar_grammar.specs.TrailingCommas.{plain, without_trailing}

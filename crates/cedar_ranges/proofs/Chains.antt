@@ -11,7 +11,7 @@ use Rattle.cedar_tokens.specs.Units.{is_token}
 use Rattle.cedar_grammar.specs.KindGrammar.{G}
 use Rattle.cedar_grammar.specs.Numbers.{is_too_large}
 use Rattle.cedar_grammar.specs.Texts.{greatest_depth, only_tokens, Accepted}
-use Rattle.cedar_grammar.specs.TokenKinds.{kind_of}
+use Rattle.cedar_tokens.specs.TokenKinds.{kind_of}
 use Rattle.cedar_grammar.proofs.AcceptedKinds.{is_accepted, kinds_of}
 use Rattle.cedar_laws.proofs.Scanned.{scans_concat}
 use Rattle.cedar_laws.proofs.Spaces.{units_utf8, concat_utf8}

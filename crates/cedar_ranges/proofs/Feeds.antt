@@ -15,7 +15,7 @@ use Rattle.cedar_tokens.proofs.Scanning.{split_unique, listing_unique}
 use Rattle.cedar_grammar.specs.KindGrammar.{G}
 use Rattle.cedar_grammar.specs.Numbers.{is_too_large}
 use Rattle.cedar_grammar.specs.Texts.{greatest_depth, only_tokens, Accepted}
-use Rattle.cedar_grammar.specs.TokenKinds.{kind_of}
+use Rattle.cedar_tokens.specs.TokenKinds.{kind_of}
 use Rattle.cedar_grammar.proofs.AcceptedKinds.{is_accepted, kinds_of}
 use Rattle.cedar_laws.specs.Joining.{follow}
 use Rattle.cedar_laws.proofs.BlankLines.{feedless, feedless_back, blank_feed}

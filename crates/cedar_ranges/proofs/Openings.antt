@@ -5,9 +5,9 @@ use Rattle.std.specs.List.{AllByRecursion}
 use Rattle.std.proofs.lemmas.Bool.Decides.{nat_tests}
 use Rattle.cedar_tokens.specs.Listing.{Decorated, Listing, IsListing}
 use Rattle.cedar_tokens.specs.PlainList.{is_closing_bracket, plain_list}
-use Rattle.cedar_grammar.specs.declared.kind.Kind.{Kind}
-use Rattle.cedar_grammar.specs.declared.kind.Kind.TheVariants as K
-use Rattle.cedar_grammar.specs.Kinds.{is, code, is_closing}
+use Rattle.cedar_tokens.specs.declared.kind.Kind.{Kind}
+use Rattle.cedar_tokens.specs.declared.kind.Kind.TheVariants as K
+use Rattle.cedar_tokens.specs.Kinds.{is, code, is_closing}
 use Rattle.cedar_grammar.specs.Laws.{kind_of_decorated}
 use Rattle.cedar_grammar.specs.Texts.{Accepted, greatest_depth}
 use Rattle.cedar_grammar.specs.TypedTrees.{Clause, policy, set_tree, part_yield, policy_of, no_annotation, annotations_more, annotation_bare, annotation_value}

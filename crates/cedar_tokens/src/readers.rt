@@ -2,6 +2,7 @@
 ghost use Rattle.std.specs.Prelude.{◌≡◌, ◌+◌, ◌≤◌, ◌<◌, [], length, MatchOption, IfSome, IfNone, IfOk, OnErr, List, ℕ};
 ghost use Rattle.std.specs.Str.{trim};
 ghost use Rattle.cedar_tokens.specs.Units.{IsToken};
+ghost use Rattle.cedar_tokens.specs.TokenKinds.{kind_of};
 ghost use Rattle.cedar_tokens.specs.Split.{Splits};
 ghost use Rattle.cedar_tokens.specs.Listing.{Listing, IsListing, comments};
 ghost use Rattle.cedar_tokens.specs.Places.{AreTokenSpans};
@@ -12,26 +13,29 @@ ghost use Rattle.cedar_tokens.specs.declared.token.Span.{Span};
 
 pub use crate::ahead::split_gap;
 use crate::ahead::{Ahead, gap_len};
+use crate::kind::{Kind, kind_of};
 use crate::lexer::first_fault;
-use crate::token::{Comment, Comments, Span, WrappedToken, get_comment, token_of_text};
+use crate::token::{Comment, Comments, Span, WrappedToken, get_comment, token_of};
 use std::alloc::{AllocError, Global};
 
-/// The token whose source text is `text`, at its place, with the comments of the text before it and its trailing text.
+/// The token of this kind whose source text is `text`, at its place, with the comments of the text before it and its trailing text.
 pub fn commented_token<'src>(
     alloc: Global,
+    kind: Kind,
     text: &'src str,
     span: Span,
     leading: &'src str,
     trailing: &'src str,
 ) -> Result<WrappedToken<'src>, AllocError>
-    requires { IsToken text.now }
+    requires token { IsToken text.now }
+    requires kind { kind ≡ kind_of text.now }
     ensures text { IfOk result (λ w. token_text w.token ≡ text.now) }
     ensures proper { IfOk result (λ w. IsProper w.token) }
     ensures span { IfOk result (λ w. w.span ≡ span) }
     ensures leading { IfOk result (λ w. leading_lines w.comment ≡ comments leading.now) }
     ensures trailing { IfOk result (λ w. trailing_text w.comment ≡ trim trailing.now) }
 {
-    let token = token_of_text(alloc, text)?;
+    let token = token_of(alloc, kind, text)?;
     let comment = Comment::new(alloc, leading, trailing)?;
     Ok(WrappedToken::new(token, span, comment))
 }
@@ -120,7 +124,8 @@ impl<'src> TokenReader<'src> {
         let start = self.text.len() - self.ahead.text.len();
         let end = start + first.text.len();
         let span = Span { start, end };
-        let token = commented_token(alloc, first.text, span, self.leading, first.trailing)?;
+        let kind = kind_of(first.text);
+        let token = commented_token(alloc, kind, first.text, span, self.leading, first.trailing)?;
         self.leading = first.leading;
         self.ahead = first.rest;
         Ok(Some(token))

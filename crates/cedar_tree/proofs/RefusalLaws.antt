@@ -7,7 +7,7 @@ use Rattle.cedar_tokens.specs.declared.lexer.LexFaultKind.TheVariants as Fault
 use Rattle.cedar_tree.specs.declared.error.FormatError.{FormatError}
 use Rattle.cedar_tree.specs.declared.error.FormatError.TheVariants.{UnknownCharacter, UnfinishedString, NumberTooLarge, Grammar, TooDeep, NoDocument, Unsound, OutOfMemory}
 use Rattle.cedar_grammar.specs.KindGrammar.{G}
-use Rattle.cedar_grammar.specs.TokenKinds.{kind_of}
+use Rattle.cedar_tokens.specs.TokenKinds.{kind_of}
 use Rattle.cedar_grammar.specs.Reader.Hopeless.{BeginsByKinds, Hopeless, Unfinished, IsHopeless, IsUnfinished, IsRefused}
 use Rattle.cedar_grammar.specs.Numbers.{is_too_large, IsFirstTooLarge}
 use Rattle.cedar_grammar.specs.Texts.{greatest_depth, only_tokens, Accepted, LeavesGrammar}

@@ -1,9 +1,9 @@
 //! Policies: annotations, the scope and conditions.
 ghost use Rattle.std.specs.Prelude.{◌≡◌, ◌<◌, ◌≤◌, ◌||◌, suc, length, IfOk};
 ghost use Rattle.cedar_grammar.specs.Trees.{Label};
-ghost use Rattle.cedar_grammar.specs.Kinds.{is, begins, is_effect, is_cond_word};
+ghost use Rattle.cedar_tokens.specs.Kinds.{is, begins, is_effect, is_cond_word};
 ghost use Rattle.cedar_grammar.specs.Texts.{greatest_depth};
-ghost use Rattle.cedar_grammar.specs.declared.kind.Kind.TheVariants as K;
+ghost use Rattle.cedar_tokens.specs.declared.kind.Kind.TheVariants as K;
 ghost use Rattle.cedar_grammar.specs.Reader.Rules.{star};
 ghost use Rattle.cedar_grammar.specs.Reader.Lines.{annotation_rule, cond_rule, policy_rule, set_to};
 ghost use Rattle.cedar_tree.specs.Erased.{policy_parts, annotation_parts, cond_parts};
@@ -12,7 +12,7 @@ ghost use Rattle.cedar_cst.specs.Inside.ReadingSet.{GivesSet};
 ghost use Rattle.cedar_parser_steps.specs.Reading.{kind, flat, GivesNode, GivesMany};
 
 use crate::cst::scopes::parse_scope;
-use cedar_grammar::kind::{Kind, Words};
+use cedar_tokens::kind::{Kind, Words};
 use cedar_parser_expressions::expressions::parse_expr;
 use cedar_parser_steps::lexeme::Lexeme;
 use cedar_parser_steps::literals::parse_str;

@@ -1,8 +1,8 @@
 //! The scope of a policy: its three variables, and what stands behind them.
 ghost use Rattle.std.specs.Prelude.{◌≡◌, ◌<◌, ◌≤◌, length, IfOk, MatchResult, box_value};
 ghost use Rattle.cedar_grammar.specs.Trees.{Label};
-ghost use Rattle.cedar_grammar.specs.Kinds.{is};
-ghost use Rattle.cedar_grammar.specs.declared.kind.Kind.TheVariants as K;
+ghost use Rattle.cedar_tokens.specs.Kinds.{is};
+ghost use Rattle.cedar_tokens.specs.declared.kind.Kind.TheVariants as K;
 ghost use Rattle.cedar_grammar.specs.Reader.Rules.{entity, items, word_of};
 ghost use Rattle.cedar_grammar.specs.Reader.Lines.{◌∥◌, operand, entity_or, scoped, maybe, entity_item, action};
 ghost use Rattle.cedar_tree.specs.Erased.{add_parts, expr_parts, primary_parts, variable_parts};
@@ -12,7 +12,7 @@ ghost use Rattle.cedar_parser_expressions.specs.Boxed.{unboxed};
 ghost use Rattle.cedar_parser_expressions.specs.ReadingItems.{GivesItems, GivesScope};
 ghost use Rattle.cedar_parser_steps.specs.Reading.{flat, GivesNode, ident_parts};
 
-use cedar_grammar::kind::Kind;
+use cedar_tokens::kind::Kind;
 use cedar_parser_expressions::nodes::{and_node, list_node, lone_relation, or_expr, or_node};
 use cedar_parser_steps::accesses::lone_operand;
 use cedar_parser_steps::lexeme::Lexeme;

@@ -1,8 +1,8 @@
 -- The lines of the grammar as rules.
 use Rattle.std.specs.Prelude.{ℕ, zero, suc, true, false, ◌||◌}
-use Rattle.cedar_grammar.specs.declared.kind.Kind.{Kind}
-use Rattle.cedar_grammar.specs.declared.kind.Kind.TheVariants as K
-use Rattle.cedar_grammar.specs.Kinds.{is, is_any_word, is_ident, is_comparison, is_boolean, is_effect, is_cond_word}
+use Rattle.cedar_tokens.specs.declared.kind.Kind.{Kind}
+use Rattle.cedar_tokens.specs.declared.kind.Kind.TheVariants as K
+use Rattle.cedar_tokens.specs.Kinds.{is, is_any_word, is_ident, is_comparison, is_boolean, is_effect, is_cond_word}
 use Rattle.cedar_grammar.specs.Trees.{policies, policy, annotation, variable, condition, expr, or, and, relation, add, mult, unary, member, access, primary, name, slot, rec_init}
 use Rattle.cedar_grammar.specs.Trees as L
 use Rattle.cedar_grammar.specs.Reader.Reading.{Reader, too_deep}

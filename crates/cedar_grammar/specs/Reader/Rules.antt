@@ -1,8 +1,8 @@
 -- Rules: what the lines of the grammar are made of, and what reads them, by the next token alone.
 use Rattle.std.specs.Prelude.{ℕ, zero, suc, Bool, true, false, ◌||◌, ◌&&◌, not, length}
-use Rattle.cedar_grammar.specs.declared.kind.Kind.{Kind}
-use Rattle.cedar_grammar.specs.declared.kind.Kind.TheVariants as K
-use Rattle.cedar_grammar.specs.Kinds.{is, is_ident, is_variable, begins}
+use Rattle.cedar_tokens.specs.declared.kind.Kind.{Kind}
+use Rattle.cedar_tokens.specs.declared.kind.Kind.TheVariants as K
+use Rattle.cedar_tokens.specs.Kinds.{is, is_ident, is_variable, begins}
 use Rattle.cedar_grammar.specs.Reader.Sets.{no_kind, joined}
 use Rattle.cedar_grammar.specs.Trees.{Label, none}
 use Rattle.cedar_grammar.specs.Trees as L

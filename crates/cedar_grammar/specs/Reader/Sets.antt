@@ -1,6 +1,6 @@
 -- Sets of kinds.
 use Rattle.std.specs.Prelude.{Bool, true, false, ◌||◌}
-use Rattle.cedar_grammar.specs.declared.kind.Kind.{Kind}
+use Rattle.cedar_tokens.specs.declared.kind.Kind.{Kind}
 
 abbrev pub no_kind : Kind → Bool
 no_kind k = false

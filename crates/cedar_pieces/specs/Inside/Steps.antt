@@ -4,7 +4,7 @@ use Rattle.std.specs.List.{list_any, sum_by, AllByRecursion}
 use Rattle.cedar_tokens.specs.Split.{Scans}
 use Rattle.cedar_tokens.specs.Places.{token_spans}
 use Rattle.cedar_grammar.specs.Texts.{only_tokens}
-use Rattle.cedar_grammar.specs.TokenKinds.{kind_of}
+use Rattle.cedar_tokens.specs.TokenKinds.{kind_of}
 use Rattle.cedar_parser_steps.specs.declared.lexeme.Lexeme.{Lexeme}
 use Rattle.cedar_pieces.specs.Pieces.{is_semicolon, IsRestOfLine}
 

@@ -1,5 +1,5 @@
 use Rattle.std.proofs.Common.{◌≡◌, ◌+◌, [], ◌∷◌, ◌++◌, sym, ap, ◌∙◌, subst, get_or}
-use Rattle.cedar_grammar.specs.declared.kind.Kind.TheVariants as K
+use Rattle.cedar_tokens.specs.declared.kind.Kind.TheVariants as K
 use Rattle.cedar_expected.proofs.NameLists.{SoFar, Named, stays, grows, all_named}
 use Rattle.cedar_expected.proofs.kinds.names_of.Goals as goal
 use Rattle.cedar_expected.proofs.kinds.names_of.Goals.{then-not-is_named+in_ok-push, else-not-is_named}

@@ -2,7 +2,7 @@ use Rattle.std.proofs.Common.{◌≡◌, ◌<◌, [], ◌∷◌, sym, ap, ◌∙
 use Rattle.std.specs.Prelude.{◌↔◌, IsTrue, take}
 use Rattle.std.specs.List.{filter}
 use Rattle.std.proofs.lemmas.List.{take_all}
-use Rattle.cedar_grammar.specs.declared.kind.Kind.TheVariants as K
+use Rattle.cedar_tokens.specs.declared.kind.Kind.TheVariants as K
 use Rattle.cedar_expected.specs.Inside.Beginnings.{TokensBeginWith}
 use Rattle.cedar_expected.specs.Inside.Samples.{all_kinds, sample}
 use Rattle.cedar_expected.proofs.Following.{follows, grown_by, not_grown}

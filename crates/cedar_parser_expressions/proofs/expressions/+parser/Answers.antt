@@ -1,8 +1,8 @@
 use Rattle.std.specs.Prelude.{◌≡◌, ◌||◌, ◌-◌, suc, true, Ok, box_value, codes}
 use Rattle.std.proofs.Common.{refl, sym, ap, ◌∙◌, arith, subst}
 use Rattle.std.proofs.lemmas.Result.{err_from_is_err_and}
-use Rattle.cedar_grammar.specs.declared.kind.Kind.TheVariants as K
-use Rattle.cedar_grammar.specs.Kinds.{is, is_ident, is_comparison}
+use Rattle.cedar_tokens.specs.declared.kind.Kind.TheVariants as K
+use Rattle.cedar_tokens.specs.Kinds.{is, is_ident, is_comparison}
 use Rattle.cedar_grammar.specs.Trees.{Label, none, branch, join}
 use Rattle.cedar_grammar.specs.Reader.Reading.{done, stuck, tree, token}
 use Rattle.cedar_grammar.specs.Reader.Rules.{expr_first, items, inner}

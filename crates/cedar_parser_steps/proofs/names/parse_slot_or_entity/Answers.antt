@@ -1,6 +1,6 @@
 use Rattle.std.proofs.Common.{◌≡◌, sym, ap, subst, ◌∙◌}
 use Rattle.std.proofs.lemmas.Result.{err_from_is_err_and}
-use Rattle.cedar_grammar.specs.Kinds.{is, begins}
+use Rattle.cedar_tokens.specs.Kinds.{is, begins}
 use Rattle.cedar_grammar.specs.Trees.{Label, none, leaf}
 use Rattle.cedar_grammar.specs.Reader.Reading.{done, one}
 use Rattle.cedar_grammar.proofs.ReadingLaws.{choice_yes, choice_no, tree_done, tree_fails}

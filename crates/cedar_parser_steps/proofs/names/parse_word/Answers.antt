@@ -1,5 +1,5 @@
 use Rattle.std.proofs.Common.{◌∙◌, sym}
-use Rattle.cedar_grammar.specs.Kinds.{set_of}
+use Rattle.cedar_tokens.specs.Kinds.{set_of}
 use Rattle.cedar_grammar.specs.Trees.{Label, leaf, none}
 use Rattle.cedar_parser_steps.proofs.Steps.{first_begins, none_begins, tree_not, tree_at, word_stands, words_apart}
 use Rattle.cedar_parser_steps.proofs.names.parse_word.Goals as goal

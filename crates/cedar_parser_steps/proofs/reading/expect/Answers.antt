@@ -1,5 +1,5 @@
 use Rattle.std.proofs.Common.{◌∙◌, sym}
-use Rattle.cedar_grammar.specs.Kinds.{is}
+use Rattle.cedar_tokens.specs.Kinds.{is}
 use Rattle.cedar_parser_steps.proofs.Steps.{kind_test, kind_is, first_begins, token_at, token_not, none_begins, fails_as}
 use Rattle.cedar_parser_steps.proofs.reading.expect.Goals as goal
 

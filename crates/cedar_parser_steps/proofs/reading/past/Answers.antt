@@ -1,5 +1,5 @@
 use Rattle.std.proofs.Common.{◌∙◌, sym}
-use Rattle.cedar_grammar.specs.Kinds.{is}
+use Rattle.cedar_tokens.specs.Kinds.{is}
 use Rattle.cedar_parser_steps.proofs.Steps.{kind_test, kind_is, first_begins}
 use Rattle.cedar_parser_steps.proofs.reading.past.Goals as goal
 

@@ -1,5 +1,5 @@
 use Rattle.std.proofs.Common.{sym, ◌∙◌}
-use Rattle.cedar_grammar.specs.Kinds.{is_comparison}
+use Rattle.cedar_tokens.specs.Kinds.{is_comparison}
 use Rattle.cedar_parser_steps.proofs.Steps.{first_begins, none_begins, token_at, token_not, fails_as}
 use Rattle.cedar_parser_steps.proofs.signs.parse_comparison_sign.Goals as goal
 

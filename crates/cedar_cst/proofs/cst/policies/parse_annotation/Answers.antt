@@ -1,7 +1,7 @@
 use Rattle.std.proofs.Common.{refl, sym, ap, ◌∙◌}
 use Rattle.std.proofs.lemmas.Result.{err_from_is_err_and}
-use Rattle.cedar_grammar.specs.declared.kind.Kind.TheVariants as K
-use Rattle.cedar_grammar.specs.Kinds.{is}
+use Rattle.cedar_tokens.specs.declared.kind.Kind.TheVariants as K
+use Rattle.cedar_tokens.specs.Kinds.{is}
 use Rattle.cedar_grammar.specs.Trees.{Label, leaf, branch, none}
 use Rattle.cedar_grammar.specs.Reader.Reading.{tree, token}
 use Rattle.cedar_grammar.proofs.ReadingLaws.{tree_done, tree_fails, both_done, both_fails, both_then_fails, choice_yes, choice_no}

@@ -1,6 +1,6 @@
 use Rattle.std.proofs.Common.{suc, refl, sym, ◌∙◌, arith}
 use Rattle.std.proofs.lemmas.Result.{err_from_is_err_and}
-use Rattle.cedar_grammar.specs.Kinds.{begins, is_cond_word}
+use Rattle.cedar_tokens.specs.Kinds.{begins, is_cond_word}
 use Rattle.cedar_grammar.specs.Texts.{greatest_depth}
 use Rattle.cedar_grammar.specs.Trees.{Label}
 use Rattle.cedar_grammar.specs.Reader.Reading.{Reader}

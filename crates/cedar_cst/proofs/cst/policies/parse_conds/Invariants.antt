@@ -1,5 +1,5 @@
 use Rattle.std.proofs.Common.{◌≤◌, suc, length}
-use Rattle.cedar_grammar.specs.Kinds.{begins, is_cond_word}
+use Rattle.cedar_tokens.specs.Kinds.{begins, is_cond_word}
 use Rattle.cedar_grammar.specs.Texts.{greatest_depth}
 use Rattle.cedar_grammar.specs.Trees.{Label}
 use Rattle.cedar_grammar.specs.Reader.Lines.{cond_rule}

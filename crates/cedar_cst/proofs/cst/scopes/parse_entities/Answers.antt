@@ -1,6 +1,6 @@
 use Rattle.std.proofs.Common.{refl, sym, ap, subst, ◌∙◌, arith}
 use Rattle.std.proofs.lemmas.Result.{err_from_is_err_and}
-use Rattle.cedar_grammar.specs.Kinds.{is_ident}
+use Rattle.cedar_tokens.specs.Kinds.{is_ident}
 use Rattle.cedar_grammar.specs.Trees.{Label, none, branch, join}
 use Rattle.cedar_grammar.specs.Reader.Reading.{done}
 use Rattle.cedar_grammar.specs.Reader.Lines.{entity_item}

@@ -1,6 +1,6 @@
 use Rattle.std.proofs.Common.{◌≡◌, subst, sym}
 use Rattle.std.proofs.lemmas.Result.{err_from_is_err_and}
-use Rattle.cedar_grammar.specs.Kinds.{is}
+use Rattle.cedar_tokens.specs.Kinds.{is}
 use Rattle.cedar_grammar.specs.Trees.{Label, none, leaf}
 use Rattle.cedar_grammar.specs.Reader.Reading.{done, one}
 use Rattle.cedar_grammar.proofs.ReadingLaws.{tree_done, tree_fails}

@@ -2,7 +2,7 @@ use Rattle.std.proofs.Common.{◌≡◌, true, false, arith, refl, sym, ◌∙�
 use Rattle.std.specs.Prelude.{IsTrue, Contains, All, take}
 use Rattle.std.proofs.lemmas.List.Elements.{All-more, All-contains}
 use Rattle.std.proofs.lemmas.List.{take_all}
-use Rattle.cedar_grammar.specs.declared.kind.Kind.TheVariants as K
+use Rattle.cedar_tokens.specs.declared.kind.Kind.TheVariants as K
 use Rattle.cedar_expected.specs.Naming.{names}
 use Rattle.cedar_expected.specs.Inside.Samples.{all_kinds}
 use Rattle.cedar_expected.proofs.KindLists.{all_listed}

@@ -1,8 +1,8 @@
 -- Kinds of tokens, and sets of them.
 use Rattle.std.specs.Prelude.{ℕ, Bool, false, ◌||◌, nat_eq, List, [], ◌∷◌}
-use Rattle.cedar_grammar.specs.declared.kind.Kind.{Kind}
-use Rattle.cedar_grammar.specs.declared.kind.Words.{Words}
-use Rattle.cedar_grammar.specs.declared.kind.Kind.TheVariants.{True, False, If, Then, Else, In, Is, Like, Has, Permit, Forbid, When, Unless, Principal, Action, Resource, Context, Identifier, PrincipalSlot, ResourceSlot, Number, Str, At, Dot, Comma, SemiColon, Colon, DoubleColon, LParen, RParen, LBrace, RBrace, LBracket, RBracket, Equal, NotEqual, Lt, Le, Gt, Ge, Or, And, Add, Dash, Mul, Div, Modulo, Neg}
+use Rattle.cedar_tokens.specs.declared.kind.Kind.{Kind}
+use Rattle.cedar_tokens.specs.declared.kind.Words.{Words}
+use Rattle.cedar_tokens.specs.declared.kind.Kind.TheVariants.{True, False, If, Then, Else, In, Is, Like, Has, Permit, Forbid, When, Unless, Principal, Action, Resource, Context, Identifier, PrincipalSlot, ResourceSlot, Number, Str, At, Dot, Comma, SemiColon, Colon, DoubleColon, LParen, RParen, LBrace, RBrace, LBracket, RBracket, Equal, NotEqual, Lt, Le, Gt, Ge, Or, And, Add, Dash, Mul, Div, Modulo, Neg}
 
 -- a number for each kind
 abbrev pub code : Kind → ℕ

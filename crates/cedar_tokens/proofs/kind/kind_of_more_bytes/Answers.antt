@@ -2,7 +2,7 @@ use Rattle.std.proofs.Common.{◌≡◌, true, Bool, ℕ, List, nat_eq, nat_lt, 
 use Rattle.std.proofs.lemmas.Bool.Decides.{nat_tests}
 use Rattle.cedar_tokens.specs.Units.{keywords, slots, punctuators}
 use Rattle.cedar_tokens.proofs.Prefixes.{not_one_of_passing}
-use Rattle.cedar_tokens.proofs.token.token_of_more_bytes.Goals as goal
+use Rattle.cedar_tokens.proofs.kind.kind_of_more_bytes.Goals as goal
 
 abbrev has_more_bytes : List ℕ → Bool
 has_more_bytes u = nat_lt 2 (length u) && (not (nat_eq (length u) 4) && not (nat_eq (length u) 6))
