@@ -1,4 +1,4 @@
--- What the calls from C answer.
+-- The answers to calls from C.
 use Rattle.std.specs.Prelude.{◌≡◌, ◌<◌, ◌≤◌, ◌⊎◌, ◌++◌, ℕ, ℤ, List, length, drop, Result, Ok, Err}
 use Rattle.std.specs.Str.{IsUtf8}
 use Rattle.cedar_grammar.specs.Texts.{Accepted}
@@ -16,7 +16,7 @@ use Rattle.cedar_c.specs.declared.answer.CallFault.TheVariants.{NotUtf8, NoRoom,
 
 -- ---- numbers for C
 
--- the answer that says why a text is refused: the number of its kind, and its byte where it has one
+-- the answer that says why a text is refused: the number of its kind, and its byte if it has one
 abbrev pub answer_of_error : FormatError → Answer
 answer_of_error (UnknownCharacter at) = record { kind = 1; number = at }
 answer_of_error (UnfinishedString at) = record { kind = 2; number = at }
@@ -34,7 +34,7 @@ answer_of (Err (Format e)) = answer_of_error e
 answer_of (Err NotUtf8) = record { kind = 9; number = 0 }
 answer_of (Err (NoRoom n)) = record { kind = 10; number = n }
 
--- the answer says a result, or the want of one, of which this holds
+-- the answer reports a result, or that there is none, of which this holds
 abbrev pub Answers : (Result ℕ CallFault → Type 0) → Answer → Type 0
 Answers Holds answer = (r : Result ℕ CallFault) × Holds r × (answer ≡ answer_of r)
 
@@ -42,27 +42,27 @@ Answers Holds answer = (r : Result ℕ CallFault) × Holds r × (answer ≡ answ
 abbrev pub IsYesOrNo : Type 0 → ℕ → Type 0
 IsYesOrNo Holds n = ((n ≡ 1) × Holds) ⊎ ((n ≡ 0) × ¬ Holds)
 
--- ---- what is answered of texts
+-- ---- answers about texts
 
--- the layout was written to the start of the room, and what stands behind it is unchanged; or it has no room, and nothing was written
+-- the layout was written to the start of the room, and the rest is unchanged; or it doesn't fit, and nothing was written
 abbrev pub TellsPut : List ℕ → List ℕ → List ℕ → Result ℕ CallFault → Type 0
 TellsPut y old new (Ok n) = (n ≡ length y) × (n ≤ length old) × (new ≡ y ++ drop n old)
 TellsPut y old new (Err (NoRoom n)) = (n ≡ length y) × (length old < n) × (new ≡ old)
 TellsPut y old new (Err e) = ⊥
 
--- why the bytes are no accepted text: they are not UTF-8; or the text is refused
+-- why the bytes aren't an accepted text: they aren't UTF-8, or the text is refused
 abbrev pub FailsOn : List ℕ → CallFault → Type 0
 FailsOn text NotUtf8 = ¬ (IsUtf8 text)
 FailsOn text (Format e) = IsUtf8 text × OutOfMemoryOr (Refuses text) e
 FailsOn text (NoRoom n) = ⊥
 
--- of two, one is no text; or both are, and one is refused
+-- one of the two isn't a text; or both are, and one is refused
 abbrev pub FailsOnOne : List ℕ → List ℕ → CallFault → Type 0
 FailsOnOne a b NotUtf8 = ¬ (IsUtf8 a) ⊎ ¬ (IsUtf8 b)
 FailsOnOne a b (Format e) = IsUtf8 a × IsUtf8 b × OutOfMemoryOr (RefusesOne a b) e
 FailsOnOne a b (NoRoom n) = ⊥
 
--- the text's output was put into the room, or has none there; or there is no output, and the room is unchanged
+-- the text's output was written into the room, or doesn't fit; or there is no output, and the room is unchanged
 abbrev pub TellsFormat : ℕ → ℤ → List ℕ → List ℕ → List ℕ → Result ℕ CallFault → Type 0
 TellsFormat w i text old new (Ok n) = (y : List ℕ) × IsUtf8 text × IsOutputOf w i text y × TellsPut y old new (Ok n)
 TellsFormat w i text old new (Err (NoRoom n)) = (y : List ℕ) × IsUtf8 text × IsOutputOf w i text y × TellsPut y old new (Err (NoRoom n))
@@ -78,7 +78,7 @@ abbrev pub TellsSameLayout : List ℕ → List ℕ → Result ℕ CallFault → 
 TellsSameLayout a b (Ok n) = (IsUtf8 a × IsUtf8 b) × (Accepted a × Accepted b) × IsYesOrNo (HaveEqualLists a b) n
 TellsSameLayout a b (Err e) = FailsOnOne a b e
 
--- where the byte stands in the text; or that the bytes are not UTF-8
+-- where the byte is in the text; or that the bytes aren't UTF-8
 abbrev pub TellsPlace : List ℕ → ℕ → PlaceAnswer → Type 0
 TellsPlace text at p = (IsUtf8 text × (p ≡ record { kind = 0; line = line_at text at; column = column_at text at }))
     ⊎ (¬ (IsUtf8 text) × (p ≡ record { kind = 9; line = 0; column = 0 }))

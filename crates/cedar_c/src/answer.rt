@@ -9,21 +9,21 @@ use cedar_policy_formatter::FormatError;
 pub const RESULT: u32 = 0;
 /// The kind of bytes that aren't UTF-8.
 pub const NOT_UTF8: u32 = 9;
-/// The kind of a room that is too small.
+/// The kind of an answer for too small a room.
 pub const NO_ROOM: u32 = 10;
 
 /// What a call answers: a kind, and the number that belongs to it.
 #[repr(C)]
 #[derive(Clone, Copy)]
 pub struct Answer {
-    /// 0 for a result, 1 to 8 for a refused text, 9 for bytes that aren't UTF-8, 10 for too small a room.
+    /// 0 for a result, 1 to 8 for a refused text, 9 for bytes that aren't UTF-8, 10 if the room is too small.
     pub kind: u32,
-    /// With 0 the result: a length in bytes, or 1 for yes and 0 for no. With 1 to 5 the byte of the refusal, from 0. With
-    /// 10 the length in bytes that is wanted. Else 0.
+    /// With 0 it is the result: a length in bytes, or 1 for yes and 0 for no. With 1 to 5 it is the byte of the refusal,
+    /// from 0. With 10 it is the length in bytes that is needed. Otherwise it is 0.
     pub number: usize,
 }
 
-/// Where a byte of a text stands.
+/// Where a byte of a text is.
 #[repr(C)]
 #[derive(Clone, Copy)]
 pub struct PlaceAnswer {
@@ -40,7 +40,7 @@ pub struct PlaceAnswer {
 pub enum CallFault {
     /// The bytes aren't UTF-8.
     NotUtf8,
-    /// The result has so many bytes, more than there is room for.
+    /// The result has this many bytes, more than there is room for.
     NoRoom { length: usize },
     /// The text is refused.
     Format(FormatError),

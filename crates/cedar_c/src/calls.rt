@@ -8,7 +8,7 @@ use crate::answer::{CallFault, NOT_UTF8, PlaceAnswer, RESULT};
 use cedar_policy_formatter::{Config, is_formatted, place, policies_str_to_pretty, same_layout};
 use std::alloc::Global;
 
-/// Writes the layout of the policies `bytes` to the start of `out`: its length in bytes.
+/// Writes the layout of the policies `bytes` to the start of `out`. Returns its length in bytes.
 pub fn format_into(
     alloc: Global,
     bytes: &[u8],
@@ -46,7 +46,7 @@ pub fn compare_layouts(
     Ok(usize::from(yes))
 }
 
-/// Where the byte `at` stands in the text `bytes`.
+/// Where the byte `at` is in the text `bytes`.
 pub fn find_place(bytes: &[u8], at: usize) -> PlaceAnswer
     ensures { TellsPlace bytes.now at result }
 {
@@ -65,7 +65,7 @@ pub fn find_place(bytes: &[u8], at: usize) -> PlaceAnswer
     }
 }
 
-// The text that the bytes are, in UTF-8.
+// The text that the bytes encode in UTF-8.
 fn text_of(bytes: &[u8]) -> Result<&str, CallFault>
     ensures { MatchResult result (λ text. IsUtf8 bytes.now × (text.now ≡ bytes.now)) (λ fault. (fault ≡ NotUtf8) × ¬ (IsUtf8 bytes.now)) }
 {
@@ -75,7 +75,7 @@ fn text_of(bytes: &[u8]) -> Result<&str, CallFault>
     }
 }
 
-// Writes the layout to the start of the room, if it fits there: its length in bytes.
+// Writes the layout to the start of the room if it fits there. Returns its length in bytes.
 fn put(layout: &[u8], room: &mut [u8]) -> Result<usize, CallFault>
     ensures { TellsPut layout.now room.old room.new result }
 {

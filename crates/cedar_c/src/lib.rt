@@ -15,8 +15,8 @@ use calls::{check_layout, compare_layouts, find_place, format_into};
 use cedar_policy_formatter::Config;
 use std::alloc::Global;
 
-/// Lays the policies `text` out at `width` columns a line and `indent` columns a level, and writes the result to the start
-/// of `out`. The answer's number is its length in bytes, also where `out` is too small; then nothing is written, as with
+/// Lays out the policies `text` at `width` columns a line and `indent` columns a level, and writes the result to the start
+/// of `out`. The answer's number is its length in bytes, even if `out` is too small; then nothing is written, as with
 /// every refusal.
 #[unsafe(no_mangle)]
 pub extern "C" fn cedar_format(
@@ -54,7 +54,7 @@ pub extern "C" fn cedar_is_formatted(
     *answer = answer_of(check_layout(alloc, text, &config));
 }
 
-/// Whether `a` and `b` are laid out alike: the answer's number is 1 for yes and 0 for no. A refusal of `a` is answered
+/// Whether `a` and `b` are laid out alike: the answer's number is 1 for yes and 0 for no. A refusal of `a` is reported
 /// before one of `b`.
 #[unsafe(no_mangle)]
 pub extern "C" fn cedar_same_layout(
@@ -74,8 +74,8 @@ pub extern "C" fn cedar_same_layout(
     *answer = answer_of(compare_layouts(alloc, a, b, &config));
 }
 
-/// Where the byte `at` of `text`, counted from 0, stands: its line and its column, both from 1, the column in characters. A
-/// byte behind the end stands where the text ends.
+/// Where the byte `at` of `text`, counted from 0, is: its line and its column, both from 1, the column in characters. A
+/// byte past the end is at the end of the text.
 #[unsafe(no_mangle)]
 pub extern "C" fn cedar_place(text: &[u8], at: usize, answer: &mut PlaceAnswer)
     ensures { TellsPlace text.now at answer.new }

@@ -1,4 +1,4 @@
--- What the reader's answer says of the list, in the grammar's words.
+-- What the reader's answer means for the list, in terms of the grammar.
 use Rattle.std.specs.Prelude.{◌≡◌, ℕ, Bool, true, false, List, [], ◌∷◌, ◌++◌, IsTrue, ◌⊎◌}
 use Rattle.std.proofs.Common.{refl, sym, ap, ◌∙◌, append-nil, inl, inr}
 use Rattle.cedar_tokens.specs.declared.kind.Kind.{Kind}
@@ -55,7 +55,7 @@ module _ {A : Type 0} (kind : A → Kind) where
     pub only_tree : (d : ℕ) (ts : List A) (f g : Forest Label A) → G kind d f ts → G kind d g ts → f ≡ g
     only_tree d ts f g x y = Families.one_tree (set_to kind) (PolicySet kind) (set_laws kind sample) d f g x.shape y.shape (x.leaves ∙ sym y.leaves)
 
-    -- Whether a list is one of the grammar can be told.
+    -- Whether a list is one of the grammar is decidable.
     pub told : (d : ℕ) (ts : List A) → ((f : Forest Label A) × G kind d f ts) ⊎ ((f : Forest Label A) → ¬ (G kind d f ts))
     told d ts = go (set_to kind d ts) refl
       where
@@ -64,6 +64,6 @@ module _ {A : Type 0} (kind : A → Kind) where
         go (done f (a ∷ r)) e = inr (λ g x. let c = (set_laws kind sample).complete d g x.shape in let w : done g [] ≡ done f (a ∷ r) = sym c ∙ ap (set_to kind d) x.leaves ∙ e in let z : ◌≡◌ {A = List A} [] (a ∷ r) = cc in cc)
         go (stuck b r) e = inr (λ g x. let c = (set_laws kind sample).complete d g x.shape in let w : done g [] ≡ stuck b r = sym c ∙ ap (set_to kind d) x.leaves ∙ e in cc)
 
--- Tokens that carry more, as texts with places: the answer says the same of their texts.
+-- For tokens that carry more, such as texts with places, the answer says the same as for their texts.
 pub says_of : {A B : Type 0} (h : A → B) (kind : A → Kind) (kind' : B → Kind) → ((a : A) → kind' (h a) ≡ kind a) → Samples kind' → (d : ℕ) (ts : List A) (x : Answer A) → set_to kind d ts ≡ x → Says kind' d (each h ts) (answer_of h x)
 says_of h kind kind' same sample d ts x e = says kind' sample d (each h ts) (answer_of h x) (set_agrees h kind kind' same d ts ∙ ap (answer_of h) e)

@@ -1,4 +1,4 @@
--- Conjunctions, disjunctions and negations that hold, and that do not.
+-- Conjunctions, disjunctions and negations that hold or fail.
 use Rattle.std.specs.Prelude.{◌≡◌, Bool, true, false, ◌||◌, ◌&&◌, not, IsTrue}
 use Rattle.std.proofs.Common.{refl}
 

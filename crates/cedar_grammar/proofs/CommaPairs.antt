@@ -174,7 +174,7 @@ module _ {A : Type 0} (kind : A → Kind) where
           let h = rule_alone true (G.Expr kind d) (expr_inner d) (star (spelled policy_rule)) refl u [] m tt (λ h. absurd cc) in
           subst (NoTwoCommas kind) (sym (ap yield e) ∙ g.leaves) h
 
-  -- of a list without two commas next to each other the plain list has no trailing comma
+  -- if a list has no two commas next to each other, its plain list has no trailing comma
   plain_begins : (ts : List A) → NoTwoCommas kind ts → begins kind is_closing (plain kind ts) ≡ true → (begins kind is_closing ts ≡ true) ⊎ (comma ts ≡ true)
   plain_begins [] n h = absurd (let z : false ≡ true = h in cc)
   plain_begins (a ∷ ts) n h = go (is K.Comma (kind a)) refl

@@ -1,4 +1,4 @@
--- With more room a reader does the same, but where it failed by depth alone it goes on.
+-- With more room a reader does the same, except that it goes on where it failed only by depth.
 use Rattle.std.specs.Prelude.{◌≡◌, ℕ, zero, suc, ◌<◌, ◌≤◌, Bool, true, false, List, [], ◌∷◌, length}
 use Rattle.std.proofs.Common.{refl, sym, ap, ◌∙◌, arith, length-append, subst}
 use Rattle.cedar_tokens.specs.declared.kind.Kind.{Kind}
@@ -126,7 +126,7 @@ module _ {A : Type 0} where
       go true h = moved P P' (λ ts. choice (t ts) P Q ts) (λ ts. choice (t ts) P' Q' ts) ts (choice_yes (t ts) P Q ts h) (choice_yes (t ts) P' Q' ts h) (p ts h)
       go false h = moved Q Q' (λ ts. choice (t ts) P Q ts) (λ ts. choice (t ts) P' Q' ts) ts (choice_no (t ts) P Q ts h) (choice_no (t ts) P' Q' ts h) (q ts)
 
-  -- where there was no room, and now is
+  -- where there was no room and now there is
   pub nest_opens : (P Q : Reader A) (ts : List A) → Beyond (Q ts) (length ts) → DeeperAt (nest false P) (nest true Q) ts
   unfolding nest
   nest_opens P Q ts h =
@@ -167,7 +167,7 @@ module _ {A : Type 0} (kind : A → Kind) where
           go true h = let d = token_yes kind p a ts h in cc
           go false h = let d = token_no kind p a ts h in cc
 
-  -- a construct that begins with a token which is there goes beyond it
+  -- a construct that begins with a present token reads past it
   pub opening_beyond : (p : Kind → Bool) (Q : Reader A) → Local Q → (ts : List A) → begins kind p ts ≡ true → Beyond (both (token kind p) Q ts) (length ts)
   opening_beyond p Q q ts h =
       let t = token_begins kind p ts h in

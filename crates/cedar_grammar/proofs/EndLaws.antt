@@ -1,4 +1,4 @@
--- What was read before a failure can be completed; what fails by depth alone goes on where there is room.
+-- What was read before a failure can be completed; what fails only by depth goes on where there is room.
 use Rattle.std.specs.Prelude.{◌≡◌, ℕ, zero, suc, Bool, true, false, List, [], ◌∷◌, ◌++◌, length, IsTrue, ◌⊎◌}
 use Rattle.std.proofs.Common.{refl, sym, ap, ◌∙◌, append_assoc, append-nil, inl, inr}
 use Rattle.cedar_tokens.specs.declared.kind.Kind.{Kind}
@@ -16,7 +16,7 @@ module _ {A : Type 0} where
     pub among : X trees
     pub leaves : yield trees ≡ front ++ rest
 
-  -- What stands before the place of a failure: nothing, or what can be completed.
+  -- What precedes the place of a failure: nothing, or what can be completed.
   pub record Halt (X : Lang A) (ts r : List A) : Type 0 where
     pub front : List A
     pub tokens : ts ≡ front ++ r

@@ -9,7 +9,7 @@ use Rattle.cedar_grammar.proofs.PlaceLaws.{Local}
 use Rattle.cedar_grammar.proofs.EndLaws.{Completed, Completes, Inhabited, halt_whole}
 use Rattle.cedar_grammar.proofs.DepthLaws.{Deeper, Beyond}
 
--- of two cuts of a list the one that leaves less takes at least one token more
+-- of two cuts of a list, the one that leaves less takes at least one more token
 longer : {A : Type 0} → (x y : List A) (a : A) (r s : List A) → x ++ (a ∷ r) ≡ y ++ s → length s < length (a ∷ r) → (e : List A) × (y ≡ x ++ (a ∷ e))
 longer [] [] a r s h k = let z = ap length h in absurd (omega (arith, z))
 longer [] (b ∷ y) a r s h k = let z : b ≡ a = cc in (y, ap (λ c. c ∷ y) z)
@@ -31,7 +31,7 @@ module _ {A : Type 0} (P : ℕ → Reader A) (X : ℕ → Lang A) where
   abbrev pub IsList : ℕ → List A → Type 0
   IsList d ts = (f : Forest Label A) × X d f × (yield f ≡ ts)
 
-  -- some list of the language at depth d begins so
+  -- some list of the language at depth d begins with these tokens
   abbrev pub Starts : ℕ → List A → Type 0
   Starts d front = (rest : List A) × IsList d (front ++ rest)
 
@@ -84,7 +84,7 @@ module _ {A : Type 0} (P : ℕ → Reader A) (X : ℕ → Lang A) where
     of_completed : (d : ℕ) (front : List A) → Completed (X d) front → Starts d front
     of_completed d front c = (c.rest, (c.trees, c.among, c.leaves))
 
-    -- What stands before the place of a failure begins a list.
+    -- What precedes the place of a failure begins a list.
     pub viable : (d : ℕ) (ts : List A) (b : Bool) (r : List A) → P d ts ≡ stuck b r → (front : List A) × (ts ≡ front ++ r) × Starts d front
     viable d ts b r e = let h = halt_whole (X d) (laws.some_tree d) ts r (laws.completes d ts b r e) in (h.0, h.1, of_completed d h.0 h.2)
 
@@ -148,7 +148,7 @@ module _ {A : Type 0} (P : ℕ → Reader A) (X : ℕ → Lang A) where
           },
         )
 
-    -- the list could go on, and is none
+    -- the list could go on, but is not complete
     pub unfinished : (d : ℕ) (ts : List A) (b : Bool) → P d ts ≡ stuck b [] → Starts d ts × ¬ (IsList d ts)
     unfinished d ts b e =
         let v = viable d ts b [] e in

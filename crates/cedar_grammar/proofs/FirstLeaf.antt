@@ -1,4 +1,4 @@
--- Trees whose first leaf is changed.
+-- Trees with a changed first leaf.
 use Rattle.std.proofs.Common.{◌≡◌, List, [], ◌∷◌, ◌++◌, refl, ap, ◌∙◌}
 use Rattle.std.specs.Prelude.{⊤}
 use Rattle.cedar_grammar.specs.TypedTrees.{Tree, NodeKind, accesses, tree_yield, tree_map, map_first, name_one, name_more, ref_of, args_one, args_more, init_of, inits_one, inits_more, literal, slot, reference, named, parens, list_empty, list_of, record_empty, record_of, no_access, field, call_empty, call, index, member_of, unsigned, signed, products_one, products_more, mult_of, sums_one, sums_more, add_of, single, compare, has_or_like, is_type, is_in, ands_one, ands_more, ors_one, ors_more, ors_expr, if_expr}
@@ -63,7 +63,7 @@ starts (if_expr i c t a g b) = tt
 
 -- ---- the tree by a map of all its leaves
 
--- a map that turns the one change into the other
+-- a map that turns one change into the other
 module _ {A B : Type 0} (f : A → A) (g : B → B) (h : A → B) (same : (a : A) → g (h a) ≡ h (f a)) where
   pub map_first_map : {k : NodeKind} (t : Tree A k) → map_first g (tree_map h t) ≡ tree_map h (map_first f t)
   map_first_map (name_one x) = ap name_one (same x)

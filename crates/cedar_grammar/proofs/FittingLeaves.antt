@@ -1,4 +1,4 @@
--- What the kinds of the leaves of a typed tree are, as far as its document depends on them.
+-- The kinds of the leaves of a typed tree, as far as its document depends on them.
 use Rattle.std.specs.Prelude.{Bool, ◌||◌, IsTrue, nat_lt, ⊤}
 use Rattle.cedar_tokens.specs.declared.kind.Kind.{Kind}
 use Rattle.cedar_tokens.specs.declared.kind.Kind.TheVariants as K

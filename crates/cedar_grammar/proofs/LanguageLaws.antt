@@ -31,7 +31,7 @@ module _ {A : Type 0} where
   abbrev pub Sound : Reader A → Lang A → Type 0
   Sound P X = (ts : List A) (f : Forest Label A) (r : List A) → P ts ≡ done f r → IsRead X ts f r
 
-  -- What is in the language is read, where what follows does not go on with it.
+  -- What is in the language is read, where what follows does not continue it.
   abbrev pub Complete : Reader A → Lang A → (List A → Type 0) → Type 0
   Complete P X Stop = (f : Forest Label A) (r : List A) → X f → Stop r → P (yield f ++ r) ≡ done f r
 

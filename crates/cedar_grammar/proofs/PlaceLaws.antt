@@ -39,7 +39,7 @@ module _ {A : Type 0} where
     pub success : (ts : List A) (f : Forest Label A) (r : List A) → P ts ≡ done f r → Success P ts f r
     pub failure : (ts : List A) (b : Bool) (r : List A) → P ts ≡ stuck b r → Failure P ts b r
 
-  -- a test that looks at the first token alone
+  -- a test that looks only at the first token
   abbrev pub LooksAhead : (List A → Bool) → Type 0
   LooksAhead t = (r s : List A) → Alike r s → t r ≡ t s
 

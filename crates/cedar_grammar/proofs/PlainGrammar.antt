@@ -47,7 +47,7 @@ starts (star a) = starts a
 starts (node l a) = true
 starts r = false
 
--- a comma that has to stay stands before no closing bracket
+-- a comma that has to stay precedes no closing bracket
 abbrev fit : Rule → Bool
 fit never = true
 fit empty = true
@@ -65,7 +65,7 @@ module _ {A : Type 0} (kind : A → Kind) where
   abbrev wt : Forest Label A → Forest Label A
   wt f = without_trailing kind f
 
-  -- the row f of the language, before g, is without trailing commas a row of it
+  -- the row f of the language, before g, is still a row of it without its trailing commas
   abbrev Kept : Lang A → Forest Label A → Forest Label A → Type 0
   Kept X f g = (h : Forest Label A) × X h × (wt (join f g) ≡ join h (wt g))
 

@@ -98,7 +98,7 @@ module _ {A : Type 0} where
   unfolding repeat
   repeat_end t P ts h = many_end t P (suc (length ts)) ts h
 
-  -- What was read so far, then what reading on gives.
+  -- What was read so far, followed by what reading on gives.
   abbrev pub onto : Forest Label A → Answer A → Answer A
   onto f a = after a (λ g s. done (join f g) s)
 

@@ -26,7 +26,7 @@ module _ {A B : Type 0} (h : A → B) (kind : A → Kind) (kind' : B → Kind) (
       go (leaf a f) = ap (λ z. h a ∷ z) (go f)
       go (branch l f g) = ap (λ z. z ++ yield (relabel h g)) (go f) ∙ ap (λ z. each h (yield f) ++ z) (go g) ∙ sym (each_append (yield f) (yield g))
 
-  -- trees of the grammar stay such
+  -- trees of the grammar remain trees of the grammar
   pub relabelled : (d : ℕ) (f : Forest Label A) (ts : List A) → G kind d f ts → G kind' d (relabel h f) (each h ts)
   relabelled d f ts g =
       let e : set_to kind' d (each h (yield f)) ≡ done (relabel h f) [] = set_agrees h kind kind' same d (yield f) ∙ ap (answer_of h) (set_complete kind d f g.shape) in
@@ -36,7 +36,7 @@ module _ {A B : Type 0} (h : A → B) (kind : A → Kind) (kind' : B → Kind) (
   begins_each p [] = refl
   begins_each p (a ∷ ts) = ap p (same a)
 
-  -- trailing commas stay such
+  -- trailing commas remain trailing commas
   pub plain_each : (ts : List A) → plain kind' (each h ts) ≡ each h (plain kind ts)
   plain_each [] = refl
   plain_each (a ∷ ts) = ap (λ k. drop_if (is K.Comma k && begins kind' is_closing (each h ts)) (h a ∷ plain kind' (each h ts)) (plain kind' (each h ts))) (same a)

@@ -1,4 +1,4 @@
--- Worked texts, computed. Each row has a text's units, parted by `~`, and what the text is: accepted, or refused at a byte.
+-- Worked texts, computed. Each row has a text's units, separated by `~`, and the result: accepted, or refused at a byte.
 use Rattle.std.specs.Prelude.{◌≡◌, ℕ, zero, suc, true, false, ◌==◌, if◌then◌else◌, List, [], ◌∷◌, ◌++◌, codes}
 use Rattle.std.proofs.Common.{refl}
 use Rattle.cedar_tokens.specs.Units.{slots, punctuators}

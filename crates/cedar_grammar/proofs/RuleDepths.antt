@@ -1,4 +1,4 @@
--- With more room a rule's reader does the same, but where it failed by depth alone it goes on.
+-- With more room a rule's reader does the same, except that it goes on where it failed only by depth.
 use Rattle.std.specs.Prelude.{◌≡◌, ℕ, zero, suc, Bool, true, false, IsTrue, List, length}
 use Rattle.std.proofs.Common.{refl, sym, ◌∙◌, subst}
 use Rattle.cedar_tokens.specs.declared.kind.Kind.{Kind}
@@ -93,7 +93,7 @@ module _ {A : Type 0} (kind : A → Kind) where
       read_deeper entity d = refuse_deeper
       read_deeper (reference c) d = refuse_deeper
 
-    -- where there was no room, and now is
+    -- where there was no room and now there is
     pub read_opens : (R : Rule) → IsTrue (decided R) → IsTrue (covered R) → Deeper (read kind false E R) (read kind true F R)
     read_opens never d c = refuse_deeper
     read_opens empty d c = skip_deeper

@@ -1,4 +1,4 @@
--- The laws of rules: what a rule's reader reads is in its language, and what is in its language is read, where one token is enough.
+-- The laws of rules: a rule's reader reads only its language, and all of its language where one token is enough.
 use Rattle.std.specs.Prelude.{◌≡◌, ℕ, zero, suc, ◌<◌, ◌+◌, Bool, true, false, ◌||◌, ◌&&◌, not, IsTrue, List, [], ◌∷◌, ◌++◌, length}
 use Rattle.std.proofs.Common.{refl, sym, ap, ◌∙◌, arith, inl, inr, append-nil, length-append, subst}
 use Rattle.cedar_grammar.proofs.KindSets.{apart, and_left, and_right, or_left, or_right, or_first, or_second, not_true, apart_at}
@@ -46,7 +46,7 @@ module _ {A : Type 0} where
       ap (λ z. shaped_at P (yield z ++ r)) e ∙ ap (λ z. shaped_at P (z ++ r)) (gather_yield none g) ∙ shaped_done P (yield g ++ r) g r (p g r x s) ∙ ap (λ z. done z r) (sym e)
 
 module _ {A : Type 0} (kind : A → Kind) where
-  -- The list is empty, where that may be, or begins with a token of the set.
+  -- The list is empty, where that is allowed, or begins with a token of the set.
   abbrev pub Begun : Bool → (Kind → Bool) → List A → Type 0
   Begun n p [] = IsTrue n
   Begun n p (a ∷ xs) = IsTrue (p (kind a))
@@ -80,7 +80,7 @@ module _ {A : Type 0} (kind : A → Kind) where
   begins_true n p [] r e h = absurd cc
   begins_true n p (a ∷ xs) r e h = h
 
-  -- what begins with another set, or is empty where what follows doesn't
+  -- what begins with another set, or is empty where what follows does not begin with this one
   begins_false : (n : Bool) (p q : Kind → Bool) (xs r : List A) → Begun n p xs → ((k : Kind) → IsTrue (p k) → q k ≡ false) → (IsTrue n → Stop q r) → Stop q (xs ++ r)
   begins_false n p q [] r h k s = s h
   begins_false n p q (a ∷ xs) r h k s = k (kind a) h
@@ -290,7 +290,7 @@ module _ {A : Type 0} (kind : A → Kind) where
     pub read_takes : (R : Rule) → IsTrue (decided R) → nullable R ≡ false → Takes (read kind room E R)
     read_takes R d n = takes_of (read kind room E R) (means kind room X R) (nullable R) (first R) n (read_sound room E X s R) (rule_begun R d)
 
-    -- What is in the language is read whole, where no token follows that goes on with it.
+    -- What is in the language is read whole if no following token continues it.
     pub read_complete : (R : Rule) → IsTrue (decided R) → Complete (read kind room E R) (means kind room X R) (Stop (clash R))
     read_complete never d = λ f r x k. absurd x
     read_complete empty d = skip_complete _

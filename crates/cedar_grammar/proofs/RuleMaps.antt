@@ -154,6 +154,6 @@ module _ {A B : Type 0} (h : A → B) where
     expr_agrees zero = read_agree false too_deep too_deep (λ ts. refl) (core expr_rule)
     expr_agrees (suc d) = read_agree true (expr_to kind d) (expr_to kind' d) (expr_agrees d) (core expr_rule)
 
-    -- The reader of policy sets answers the same of the changed tokens.
+    -- The reader of policy sets gives the same answer for the changed tokens.
     pub set_agrees : (d : ℕ) → Agree (set_to kind d) (set_to kind' d)
     set_agrees d = read_agree true (expr_to kind d) (expr_to kind' d) (expr_agrees d) (core set_rule)

@@ -12,12 +12,12 @@ use Rattle.cedar_grammar.specs.Reader.Regroup.{gather}
 use Rattle.cedar_grammar.specs.Reader.Rules.{Rule, never, empty, inner, leaf_of, nested, then, either, star, tail, node, shaped, items, entity, reference, nullable, first}
 use Rattle.cedar_grammar.proofs.KindSets.{kinds, some, apart}
 
--- the kinds that go on with an expression
+-- the kinds that continue an expression
 abbrev pub expr_clash : Kind → Bool
 expr_clash x = is K.Or x || is K.And x || is K.Lt x || is K.Le x || is K.Gt x || is K.Ge x || is K.NotEqual x || is K.Equal x || is K.In x || is K.Has x || is K.Like x || is K.Is x
     || is K.Add x || is K.Dash x || is K.Mul x || is K.Dot x || is K.LBracket x || is K.LParen x || is K.DoubleColon x
 
--- the kinds that may not follow, since the list would go on
+-- the kinds that may not follow, since the list would continue
 abbrev pub clash : Rule → Kind → Bool
 clash never = no_kind
 clash empty = no_kind
@@ -51,7 +51,7 @@ decided (items a) = false
 decided entity = false
 decided (reference c) = false
 
--- some list, without any bracket or if where none may stand
+-- some list, without a bracket or an if where none is allowed
 abbrev pub has : Bool → Rule → Bool
 has b never = false
 has b empty = true
@@ -68,7 +68,7 @@ has b (items a) = false
 has b entity = false
 has b (reference c) = false
 
--- What was begun can be ended so.
+-- What was begun can be completed so.
 abbrev pub closes : Bool → Rule → Bool
 closes b never = true
 closes b empty = true
@@ -85,7 +85,7 @@ closes b (items a) = false
 closes b entity = false
 closes b (reference c) = false
 
--- expressions stand in brackets and after an if alone
+-- expressions occur only in brackets and after an if
 abbrev pub covered : Rule → Bool
 covered never = true
 covered empty = true
@@ -121,7 +121,7 @@ module _ {A : Type 0} (kind : A → Kind) where
   abbrev pub Reference : Lang A → Lang A
   Reference C = Branch L.primary (Branch L.name (Branch L.ident (Of kind is_variable))) ∪ Entity kind ∪ Branch L.primary (Path kind) ⋄ C
 
-  -- what the rule means, where room says whether a bracket or an if may stand there, and E has what may stand in it
+  -- what the rule means, where room says whether a bracket or an if is allowed, and E is what it may contain
   abbrev pub means : Bool → Lang A → Rule → Lang A
   means room E never = Never
   means room E empty = Empty

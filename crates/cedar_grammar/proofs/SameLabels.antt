@@ -1,4 +1,4 @@
--- The tree of typed policies under two ways to tell the kinds of tokens.
+-- The tree of typed policies under two ways to determine the kinds of tokens.
 use Rattle.std.proofs.Common.{◌≡◌, ℕ, List, [], ◌∷◌, Bool, true, false, refl, ap, sym, ◌∙◌}
 use Rattle.std.specs.Prelude.{if◌then◌else◌}
 use Rattle.cedar_tokens.specs.declared.kind.Kind.{Kind}

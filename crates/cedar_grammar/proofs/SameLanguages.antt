@@ -47,8 +47,8 @@ module _ {A : Type 0} (text : A → List ℕ) where
   above : (f g : Forest Label A) (l : Label) → f ≡ branch l g none → All g → All f
   above f g l e a = subst (AreTokens text) (sym (ap yield e)) (whole (yield g) [] a tt)
 
-  -- The language over texts has those of the other's trees whose leaves are tokens: its trees have no other leaves, and they are the
-  -- other's; and a tree of the other with such leaves is its own.
+  -- The language over texts has exactly those of the other's trees whose leaves are tokens: its trees have no other leaves,
+  -- and each of its trees is one of the other's.
   pub record Same (X Y : Lang A) : Type 0 where
     pub tokens : (f : Forest Label A) → X f → All f
     pub kinds : (f : Forest Label A) → X f → Y f
@@ -99,7 +99,7 @@ pub ◌either◌ : {A : Type 0} {text : A → List ℕ} {X Y : Lang A} {p q : Ki
   };
 }
 
--- the same set, written in another way
+-- the same set, written differently
 pub same_set : {A : Type 0} {text : A → List ℕ} {X : Lang A} {p : Kind → Bool} → IsSet text X p → (q : Kind → Bool) → IsTrue (within p q) → IsTrue (within q p) → Same text X (Of (kind text) q)
 same_set {text = text} {p = p} s q h k = record {
   tokens = s.same.tokens;
@@ -107,7 +107,7 @@ same_set {text = text} {p = p} s q h k = record {
   texts = λ f all (a, e, x). s.same.texts f all (a, e, within_at q p k (kind text a) x);
 }
 
--- ---- what grammars are written with
+-- ---- the building blocks of grammars
 
 infixr 24 ◌then◌
 pub ◌then◌ : {A : Type 0} {text : A → List ℕ} {X X' Y Y' : Lang A} → Same text X X' → Same text Y Y' → Same text (X ⋄ Y) (X' ⋄ Y')

@@ -89,7 +89,7 @@ first_large f1 f2 n1 n2 r1 r2 e x1 x2 l1 l2 = go (cuts f1 f2 n1 n2 r1 r2 e)
     go (inr (inl (d, i))) = absurd (fit_part f1 n1 d (sym (ap (list_any is_too_large) i) ∙ x2) l1)
     go (inr (inr (d, i))) = absurd (fit_part f2 n2 d (sym (ap (list_any is_too_large) i) ∙ x1) l2)
 
--- A cut of the tokens is one of the units.
+-- A cut of the tokens is a cut of the units.
 pub record UnitCut (units front : List (List ℕ)) (t : List ℕ) (rest : List (List ℕ)) : Type 0 where
   pub before : List (List ℕ)
   pub after : List (List ℕ)

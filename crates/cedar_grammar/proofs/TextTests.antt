@@ -89,7 +89,7 @@ punctuators_fixed : list_all (is_one_of fixed_texts) punctuators ≡ true
 unfolding punctuators
 punctuators_fixed = refl
 
--- a token that is none of the table's is a word, a number or a string, as its kind says
+-- a token that isn't in the table is a word, a number or a string, as its kind says
 others : (t : List ℕ) → IsToken t → is_one_of fixed_texts t ≡ false
     → (is K.Identifier (other_kind t) ≡ is_word t) × (is K.Number (other_kind t) ≡ is_number t) × (is K.Str (other_kind t) ≡ is_string t)
 others [] h n = absurd (no_empty_token h)
@@ -101,7 +101,7 @@ others (b ∷ bs) h n = elim (token_of b bs h) [
   | punctuator c l a ↦ (let z : is_one_of fixed_texts (b ∷ bs) ≡ true = one_of (is_one_of fixed_texts) punctuators (b ∷ bs) punctuators_fixed a in absurd cc)
 ]
 
--- the kind of such a token is one of three
+-- such a token has one of three kinds
 three : (p q : Kind → Bool) → p K.Str ≡ q K.Str → p K.Number ≡ q K.Number → p K.Identifier ≡ q K.Identifier → (t : List ℕ) → p (other_kind t) ≡ q (other_kind t)
 three p q s n i [] = i
 three p q s n i (b ∷ bs) = go (b == 34) (is_ascii_digit b)
@@ -111,7 +111,7 @@ three p q s n i (b ∷ bs) = go (b == 34) (is_ascii_digit b)
     go false true = n
     go false false = i
 
--- a text that is none of the table's is none of some of them
+-- a text that isn't in the table is none of some of its texts
 none_of : (texts : List (List ℕ)) → list_all (is_one_of fixed_texts) texts ≡ true → (t : List ℕ) → is_one_of fixed_texts t ≡ false → is_one_of texts t ≡ false
 none_of texts a t n = go (is_one_of texts t) refl
   where
@@ -121,7 +121,7 @@ none_of texts a t n = go (is_one_of texts t) refl
 
 -- ---- the tests of the grammar's leaves
 
--- this kind is that of the text s, which stands in the table, and of no other text
+-- this kind is that of the text s, which is in the table, and of no other text
 abbrev pub has_text : Kind → List ℕ → Bool
 has_text k s = agree_on (is k) (bytes_eq s) fixed_tokens && (is_one_of fixed_texts s && not (is k K.Str || (is k K.Number || is k K.Identifier)))
 

@@ -84,7 +84,7 @@ module _ {A : Type 0} (kind : A → Kind) where
     ors = chain kind L.and T.ands T.ors (Branch L.relation X ⋄ Many (G.One kind K.And ⋄ Branch L.relation X)) (is K.Or) T.ors_one T.ors_more (λ t. refl) (λ t a r. refl) (λ t h. h) (λ t a r h k. (h, k)) ands
 
   module _ (Sum : Lang A) (sum : (f : Forest Label A) → Sum f → Node L.add T.add f) where
-    -- a relation: one operand, or an operator and what stands behind it
+    -- a relation: one operand, or an operator and what follows it
     pub operator_kept : (p : Kind → Bool) (X : Lang A) (l k : Label) (f : Forest Label A) → ((g : Forest Label A) → X g → Node L.add T.add g) → Branch k (Of kind p ⋄ X) f
         → (a : A) × (t : T.Tree A T.add) × (without_trailing kind f ≡ branch k (leaf a (branch L.add (parts kind t) none)) none) × Fits kind t
     operator_kept p X l k f typed (g, e, (u, v, d, (a, b, o), y)) =

@@ -68,7 +68,7 @@ module _ {A : Type 0} (kind : A → Kind) where
       go : (f : Forest Label A) → Branch L.primary (Branch L.list (G.One kind K.LBracket ⋄ Maybe (G.Items kind (G.EntityItem kind)) ⋄ G.One kind K.RBracket)) f → Typed kind T.member f
       go f (p, e, (q, d, x)) = let t = list kind false (G.EntityItem kind) entity_item q x in alone kind f (p, e, (t.0, ap (without_trailing kind) d ∙ t.1, t.2))
 
-  -- a word and what stands behind it
+  -- a word and what follows it
   behind : (k : A) (v : Forest Label A) → without_trailing kind (branch L.ident (leaf k none) v) ≡ branch L.ident (leaf k none) (without_trailing kind v)
   behind k v = ap (λ z. branch L.ident z (without_trailing kind v)) (lone kind k)
 
@@ -186,7 +186,7 @@ module _ {A : Type 0} (kind : A → Kind) where
   before_bracket q f rest h (inl (a, e, o)) = ap (λ z. without_trailing kind (join z (leaf q rest))) e
       ∙ rw (o, within_at (is K.RParen) is_closing refl (kind q) h) (opening_kept kind q rest (not_comma kind K.RParen q h refl))
 
-  -- a token and a scope variable behind it
+  -- a token and the scope variable after it
   before_variable : (a : A) (g rest : Forest Label A) (t : Clause A T.variable) → without_trailing kind g ≡ part_parts kind t
       → without_trailing kind (leaf a (branch L.variable g rest)) ≡ leaf a (branch L.variable (part_parts kind t) (without_trailing kind rest))
   before_variable a g rest t e = kept kind a L.variable g rest ∙ ap (λ z. leaf a (branch L.variable z (without_trailing kind rest))) e

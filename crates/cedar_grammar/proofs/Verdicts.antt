@@ -22,19 +22,19 @@ use Rattle.cedar_grammar.proofs.TextKinds.{samples}
 use Rattle.cedar_grammar.proofs.TextLaws.{Large, numbers_or, unit_cut}
 use Rattle.cedar_grammar.proofs.Relabelling.{each_map}
 
--- accepted; refused at a byte, and whether only by its depth; a number too large at a byte
+-- accepted; refused at a byte, and whether only by its depth; a number at a byte that is too large
 pub data Verdict : Type 0 where
   accepted : Verdict
   refused : Bool → ℕ → Verdict
   too_large : ℕ → Verdict
 
--- what it says of the text
+-- what the verdict says about the text
 abbrev pub Holds : List ℕ → Verdict → Type 0
 Holds text accepted = Accepted text
 Holds text (refused deep at) = IsRefused text at deep
 Holds text (too_large at) = IsFirstTooLarge text at
 
--- where the token with n tokens before it starts; the text's length where there is none
+-- where the token with n tokens before it starts, or the text's length if there is none
 abbrev pub start_after : List (List ℕ) → ℕ → ℕ
 start_after [] n = 0
 start_after (u ∷ us) zero = if is_token u then 0 else length u + start_after us zero
@@ -55,7 +55,7 @@ abbrev pub of_numbers : Option ℕ → Verdict → Verdict
 of_numbers None v = v
 of_numbers (Some at) v = too_large at
 
--- what a text with these units is, at the depth d
+-- the verdict on a text with these units, at the depth d
 abbrev pub verdict : ℕ → List (List ℕ) → Verdict
 verdict d units = of_numbers (large_at units) (of_answer units (set_to (λ (k : Kind). k) d (map kind_of (only_tokens units))))
 

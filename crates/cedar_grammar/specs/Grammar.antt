@@ -1,6 +1,6 @@
--- The grammar over the texts of tokens: a definition for each line of the written grammar, which stands above it.
--- In a written line {X} is any number of X, [X] one or none, and a quoted sign is the token of this text.
--- A token is a leaf; every other part is a tree of its label. A path that is called is a name and then an access.
+-- The grammar over the texts of tokens: a definition for each line of the written grammar, which is quoted above it.
+-- In a written line {X} is any number of X, [X] is one or none, and a quoted sign is the token with this text.
+-- A token is a leaf; every other part is a tree with a label. A path that is called is a name followed by an access.
 use Rattle.std.specs.Prelude.{◌≡◌, ℕ, zero, suc, Bool, true, false, ◌&&◌, not, IsTrue, List, [], ◌∷◌, codes}
 use Prim.Native.String.{String}
 use Rattle.cedar_tokens.specs.Units.{is_word, is_number, is_string, is_one_of}
@@ -16,11 +16,11 @@ abbrev pub is_identifier : List ℕ → Bool
 is_identifier t = is_word t && not (is_one_of reserved t)
 
 module _ {A : Type 0} (text : A → List ℕ) where
-  -- a token whose text is such
+  -- a token whose text satisfies this
   abbrev pub Leaf : (List ℕ → Type 0) → Lang A
   Leaf P f = (a : A) × (f ≡ leaf a none) × P (text a)
 
-  -- the token of this text
+  -- the token with this text
   abbrev pub Tok : String → Lang A
   Tok s = Leaf (λ t. t ≡ codes s)
 
@@ -109,9 +109,9 @@ module _ {A : Type 0} (text : A → List ℕ) where
   abbrev pub Relop : Lang A
   Relop = Tok "<" ∪ Tok "<=" ∪ Tok ">" ∪ Tok ">=" ∪ Tok "!=" ∪ Tok "==" ∪ Tok "in"
 
-  -- Expressions: room says whether an if or a bracket may stand here, and Inner is what may stand inside it.
+  -- Expressions: room says whether an if or a bracket is allowed here, and Inner is what may be inside it.
   module _ (room : Bool) (Inner : Lang A) where
-    -- an if or an opening bracket and what follows it: each costs one nesting
+    -- an if or an opening bracket and what follows it: each costs one level of nesting
     abbrev pub Deeper : String → Lang A → Lang A
     Deeper opening X f = IsTrue room × (Tok opening ⋄ X) f
 
@@ -119,7 +119,7 @@ module _ {A : Type 0} (text : A → List ℕ) where
     abbrev pub Exprs : Lang A
     Exprs = Items Inner
 
-    -- '(' [Exprs] ')' behind a path or a field
+    -- '(' [Exprs] ')' after a path or a field
     abbrev pub Call : Lang A
     Call = Branch Label.access (Deeper "(" (Maybe Exprs ⋄ Tok ")"))
 
@@ -178,7 +178,7 @@ module _ {A : Type 0} (text : A → List ℕ) where
     abbrev pub ExprIn : Lang A
     ExprIn = Branch Label.expr (Deeper "if" (Inner ⋄ Tok "then" ⋄ Inner ⋄ Tok "else" ⋄ Inner) ∪ Or)
 
-  -- expressions in which at most d ifs and brackets stand inside each other
+  -- expressions with at most d ifs and brackets nested in each other
   abbrev pub Expr : ℕ → Lang A
   Expr zero = ExprIn false Never
   Expr (suc d) = ExprIn true (Expr d)

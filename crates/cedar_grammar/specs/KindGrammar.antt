@@ -1,4 +1,4 @@
--- The grammar over kinds of tokens, as the parser reads it: line by line the grammar over texts, by the law `grammars_agree`.
+-- The grammar over kinds of tokens, as the parser reads it: line by line that over texts, by the law `grammars_agree`.
 use Rattle.std.specs.Prelude.{◌≡◌, ℕ, zero, suc, Bool, true, false, ◌||◌, IsTrue, List}
 use Rattle.cedar_tokens.specs.declared.kind.Kind.{Kind}
 use Rattle.cedar_tokens.specs.Kinds.{is, is_any_word, is_ident, is_comparison, is_boolean, is_variable, is_effect, is_cond_word}
@@ -84,9 +84,9 @@ module _ {A : Type 0} (kind : A → Kind) where
   abbrev pub StrOperand : Lang A
   StrOperand = Operand (Branch Label.primary (Branch Label.string (One Kind.Str)))
 
-  -- Expressions: room says whether an if or a bracket may stand here, and Inner is what may stand inside it.
+  -- Expressions: room says whether an if or a bracket is allowed here, and Inner is what may be inside it.
   module _ (room : Bool) (Inner : Lang A) where
-    -- an if or an opening bracket and what follows it: each costs one nesting
+    -- an if or an opening bracket and what follows it: each costs one level of nesting
     abbrev pub Deeper : Kind → Lang A → Lang A
     Deeper opening X f = IsTrue room × (One opening ⋄ X) f
 
@@ -94,7 +94,7 @@ module _ {A : Type 0} (kind : A → Kind) where
     abbrev pub Exprs : Lang A
     Exprs = Items Inner
 
-    -- '(' [Exprs] ')' behind a path or a field
+    -- '(' [Exprs] ')' after a path or a field
     abbrev pub Call : Lang A
     Call = Branch Label.access (Deeper Kind.LParen (Maybe Exprs ⋄ One Kind.RParen))
 
@@ -153,7 +153,7 @@ module _ {A : Type 0} (kind : A → Kind) where
     abbrev pub ExprIn : Lang A
     ExprIn = Branch Label.expr (Deeper Kind.If (Inner ⋄ One Kind.Then ⋄ Inner ⋄ One Kind.Else ⋄ Inner) ∪ Or)
 
-  -- expressions in which at most d ifs and brackets stand inside each other
+  -- expressions with at most d ifs and brackets nested in each other
   abbrev pub Expr : ℕ → Lang A
   Expr zero = ExprIn false Never
   Expr (suc d) = ExprIn true (Expr d)

@@ -1,4 +1,4 @@
--- What grammars are written with. A language is a set of trees in a row.
+-- The building blocks of grammars. A language is a set of rows of trees.
 use Rattle.std.specs.Prelude.{◌≡◌, ◌⊎◌, Bool, IsTrue}
 use Rattle.cedar_tokens.specs.declared.kind.Kind.{Kind}
 use Rattle.cedar_grammar.specs.Trees.{Label, Forest, none, leaf, branch, join}
@@ -8,7 +8,7 @@ Lang A = Forest Label A → Type 0
 
 infixr 24 ◌⋄◌
 infixr 22 ◌∪◌
--- X Y: one after the other
+-- X Y: X followed by Y
 abbrev pub ◌⋄◌ : {A : Type 0} → Lang A → Lang A → Lang A
 (X ⋄ Y) f = (g : Forest Label _) × (h : Forest Label _) × (f ≡ join g h) × X g × Y h
 

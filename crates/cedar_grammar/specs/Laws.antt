@@ -13,13 +13,13 @@ use Rattle.cedar_tokens.specs.TokenKinds.{kind_of}
 use Rattle.cedar_grammar.specs.TrailingCommas.{plain, without_trailing}
 use Rattle.cedar_grammar.specs.TypedTrees.{Clause, policy, set_tree, part_yield}
 
--- a decorated token's kind is that of its text
+-- a decorated token has the kind of its text
 abbrev pub kind_of_decorated : Decorated → Kind
 kind_of_decorated t = kind_of t.text
 
--- Of tokens of any type that have a text.
+-- For tokens of any type that have a text.
 module _ {A : Type 0} (text : A → List ℕ) where
-  -- each of the list has the text of a token
+  -- each token of the list has the text of a token
   abbrev pub AreTokens : List A → Type 0
   AreTokens ts = AllByRecursion (λ a. IsToken (text a)) ts
 
@@ -27,21 +27,21 @@ module _ {A : Type 0} (text : A → List ℕ) where
   abbrev pub GrammarsAgree : Type 0
   GrammarsAgree = (d : ℕ) (ts : List A) (f : Forest Label A) → AreTokens ts → IsSyntaxTree text d f ts ↔ G (λ a. kind_of (text a)) d f ts
 
-  -- a list of the grammar over texts is one of tokens
+  -- a list of the grammar over texts consists of tokens
   abbrev pub TextsAreTokens : Type 0
   TextsAreTokens = (d : ℕ) (ts : List A) (f : Forest Label A) → IsSyntaxTree text d f ts → AreTokens ts
 
--- Of tokens of any type that have a kind.
+-- For tokens of any type that have a kind.
 module _ {A : Type 0} (kind : A → Kind) where
   -- a list of tokens has at most one tree, whatever the depth
   abbrev pub ListHasOneTree : Type 0
   ListHasOneTree = (d e : ℕ) (ts : List A) (f g : Forest Label A) → G kind d f ts → G kind e g ts → f ≡ g
 
-  -- it can be told whether a list has a tree
+  -- whether a list has a tree is decidable
   abbrev pub GrammarIsDecidable : Type 0
   GrammarIsDecidable = (d : ℕ) (ts : List A) → ((f : Forest Label A) × G kind d f ts) ⊎ ((f : Forest Label A) → ¬ (G kind d f ts))
 
-  -- a tree of some depth is one of every greater depth
+  -- a tree of some depth is a tree of every greater depth
   abbrev pub DeeperHasMore : Type 0
   DeeperHasMore = (d : ℕ) (ts : List A) (f : Forest Label A) → G kind d f ts → G kind (suc d) f ts
 
@@ -49,7 +49,7 @@ module _ {A : Type 0} (kind : A → Kind) where
   abbrev pub LeavesArePlain : Type 0
   LeavesArePlain = (d : ℕ) (ts : List A) (f : Forest Label A) → G kind d f ts → yield (without_trailing kind f) ≡ plain kind ts
 
-  -- in a list of the grammar no two commas stand next to each other
+  -- no two commas are next to each other in a list of the grammar
   abbrev pub CommasStandAlone : Type 0
   CommasStandAlone = (d : ℕ) (ts : List A) (f : Forest Label A) → G kind d f ts → NoNeighbours (λ a. is Kind.Comma (kind a)) ts
 
@@ -57,7 +57,7 @@ module _ {A : Type 0} (kind : A → Kind) where
   abbrev pub PlainIsPlain : Type 0
   PlainIsPlain = (d : ℕ) (ts : List A) (f : Forest Label A) → G kind d f ts → plain kind (plain kind ts) ≡ plain kind ts
 
-  -- a tree without trailing commas is one of the list without them
+  -- a tree without its trailing commas is a tree of the list without them
   abbrev pub PlainIsInTheGrammar : Type 0
   PlainIsInTheGrammar = (d : ℕ) (ts : List A) (f : Forest Label A) → G kind d f ts → G kind d (without_trailing kind f) (plain kind ts)
 
@@ -65,7 +65,7 @@ module _ {A : Type 0} (kind : A → Kind) where
   abbrev pub EveryTreeIsTyped : Type 0
   EveryTreeIsTyped = (d : ℕ) (ts : List A) (f : Forest Label A) → G kind d f ts → (ps : List (Clause A policy)) × (without_trailing kind f ≡ set_tree kind ps)
 
-  -- and of no other ones
+  -- and of no others
   abbrev pub TypedTreeIsUnique : Type 0
   TypedTreeIsUnique = (ps qs : List (Clause A policy)) → set_tree kind ps ≡ set_tree kind qs → ps ≡ qs
 

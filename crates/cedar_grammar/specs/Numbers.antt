@@ -9,7 +9,7 @@ use Rattle.cedar_tokens.specs.Split.{SplitsInto}
 abbrev pub is_too_large : List ℕ → Bool
 is_too_large u = is_number u && nat_lt 18446744073709551615 (digits_value 10 u)
 
--- at is where the first number above the limit begins: behind the units before it
+-- at is where the first number above the limit begins: after the units before it
 pub record IsFirstTooLarge (text : List ℕ) (at : ℕ) : Type 0 where
   pub before : List (List ℕ)
   pub number : List ℕ

@@ -3,7 +3,7 @@ use Rattle.std.specs.Prelude.{ℕ, Bool, false, ◌&&◌, if◌then◌else◌, L
 use Rattle.cedar_tokens.specs.PlainList.{is_comma, is_closing_bracket}
 use Rattle.cedar_grammar.specs.Trees.{Label, Forest, none, leaf, branch}
 
--- Of tokens of any type that have a text.
+-- For tokens of any type that have a text.
 module _ {A : Type 0} (text : A → List ℕ) where
   -- the first of the trees is a closing bracket
   abbrev pub closes : Forest Label A → Bool

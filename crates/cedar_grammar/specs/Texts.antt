@@ -8,7 +8,7 @@ use Rattle.cedar_grammar.specs.Grammar.{IsSyntaxTree}
 use Rattle.cedar_grammar.specs.Numbers.{is_too_large}
 use Rattle.cedar_grammar.specs.Beginnings.{Begins}
 
--- how many ifs and brackets may stand inside each other in a condition
+-- how deep ifs and brackets may be nested in a condition
 abbrev pub greatest_depth : ℕ
 greatest_depth = 128
 
@@ -26,8 +26,8 @@ pub record IsAccepted (text : List ℕ) (tree : Forest Label (List ℕ)) : Type 
 abbrev pub Accepted : List ℕ → Type 0
 Accepted text = (tree : Forest Label (List ℕ)) × IsAccepted text tree
 
--- How tokens leave the grammar behind those before them: there are no more, and they aren't a list of the grammar; or the next unit is a
--- token through which no list of the grammar begins, and `deep` says whether only the depth is to blame: at some depth one does.
+-- How tokens leave the grammar after those before them: none follow, and those aren't a list of the grammar; or the next
+-- unit is a token through which no list of the grammar begins. `deep` says whether only depth is to blame.
 abbrev pub LeaveAfter : List (List ℕ) → List (List ℕ) → Bool → Type 0
 LeaveAfter front [] deep = ((tree : Forest Label (List ℕ)) → ¬ (IsSyntaxTree (λ t. t) greatest_depth tree front)) × (deep ≡ false)
 LeaveAfter front (u ∷ us) deep = (is_token u ≡ true) × ¬ (Begins greatest_depth (front ++ (u ∷ []))) × (IsTrue deep ↔ ((d : ℕ) × Begins d (front ++ (u ∷ []))))

@@ -1,4 +1,4 @@
--- Typed trees: a constructor for each production, every token a leaf; and the trees in a row that each stands for.
+-- Typed trees: a constructor for each production, with every token a leaf; and the row of trees that each represents.
 use Rattle.std.specs.Prelude.{List, [], ◌∷◌, ◌++◌}
 use Rattle.cedar_tokens.specs.declared.kind.Kind.{Kind}
 use Rattle.cedar_tokens.specs.declared.kind.Kind.TheVariants.{Number, Str}
@@ -77,7 +77,7 @@ literal_label Number = Label.number
 literal_label Str = Label.string
 literal_label _ = Label.boolean
 
--- the parts of the node that the tree stands for; of a chain or list the row of its nodes and separators
+-- the parts of the node that the tree represents; for a chain or list the row of its nodes and separators
 abbrev pub parts : {A : Type 0} {k : NodeKind} → (A → Kind) → Tree A k → Forest Label A
 parts kind (name_one x) = branch Label.ident (leaf x none) none
 parts kind (name_more x c r) = branch Label.ident (leaf x none) (leaf c (parts kind r))
@@ -126,7 +126,7 @@ parts kind (if_expr i c t a f b) = leaf i (branch Label.expr (parts kind c) (lea
 abbrev pub node_of : {A : Type 0} → Label → A → Forest Label A → Forest Label A
 node_of l a others = branch l (leaf a none) others
 
--- the same of the parts of a policy
+-- the same for the parts of a policy
 abbrev pub part_parts : {A : Type 0} {k : PartKind} → (A → Kind) → Clause A k → Forest Label A
 part_parts kind (variable_bare v) = node_of Label.ident v none
 part_parts kind (variable_is v i n) = node_of Label.ident v (leaf i (branch Label.name (parts kind n) none))
@@ -199,7 +199,7 @@ tree_yield (ors_more a o m) = tree_yield a ++ o ∷ tree_yield m
 tree_yield (ors_expr o) = tree_yield o
 tree_yield (if_expr i c t a f b) = i ∷ (tree_yield c ++ (t ∷ (tree_yield a ++ (f ∷ tree_yield b))))
 
--- the same of the parts of a policy
+-- the same for the parts of a policy
 abbrev pub part_yield : {A : Type 0} {k : PartKind} → Clause A k → List A
 part_yield (variable_bare v) = v ∷ []
 part_yield (variable_is v i n) = v ∷ i ∷ tree_yield n

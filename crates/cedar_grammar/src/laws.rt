@@ -1,4 +1,4 @@
-//! Laws of the grammar. They speak of the definitions alone, so their bodies do nothing.
+//! Laws of the grammar. They only state facts about definitions, so their bodies are empty.
 ghost use Rattle.std.specs.Prelude.{ℕ, List};
 ghost use Rattle.cedar_tokens.specs.Listing.{Decorated};
 ghost use Rattle.cedar_tokens.specs.TokenKinds.{kind_of};
@@ -12,7 +12,7 @@ pub fn grammars_agree()
     ensures placed { GrammarsAgree {A = Placed} (λ t. t.text) }
 {}
 
-/// A list of the grammar over texts is one of tokens.
+/// A list of the grammar over texts consists of tokens.
 pub fn texts_are_tokens()
     ensures texts { TextsAreTokens {A = List ℕ} (λ t. t) }
     ensures decorated { TextsAreTokens {A = Decorated} (λ t. t.text) }
@@ -26,14 +26,14 @@ pub fn list_has_one_tree()
     ensures placed { ListHasOneTree kind_of_placed }
 {}
 
-/// It can be told whether a list of tokens has a tree.
+/// Whether a list of tokens has a tree is decidable.
 pub fn grammar_is_decidable()
     ensures texts { GrammarIsDecidable kind_of }
     ensures decorated { GrammarIsDecidable kind_of_decorated }
     ensures placed { GrammarIsDecidable kind_of_placed }
 {}
 
-/// A tree of some depth is one of every greater depth.
+/// A tree of some depth is a tree of every greater depth.
 pub fn deeper_has_more()
     ensures texts { DeeperHasMore kind_of }
     ensures decorated { DeeperHasMore kind_of_decorated }
@@ -47,14 +47,14 @@ pub fn leaves_are_plain()
     ensures placed { LeavesArePlain kind_of_placed }
 {}
 
-/// A tree without trailing commas is one of the list without them.
+/// A tree without its trailing commas is a tree of the list without them.
 pub fn plain_is_in_the_grammar()
     ensures texts { PlainIsInTheGrammar kind_of }
     ensures decorated { PlainIsInTheGrammar kind_of_decorated }
     ensures placed { PlainIsInTheGrammar kind_of_placed }
 {}
 
-/// No two commas stand next to each other in a list of the grammar.
+/// No two commas are next to each other in a list of the grammar.
 pub fn commas_stand_alone()
     ensures texts { CommasStandAlone kind_of }
     ensures decorated { CommasStandAlone kind_of_decorated }
@@ -75,7 +75,7 @@ pub fn every_tree_is_typed()
     ensures placed { EveryTreeIsTyped kind_of_placed }
 {}
 
-/// A tree is that of one list of typed policies at most.
+/// A tree is that of at most one list of typed policies.
 pub fn typed_tree_is_unique()
     ensures texts { TypedTreeIsUnique kind_of }
     ensures decorated { TypedTreeIsUnique kind_of_decorated }

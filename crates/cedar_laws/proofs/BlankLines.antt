@@ -1,4 +1,4 @@
--- A blank line behind a line feed can go: the units that are left are those of the text that is left, with the same decorated list.
+-- Removing a blank line after a line feed leaves the units of the remaining text, with the same decorated list.
 use Rattle.std.proofs.Common.{◌≡◌, ℕ, ◌<◌, Bool, true, false, cond, not, ◌&&◌, ◌==◌, ◌⊎◌, inl, inr, List, [], ◌∷◌, ◌++◌, Option, Some, None, length, get_or, drop, refl, ap, arith, sym, ◌∙◌, subst, append_assoc, append-nil, length-append}
 use Rattle.std.specs.Prelude.{⊤}
 use Rattle.std.specs.List.{list_all, AllByRecursion, concat}
@@ -34,7 +34,7 @@ pub concat_append : (us vs : List (List ℕ)) → concat (us ++ vs) ≡ concat u
 concat_append [] vs = refl
 concat_append (u ∷ us) vs = ap (λ z. u ++ z) (concat_append us vs) ∙ sym (append_assoc u (concat us) (concat vs))
 
--- the front of parted units is parted
+-- a front of units that their text splits into is one too
 parted_front : (us vs : List (List ℕ)) (y : List ℕ) → Scans (us ++ vs) (concat us ++ y) [] → Parted us
 parted_front [] vs y s = refl
 parted_front (u ∷ us) vs y s =
@@ -231,7 +231,7 @@ white_token (b ∷ u) x t h =
     let g : list_all is_whitespace (b ∷ chars (u ++ x)) ≡ true = rw (chars_low b (u ++ x) l) at h in
     omega (arith, k, class-white b l (and_parts (is_whitespace b) (list_all is_whitespace (chars (u ++ x))) g).0)
 
--- a line of blanks alone has blanks alone
+-- the units of a line of White_Space are blanks
 pub all_blank : (us : List (List ℕ)) (x : List ℕ) → AllPlain us → list_all is_whitespace (chars (concat us ++ x)) ≡ true → AllBlank us
 all_blank [] x a h = tt
 all_blank (u ∷ us) x a h =
@@ -261,7 +261,7 @@ abbrev pub is_feed : List ℕ → Bool
 is_feed (b ∷ []) = b == 10
 is_feed _ = false
 
--- reads units from a place where a line feed and then blanks alone stand (true) or not (false), and says so of their end; `None` for a blank line
+-- reads units after a line feed and blanks (true) or elsewhere (false); says which holds at the end, `None` on a blank line
 abbrev pub lined : Bool → List (List ℕ) → Option Bool
 lined fresh [] = Some fresh
 lined fresh (u ∷ us) = cond (is_solid u) (lined false us) (cond (is_feed u) (cond fresh None (lined true us)) (lined fresh us))
@@ -324,7 +324,7 @@ line_stays (u ∷ qs) a f = go (is_solid u) (is_feed u) (no_feed_unit u (feedles
     go false true e ih = absurd cc
     go false false e ih = ih
 
--- blanks behind a line feed
+-- blanks after a line feed
 blanks_stay : (qs : List (List ℕ)) → AllBlank qs → feedless (concat qs) ≡ true → lined true qs ≡ Some true
 blanks_stay [] a f = refl
 blanks_stay (u ∷ qs) a f = rw (blank_not_solid u a.0, no_feed_unit u (feedless_front u (concat qs) f)) (blanks_stay qs a.1 (feedless_back u (concat qs) f))
@@ -363,7 +363,7 @@ pub blanks_join : (fs bs : List (List ℕ)) → AllBlank fs → AllBlank bs → 
 blanks_join [] bs a b = b
 blanks_join (u ∷ fs) bs a b = (a.0, blanks_join fs bs a.1 b)
 
--- units in place of the first, with the same decorated list before ss: they are the first without some blanks, and have no blank line
+-- units that replace the first before ss, with the same decorated list: the first without some blanks or any blank line
 pub record Instead (us ss : List (List ℕ)) (y : List ℕ) : Type 0 where
   pub units : List (List ℕ)
   pub is : concat units ≡ y
@@ -376,7 +376,7 @@ pub record Instead (us ss : List (List ℕ)) (y : List ℕ) : Type 0 where
 instead_as : (us vs ss : List (List ℕ)) (x y : List ℕ) → us ≡ vs → x ≡ y → Instead us ss x → Instead vs ss y
 instead_as us vs ss x y e f i = record { units = i.units; is = i.is ∙ f; parted = i.parted; list = i.list ∙ ap (λ z. listing (z ++ ss)) e; thinned = subst (λ z. Thinned z i.units) e i.thinned; ended = i.ended; lined = i.lined }
 
--- units of a line: blanks alone, or else the line is none of blanks
+-- the units of a line are only blanks, or the line is not blank
 line_kind : (qs : List (List ℕ)) → AllPlain qs → feedless (concat qs) ≡ true → AllBlank qs ⊎ (lined true qs ≡ Some false)
 line_kind [] a f = inl tt
 line_kind (u ∷ qs) a f = elim a.0.kind [
@@ -413,7 +413,7 @@ regroup ps qs ms ss = simp append_assoc
 kept_text : (x y w z : List ℕ) → z ≡ x ++ (10 ∷ y) → z ++ (10 ∷ w) ≡ x ++ (10 ∷ ((y ++ (10 ∷ [])) ++ w))
 kept_text x y w z e = rw e (simp append_assoc)
 
--- behind a line feed, where qs is read of the line
+-- after a line feed, where qs is what was read of the line
 in_lines : (ms ps qs ss : List (List ℕ)) → AllPlain ms → AllPlain qs → feedless (concat qs) ≡ true → lined false ps ≡ Some false → Parted ((ps ++ ((10 ∷ []) ∷ (qs ++ ms))) ++ ss)
     → Instead (ps ++ ((10 ∷ []) ∷ (qs ++ ms))) ss (concat ps ++ (10 ∷ without_blank_lines (onto (concat qs) (piece_lines (concat ms)))))
 in_lines [] ps qs ss a b f w p =

@@ -1,4 +1,4 @@
--- A tree's document is that of the tree whose numbers have no leading zeros.
+-- A tree has the same document as the tree without leading zeros in its numbers.
 use Rattle.std.proofs.Common.{◌≡◌, ℤ, Bool, ◌&&◌, List, [], ◌∷◌, map, refl, ap, sym, ◌∙◌}
 use Rattle.std.specs.Prelude.{pos, if◌then◌else◌}
 use Rattle.std.proofs.lemmas.List.{map-append}
@@ -184,7 +184,7 @@ bare_values p a r = rw (bare_value p, bare_value a, bare_value r) refl
 type_value : (i : ℤ) (is : Decorated) (n : Tree Decorated name) → type_part i (with_value is) (table i (tree_map with_value n)) ≡ type_part i is (table i n)
 type_value i is n = same2 (λ d e. group (nest i (group (line · d) · line · e))) (leaf_value is) (table_value i n)
 
--- the effect of a policy and the bracket behind it
+-- the effect of a policy and the bracket after it
 abbrev head : Decorated → Decorated → Doc
 head e l = lead e · group (tok e · trail e nil · line · printed l)
 

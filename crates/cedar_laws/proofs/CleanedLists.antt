@@ -31,7 +31,7 @@ kept_by b x c a = rw (quote_of_class b c, a) refl
 feed_other : (x : ℕ) → not (10 == x) ≡ true → not (x == 10) ≡ true
 feed_other x h = grind (arith, nat_tests)
 
--- a unit that is no string and no comment
+-- a unit that is neither a string nor a comment
 pub plain_unit : (u : List ℕ) → IsUnit u → (IsKept u → ⊥) → Plain u
 plain_unit u k none = elim k [
   | blank e ↦ record { kind = inl e; feed = blank_feed e (e.0 == 10) refl }
@@ -88,7 +88,7 @@ mark_no_digit d h k = elim (or_cases (d == 34) (d == 47) h) [
 mark_low : (d : ℕ) → is_mark d ≡ true → d < 128
 mark_low d h = grind (arith, nat_tests)
 
--- no other unit has the first byte of a string or a comment within it
+-- no other unit contains the first byte of a string or a comment
 crosses : (b : ℕ) (w : List ℕ) (d : ℕ) (v : List ℕ) → IsUnit (b ∷ (w ++ (d ∷ v))) → (IsKept (b ∷ (w ++ (d ∷ v))) → ⊥) → is_mark d ≡ true → ⊥
 crosses b w d v k none m = elim k [
   | blank e ↦ (let f = blank_is_byte (b ∷ (w ++ (d ∷ v))) (b ∷ w) v d (mark_low d m) e refl in
@@ -140,7 +140,7 @@ piece_units (u ∷ rs) (b ∷ m) t n k s = elim (past (b ∷ m) t u s.0.begins) 
         let q = go g.0 g.1 (rw e at s.1) in
         record { piece = u ∷ q.piece; rest = q.rest; are = ap (λ z. u ∷ z) q.are; text = ap (λ z. u ++ z) q.text ∙ sym g.1; plain = (plain_unit u s.0.kind none, q.plain); scan = q.scan }
 
--- ---- the string or comment behind a piece
+-- ---- the string or comment after a piece
 
 first_mark : (s r : List ℕ) → IsKept s → StartsKept (s ++ r)
 first_mark [] r k = absurd cc
@@ -167,7 +167,7 @@ slashes_no_token v t =
       | slot c2 _ ↦ clash five c2 refl
     ]
 
--- a unit that is as long as a string or comment at its place is one
+-- a unit as long as a string or comment at its place is that string or comment
 pub kept_too : (text s u : List ℕ) → IsKept s → BeginsWith text s → IsUnit u → BeginsWith text u → length s ≤ length u → IsKept u
 kept_too text [] u k g n h l = absurd cc
 kept_too text (b ∷ s) [] k g n h l = absurd (omega (arith, l))

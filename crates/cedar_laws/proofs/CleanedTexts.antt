@@ -1,4 +1,4 @@
--- A cleaned text has the list of the text, has lost blanks alone, and has no blank line.
+-- A cleaned text has the decorated list of the text, lacks only blanks, and has no blank line.
 use Rattle.std.proofs.Common.{◌≡◌, ℕ, Bool, true, false, cond, List, [], ◌∷◌, ◌++◌, Some, None, refl, ap, sym, ◌∙◌, subst}
 use Rattle.std.specs.List.{AllByRecursion, concat}
 use Rattle.std.specs.Str.{trim, IsUtf8}
@@ -12,13 +12,13 @@ use Rattle.cedar_laws.proofs.CleanedLists.{cut_cleans}
 use Rattle.cedar_laws.proofs.Spaces.{units_utf8, concat_utf8}
 use Rattle.cedar_laws.proofs.TrimmedLists.{trims, lined_front}
 
--- what holds of units holds of them without some blanks
+-- what holds of all units still holds without some of the blanks
 thinned_all : {us vs : List (List ℕ)} → Thinned us vs → AllByRecursion IsUtf8 us → AllByRecursion IsUtf8 vs
 thinned_all no_units a = tt
 thinned_all (unit_stays u t) a = (a.0, thinned_all t a.1)
 thinned_all (blank_goes u k t) a = thinned_all t a.1
 
--- a text without the blank lines of its pieces is in UTF-8 if the text is
+-- a text without the blank lines of its pieces is UTF-8 if the text is
 pub cut_utf8 : (x z : List ℕ) (us : List (List ℕ)) → IsUtf8 x → Cut x z → SplitsInto x us → IsUtf8 z
 cut_utf8 x z us u c s = let k = cut_cleans x z us c s in subst (λ y. IsUtf8 y) k.is (concat_utf8 k.units (thinned_all k.thinned (units_utf8 us x u s)))
 
@@ -58,7 +58,7 @@ clean_reads x y l u c a = let k = clean_units x y a.units u a.split c in record 
 pub clean_takes_blanks : CleaningTakesBlanks
 clean_takes_blanks x y us u s c = let k = clean_units x y us u s c in (k.rest, k.thinned, subst (λ z. SplitsInto y z) k.last k.split)
 
--- a blank line is none that may be read
+-- a blank line stops `lined`
 blank_line_stops : (bs vs : List (List ℕ)) → AllBlank bs → lined true (bs ++ ((10 ∷ []) ∷ vs)) ≡ None
 blank_line_stops [] vs a = rw feed_not_solid refl
 blank_line_stops (u ∷ bs) vs a = rw (blank_not_solid u a.0) (go (is_feed u) (blank_line_stops bs vs a.1))

@@ -1,4 +1,4 @@
--- Every text is cut at its strings and comments in one way.
+-- Every text is cut at its strings and comments in exactly one way.
 use Rattle.std.proofs.Common.{◌≡◌, ℕ, zero, suc, ◌≤◌, ◌+◌, Bool, true, false, ◌||◌, ◌==◌, ◌≢◌, inl, inr, List, [], ◌∷◌, ◌++◌, length, take, drop, Option, Some, None, option_map, refl, ap, arith, sym, ◌∙◌, subst, append-nil}
 use Rattle.std.specs.Prelude.{nat_eq, codes}
 use Rattle.std.specs.List.{prefix_len, starts_with}
@@ -13,9 +13,9 @@ use Rattle.cedar_tokens.proofs.FirstUnit.{comment_parts}
 use Rattle.cedar_layout.specs.Cleaning.{IsKept, NoneBegins, Cut, last_piece, more_pieces, clean_piece, IsCleaned}
 use Rattle.cedar_laws.specs.CleaningLaws.{CleaningIsUnique, EveryTextIsCleaned}
 
--- ---- one way
+-- ---- at most one way
 
--- a string or comment stands at its start
+-- the text begins with a string or comment
 abbrev Starts : List ℕ → Type 0
 Starts t = (s : List ℕ) × IsKept s × BeginsWith t s
 
@@ -52,7 +52,7 @@ cut_once (more_pieces m s r y a k c) (more_pieces n t u z b l d) e =
 pub cleaned_once : CleaningIsUnique
 cleaned_once x y z a b = a.trimmed ∙ (ap trim (cut_once a.cut b.cut refl) ∙ sym b.trimmed)
 
--- ---- some way, computed
+-- ---- at least one way, computed
 
 string_kept : (u : List ℕ) → is_string u ≡ true → IsKept u
 string_kept u h = rw h refl
@@ -64,7 +64,7 @@ comment_kept u h = go (is_string u)
     go true = refl
     go false = h
 
--- at a quote stands no comment
+-- no comment begins at a quote
 only_strings : (t v : List ℕ) → IsKept v → BeginsWith (34 ∷ t) v → (w : List ℕ) × (v ≡ 34 ∷ w) × (is_string_rest w ≡ true)
 only_strings t [] k g = absurd cc
 only_strings t (b ∷ w) k g =
@@ -91,7 +91,7 @@ quote_some t n e =
       longest = λ v k g. let w = only_strings t v k g in let l = f.1.longest w.0 w.2 (same_head 34 34 t w.0 (subst (λ z. BeginsWith (34 ∷ t) z) w.1 g)).1 in omega (arith, l, ap length w.1);
     }
 
--- elsewhere stands no string
+-- no string begins elsewhere
 only_comments : (b : ℕ) (t v : List ℕ) → (b == 34) ≡ false → IsKept v → BeginsWith (b ∷ t) v → IsComment v
 only_comments b t [] q k g = absurd cc
 only_comments b t (c ∷ v) q k g = elim (or_cases (is_string (c ∷ v)) (is_comment (c ∷ v)) k) [
@@ -115,7 +115,7 @@ kept_len (b ∷ t) = elim (b == 34) as (λ z. Option ℕ) [
   | false ↦ elim (starts_with nat_eq (b ∷ t) (codes "//")) as (λ z. Option ℕ) [ true ↦ Some (prefix_len is_comment_byte (drop 2 (b ∷ t)) + 2) | false ↦ None ]
 ]
 
--- what stands at the start of a text, by that length
+-- what a text begins with, by that length
 abbrev Found : List ℕ → Option ℕ → Type 0
 Found text None = BeginsNone IsKept text
 Found text (Some n) = IsLongest IsKept text (take n text)
@@ -138,7 +138,7 @@ found b t = at_quote (b == 34) refl
     at_quote true e = subst (λ z. Found (z ∷ t) (option_map suc (string_end t false 0))) (sym ((Decides-eqb b 34).0 e)) (strings (string_end t false 0) refl)
     at_quote false e = comments (starts_with nat_eq (b ∷ t) (codes "//")) e refl
 
--- the first piece of a text, and what comes of the rest; the fuel is as long as the text
+-- the first piece of a text, and the result for the rest; the fuel is as long as the text
 abbrev pub cut_pieces : List ℕ → List ℕ → List ℕ × List ℕ
 cut_pieces fuel [] = ([], [])
 cut_pieces [] (b ∷ t) = ([], [])
@@ -154,7 +154,7 @@ cut_text x = let q = cut_pieces x x in clean_piece q.0 ++ q.1
 abbrev pub cleaned_text : List ℕ → List ℕ
 cleaned_text x = trim (cut_text x)
 
--- x begins with the piece m, and z comes of what follows it
+-- x begins with the piece m, and z results from what follows it
 data Tailed (m : List ℕ) : List ℕ → List ℕ → Type 0 where
   no_more : NoneBegins m [] → Tailed m m []
   more : (s r y : List ℕ) → NoneBegins m (s ++ r) → IsLongest IsKept (s ++ r) s → Cut r y → Tailed m (m ++ (s ++ r)) (s ++ y)

@@ -1,4 +1,4 @@
--- A text that meets the law of gaps is in UTF-8, if its tokens and comments are.
+-- A text that meets the law of gaps is UTF-8 if its tokens and comments are.
 use Rattle.std.proofs.Common.{◌≡◌, ℕ, ◌<◌, Bool, true, false, cond, List, [], ◌∷◌, ◌++◌, refl, arith, subst}
 use Rattle.std.specs.List.{list_all, AllByRecursion}
 use Rattle.std.specs.Char.{is_ascii_digit, IsScalar}

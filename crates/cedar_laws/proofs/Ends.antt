@@ -1,4 +1,4 @@
--- Trimming takes away blanks at the end.
+-- Trimming removes blanks at the end.
 use Rattle.std.proofs.Common.{◌≡◌, ℕ, suc, Bool, true, false, cond, ◌&&◌, ◌==◌, List, [], ◌∷◌, ◌++◌, length, refl, ap, sym, ◌∙◌, subst, arith}
 use Rattle.std.specs.List.{list_all, concat}
 use Rattle.std.specs.Char.{is_whitespace, IsScalar, encode_utf8}
@@ -50,13 +50,13 @@ blanks_utf8 (u ∷ bs) a =
     let r = blanks_utf8 bs a.1 in
     (IsUtf8-append u (concat bs) (subst (λ z. IsUtf8 z) (sym a.0.2) (IsUtf8-encode a.0.0 (white_scalar a.0.0 a.0.1))) r.0, rw (chars_blank u (concat bs) a.0, a.0.1) r.1)
 
--- blanks at the end go
+-- blanks at the end are removed
 pub trim_back : (x : List ℕ) (bs : List (List ℕ)) → IsUtf8 x → AllBlank bs → trim (x ++ concat bs) ≡ trim x
 trim_back x bs u a =
     let r = blanks_utf8 bs a in
     trim_is (x ++ concat bs) (IsUtf8-append x (concat bs) u r.0) ∙ (ap encode_utf8_all (ap (λ z. drop_trailing_whitespace (skip_leading_whitespace z)) (chars-append x (concat bs) u) ∙ both_append (chars x) (chars (concat bs)) r.1) ∙ sym (trim_is x u))
 
--- ---- what trimming leaves of a text that begins with no blank
+-- ---- what trimming leaves of a text that begins with a non-blank
 
 not_zero : (n : ℕ) → (suc n == 0) ≡ false
 not_zero n = go (suc n == 0) refl
@@ -69,7 +69,7 @@ and_false : (x : Bool) → (x && false) ≡ false
 and_false true = refl
 and_false false = refl
 
--- a character stays, if something behind it does, or if it is no blank
+-- a character stays if something after it stays, or if it isn't a blank
 pub stays_before : (c d : ℕ) (cs ds : List ℕ) → drop_trailing_whitespace cs ≡ d ∷ ds → drop_trailing_whitespace (c ∷ cs) ≡ c ∷ (d ∷ ds)
 stays_before c d cs ds e = rw (e, not_zero (length ds), and_false (is_whitespace c)) refl
 
@@ -79,7 +79,7 @@ stays_black c cs h = rw h refl
 goes_white : (c : ℕ) (cs : List ℕ) → is_whitespace c ≡ true → drop_trailing_whitespace cs ≡ [] → drop_trailing_whitespace (c ∷ cs) ≡ []
 goes_white c cs h e = rw (h, e) refl
 
--- the blanks that go
+-- the blanks that are removed
 record Tail (cs : List ℕ) : Type 0 where
   blanks : List ℕ
   white : list_all is_whitespace blanks ≡ true
@@ -103,7 +103,7 @@ drop_twice (c ∷ cs) = go (is_whitespace c) refl (drop_trailing_whitespace cs) 
     go true h (d ∷ ds) e k = rw (stays_before c d cs ds e) (stays_before c d (d ∷ ds) ds (rw e at k))
     go false h ds e k = rw (stays_black c cs h) (stays_black c (drop_trailing_whitespace cs) h ∙ ap (λ z. c ∷ z) k)
 
--- what ends in no blank stays, whatever stands before it
+-- what ends in a non-blank stays, whatever comes before it
 pub drop_behind : (cs : List ℕ) (d : ℕ) (ds : List ℕ) → drop_trailing_whitespace (d ∷ ds) ≡ d ∷ ds → drop_trailing_whitespace (cs ++ (d ∷ ds)) ≡ cs ++ (d ∷ ds)
 drop_behind [] d ds h = h
 drop_behind (c ∷ []) d ds h = stays_before c d (d ∷ ds) ds h
@@ -124,7 +124,7 @@ chars_trim x u = ap chars (trim_is x u) ∙ chars-encodes (drop_trailing_whitesp
 pub trim_utf8 : (x : List ℕ) → IsUtf8 x → IsUtf8 (trim x)
 trim_utf8 x u = (drop_trailing_whitespace (skip_leading_whitespace (chars x)), (scalars_drop (skip_leading_whitespace (chars x)) (scalars_skip (chars x) (scalars-chars x u)), sym (trim_is x u)))
 
--- the first character is no blank
+-- the first character isn't a blank
 abbrev pub StartsBlack : List ℕ → Type 0
 StartsBlack x = skip_leading_whitespace (chars x) ≡ chars x
 
@@ -139,7 +139,7 @@ units_blank (c ∷ cs) h =
     let r = units_blank cs p.1 in
     (((c, p.0, refl), r.0), ap (λ z. encode_utf8 c ++ z) r.1)
 
--- a text that begins with no blank is its trimmed text, and blanks
+-- a text that begins with a non-blank is its trimmed text followed by blanks
 pub trimmed_tail : (x : List ℕ) → IsUtf8 x → StartsBlack x → (bs : List (List ℕ)) × AllBlank bs × (x ≡ trim x ++ concat bs)
 trimmed_tail x u s =
     let t = tail_of (chars x) in
@@ -147,7 +147,7 @@ trimmed_tail x u s =
     let e : trim x ≡ encode_utf8_all (drop_trailing_whitespace (chars x)) = trim_is x u ∙ ap (λ z. encode_utf8_all (drop_trailing_whitespace z)) s in
     (units_of t.blanks, r.0, sym (encodes-chars x u) ∙ (ap encode_utf8_all t.is ∙ (encodes-append (drop_trailing_whitespace (chars x)) t.blanks ∙ rw (e, r.1) refl)))
 
--- a text that begins and ends with no blank is trimmed
+-- a text that begins and ends with non-blanks is trimmed already
 pub trim_same : (x k : List ℕ) (d : ℕ) (ds : List ℕ) → IsUtf8 x → IsUtf8 k → StartsBlack (x ++ k) → chars k ≡ d ∷ ds → drop_trailing_whitespace (d ∷ ds) ≡ d ∷ ds → trim (x ++ k) ≡ x ++ k
 trim_same x k d ds u v s e h =
     let w = IsUtf8-append x k u v in

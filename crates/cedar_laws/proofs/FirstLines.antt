@@ -1,4 +1,4 @@
--- A node's document is its first token's leading lines and then the document of the node without them.
+-- A node's document is its first token's leading lines followed by the document of the node without them.
 use Rattle.std.proofs.Common.{◌≡◌, ℤ, List, [], ◌∷◌, ◌++◌, refl, sym, ap, ◌∙◌, append_assoc, append-nil}
 use Rattle.cedar_tokens.specs.Listing.{Decorated}
 use Rattle.cedar_layout.specs.Layout.{Doc, nil, ◌·◌, group_then, atoms}
@@ -7,7 +7,7 @@ use Rattle.cedar_grammar.specs.TypedTrees.{Tree, NodeKind, tree_yield, map_first
 use Rattle.cedar_grammar.proofs.FirstLeaf.{NonEmpty, starts}
 use Rattle.cedar_laws.specs.Table.{table, printed, lead_of, bare_token, lines_of_first}
 
--- the leading lines of the first of these tokens and then b print what c prints
+-- the leading lines of the first of these tokens, followed by b, print what c prints
 pub record Peels (xs : List Decorated) (b c : Doc) : Type 0 where
   pub same : atoms (lead_of (lines_of_first xs)) ++ atoms b ≡ atoms c
 

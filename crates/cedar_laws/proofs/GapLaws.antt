@@ -25,7 +25,7 @@ front_blank : {a g : List ℕ} {ls : List (List ℕ)} → Blanks a → Front ls 
 front_blank p (bare q) = bare (blanks_append p q)
 front_blank {a} p (led {b} {g} q r) = rw (← append_assoc a b (10 ∷ g)) (led (blanks_append p q) r)
 
--- blanks may come in front
+-- blanks may come first
 pub spelled_blank : {c d x : ℕ} {a s : List ℕ} {ts : List Decorated} → Blanks (x ∷ a) → Spelled c ts s → Spelled d ts ((x ∷ a) ++ s)
 spelled_blank p (the_end q) = the_end (blanks_append p q)
 spelled_blank {x = x} {a = a} p (a_token {g = g} {s = s} t f n r) = rw (← append_assoc (x ∷ a) g (token_value t.text ++ (back t.trailing ++ s))) (a_token t (front_blank p f) (blank_apart (first_or 32 (token_value t.text))) r)
@@ -34,7 +34,7 @@ pub spelled_spaces : (n : ℕ) {s : List ℕ} {ts : List Decorated} → Spelled 
 spelled_spaces zero p = p
 spelled_spaces (suc n) p = spelled_blank (spaces (suc n)) p
 
--- what prints two lists of atoms is what prints the one and then the other
+-- what prints two lists of atoms is what prints the first followed by what prints the second
 pub record Split (xs ys : List Atom) (s : List ℕ) : Type 0 where
   pub first : List ℕ
   pub second : List ℕ
@@ -51,7 +51,7 @@ prints_split (nothing_or_break ∷ xs) (p_nothing p) = let q = prints_split xs p
 prints_split (nothing_or_break ∷ xs) (p_nil_break n p) = let q = prints_split xs p in record { first = break n ++ q.first; second = q.second; is = ap (λ r. break n ++ r) q.is ∙ sym (append_assoc (break n) q.first q.second); prints_first = p_nil_break n q.prints_first; prints_second = q.prints_second }
 prints_split (must_break ∷ xs) (p_hard n p) = let q = prints_split xs p in record { first = break n ++ q.first; second = q.second; is = ap (λ r. break n ++ r) q.is ∙ sym (append_assoc (break n) q.first q.second); prints_first = p_hard n q.prints_first; prints_second = q.prints_second }
 
--- the text of a token's leading lines, with the spaces n in front of the first
+-- the text of a token's leading lines, with the spaces n before the first
 lines_print : (n : ℕ) (ls : List (List ℕ)) (s : List ℕ) → Prints (line_atoms ls) s → Lines ls (replicate n 32 ++ s)
 lines_print n [] s p_nil = no_line (blanks_append (spaces n) no_blank)
 lines_print n (l ∷ ls) s (p_word (p_hard {s = t} m p)) = a_comment l (spaces n) (lines_print m ls t p)
@@ -105,7 +105,7 @@ spelled (w_line_or_nil w) (p_nil_break n p) = spelled_blank (breaks n) (spelled 
 spelled (w_hard w) (p_hard n p) = spelled_blank (breaks n) (spelled w p)
 spelled (w_token {c = c} {ts = ts} {xs = xs} t apart w) p = token_print c t ts xs _ apart (λ s q. spelled w q) p
 
--- what is made of the atoms prints them
+-- what is made from the atoms prints them
 pub made_prints : (ps : List Piece) (xs : List Atom) → AreMadeOf ps xs → Prints xs (flat_map print ps)
 made_prints [] [] h = p_nil
 made_prints [] (x ∷ xs) h = absurd h

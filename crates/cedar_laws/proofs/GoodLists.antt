@@ -1,4 +1,4 @@
--- The decorated list of every text in UTF-8 has good decorations, and so has its plain list.
+-- The decorated list of every UTF-8 text has good decorations, and so does its plain list.
 use Rattle.std.proofs.Common.{◌≡◌, ℕ, Bool, true, false, cond, not, List, [], ◌∷◌, ◌++◌, map, refl, ap, sym, ◌∙◌, subst, append-nil}
 use Rattle.std.specs.List.{list_all, AllByRecursion, concat, filter}
 use Rattle.std.specs.Str.{trim, IsUtf8}
@@ -139,7 +139,7 @@ gap_of us p u =
       none = r.none;
     }
 
--- a token and the gap behind it
+-- a token and the gap after it
 record GoodToken (t : List ℕ × List ℕ) : Type 0 where
   token : is_token t.0 ≡ true
   utf8 : IsUtf8 t.0

@@ -1,4 +1,4 @@
--- The trees of the written grammar with decorated leaves: one to a list, kept by the values of numbers, and there for every accepted text.
+-- Trees of the written grammar with decorated leaves: one per list, kept by equal numbers, and one for every accepted text.
 use Rattle.std.proofs.Common.{◌≡◌, ℕ, ℤ, suc, ◌≤◌, Bool, true, false, cond, ◌&&◌, List, [], ◌∷◌, length, map, refl, ap, arith, sym, ◌∙◌, subst, append-nil}
 use Rattle.cedar_tokens.specs.Units.{is_number, is_token, IsToken}
 use Rattle.cedar_tokens.specs.Listing.{Decorated, Listing, IsListing, token_value, without_zeros}
@@ -142,7 +142,7 @@ tree_of_texts ts all f s w y = go (set_to kind_of_decorated greatest_depth ts) r
     agrees : set_to kind_of greatest_depth (each (λ (t : Decorated). t.text) ts) ≡ answer_of (λ (t : Decorated). t.text) (set_to kind_of_decorated greatest_depth ts)
     agrees = set_agrees (λ (t : Decorated). t.text) kind_of_decorated kind_of (λ t. refl) greatest_depth ts
 
-    -- no comma of it is a trailing one
+    -- none of its commas is a trailing one
     texts_plain : map (λ (t : Decorated). t.text) (plain kind_of_decorated ts) ≡ map (λ (t : Decorated). t.text) ts
     texts_plain =
         sym (each_map (λ (t : Decorated). t.text) (plain kind_of_decorated ts)) ∙ (sym (plain_each (λ (t : Decorated). t.text) kind_of_decorated kind_of (λ t. refl) ts)

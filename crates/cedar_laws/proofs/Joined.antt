@@ -125,7 +125,7 @@ pub listing_join : (us vs : List (List ℕ)) → listing (us ++ ((10 ∷ []) ∷
 unfolding listing
 listing_join us vs = rw (gaps_join us vs) (decorate_join (gaps us).tokens (gaps us).first (gaps vs))
 
--- The decorated list of two texts with a line feed between is the one and then the other.
+-- The decorated list of two texts with a line feed between is the list of the first followed by that of the second.
 pub joined : (x y : List ℕ) (l m : Listing) → IsListing x l → IsListing y m → IsListing (x ++ (10 ∷ y)) (follow l m)
 joined x y l m a b = record {
   units = a.units ++ ((10 ∷ []) ∷ b.units);

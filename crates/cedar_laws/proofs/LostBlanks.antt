@@ -1,4 +1,4 @@
--- Of every text in UTF-8 cleaning takes White_Space alone, and none of a string.
+-- Cleaning removes only White_Space from a UTF-8 text, and none from a string.
 use Rattle.std.proofs.Common.{◌≡◌, ℕ, ◌<◌, Bool, true, false, cond, not, ◌&&◌, ◌==◌, ◌⊎◌, inl, inr, List, [], ◌∷◌, ◌++◌, length, get_or, refl, ap, arith, sym, ◌∙◌, subst, append_assoc, append-nil, length-append}
 use Rattle.std.specs.List.{list_all, AllByRecursion, concat}
 use Rattle.std.specs.Char.{is_whitespace, IsScalar, encode_utf8}
@@ -66,7 +66,7 @@ fewer_drop (c ∷ cs) = go (is_whitespace c && length (drop_trailing_whitespace 
         char_goes c p.0 (subst (λ z. Fewer cs z) e f)
     go false h f = char_stays c f
 
--- what ends in no blank stays, and so does what stands before it
+-- what ends in a non-blank stays, and so does what comes before it
 drop_more : (cs ds : List ℕ) (e : ℕ) (es : List ℕ) → drop_trailing_whitespace ds ≡ e ∷ es → drop_trailing_whitespace (cs ++ ds) ≡ cs ++ (e ∷ es)
 drop_more [] ds e es h = h
 drop_more (c ∷ []) ds e es h = stays_before c e ds es h
@@ -110,7 +110,7 @@ chars_lose h (char_goes c {cs} k f) = goes c k (chars_lose (and_parts _ (scalars
 loses : (a b : List ℕ) → Less a b → LosesBlanks a b
 loses a b l = subst (λ z. LosesBlanks z b) (encodes-chars a l.before) (subst (λ z. LosesBlanks (encode_utf8_all (chars a)) z) (encodes-chars b l.after) (chars_lose (scalars-chars a l.before) l.fewer))
 
--- a text whose characters are ds
+-- a text with the characters ds
 less_chars : (a ds : List ℕ) → IsUtf8 a → scalars ds ≡ true → Fewer (chars a) ds → Less a (encode_utf8_all ds)
 less_chars a ds u h f = record { before = u; after = (ds, (h, refl)); fewer = subst (λ z. Fewer (chars a) z) (sym (chars-encodes ds h)) f }
 
@@ -132,7 +132,7 @@ less_end a b l = less_chars a (drop_trailing_whitespace (chars b)) l.before (sca
 
 -- ---- a piece
 
--- a character other than a line feed has none
+-- the bytes of a character other than a line feed contain none
 char_feedless : (c : ℕ) → (c == 10) ≡ false → feedless (encode_utf8 c) ≡ true
 char_feedless c h = all_more (λ x. not (10 == x)) (λ x. not (x == 10)) feed_other (encode_utf8 c) (lacks 10 (encode_utf8 c) within)
   where
@@ -214,7 +214,7 @@ marked (b ∷ s) k = elim (or_cases (is_string (b ∷ s)) (is_comment (b ∷ s))
     slashes [] e = absurd cc
     slashes (c ∷ s) e = at (b ∷ (c ∷ s)) (c ∷ s) 47 (ap (λ z. z ∷ (c ∷ s)) (comment_parts b c s e).0) (omega arith) refl
 
--- the text may be cut before and behind it
+-- the text may be cut before and after it
 cut_utf8 : (x y : List ℕ) → IsUtf8 (x ++ y) → IsCharBoundary (x ++ y) (length x) → IsUtf8 x × IsUtf8 y
 cut_utf8 x y u b = (
   subst (λ z. IsUtf8 z) (take-append_seam x y) (IsUtf8-take (x ++ y) (length x) u b),
@@ -258,7 +258,7 @@ thin_utf8 : {x z : List ℕ} → Thin x z → IsUtf8 z
 thin_utf8 (thin_last m n a l) = l.after
 thin_utf8 (thin_more m n s r y a k u l t) = IsUtf8-append n (s ++ y) l.after (IsUtf8-append s y u (thin_utf8 t))
 
--- the characters of a string or a comment and of what stands behind it
+-- the characters of a string or a comment and of what follows it
 marked_chars : (s w : List ℕ) (k : Marked s) → chars (s ++ w) ≡ k.mark ∷ chars (k.rest ++ w)
 marked_chars s w k = ap (λ z. chars (z ++ w)) k.is ∙ chars_low k.mark (k.rest ++ w) k.low
 
@@ -292,7 +292,7 @@ comment_cut s u q = sym (trim_is s u ∙ ap (λ z. encode_utf8_all (drop_trailin
     c : chars s ≡ q.mark ∷ chars (q.rest ++ [])
     c = ap chars (sym (append-nil s)) ∙ marked_chars s [] q
 
--- where nothing is left behind it, and where something is
+-- where nothing is left after it, and where something is
 end_none : (n s y : List ℕ) → IsUtf8 n → IsUtf8 s → Marked s → drop_trailing_whitespace (chars y) ≡ [] → end (n ++ (s ++ y)) ≡ n ++ end s
 end_none n s y u v q h =
     let c : chars (n ++ (s ++ y)) ≡ chars n ++ (chars s ++ chars y) = chars-append n (s ++ y) u ∙ ap (λ z. chars n ++ z) (chars-append s y v) in

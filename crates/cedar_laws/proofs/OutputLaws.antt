@@ -70,7 +70,7 @@ last_width_decides w v i j x y z u o = (through w v i j x y z u o, back)
 
 -- ---- policies stand alone
 
--- a policy by value, and its text; or none of both
+-- a policy by value, and its text; or neither
 data TextAt (w : ℕ) (i : ℤ) (v : Option (Clause Decorated policy)) (t : Option (List ℕ)) : Type 0 where
   no_text : v ≡ None → t ≡ None → TextAt w i v t
   a_text : (p : Clause Decorated policy) (s x : List ℕ) → v ≡ Some (part_map with_value p) → t ≡ Some x → IsTheLayoutAt w (part_table i p) s → IsCleaned s x → TextAt w i v t
@@ -95,7 +95,7 @@ pub policies_stand_alone : PoliciesStandAlone
 policies_stand_alone w i ps qs cs ds y z m n a b e =
     same_text w i (slice_get (policy_values ps) m) (slice_get (policy_values qs) n) (slice_get a.texts m) (slice_get b.texts n) (text_at w i ps a.texts m a.cleaned) (text_at w i qs b.texts n b.cleaned) e
 
--- ---- a policy's tokens tell it
+-- ---- a policy's tokens determine it
 
 abbrev IsPolicy : Forest Label Decorated → Type 0
 IsPolicy f = Policy kind_of_decorated greatest_depth f
@@ -136,7 +136,7 @@ tree_parts p ps a =
       },
     )
 
--- a policy by value, and its tokens; or none of both
+-- a policy by value, and its tokens; or neither
 data TreeAt (v : Option (Clause Decorated policy)) (ts : Option (List Decorated)) : Type 0 where
   no_tree : v ≡ None → ts ≡ None → TreeAt v ts
   a_tree : (p : Clause Decorated policy) → v ≡ Some (part_map with_value p) → ts ≡ Some (map with_value (part_yield p)) → IsTree (p ∷ []) → TreeAt v ts

@@ -1,4 +1,4 @@
--- The documents of nodes print their tokens in order: what may stand first and last, leaf by leaf and node by node.
+-- The documents of nodes print their tokens in order: what may come first and last, leaf by leaf and node by node.
 use Rattle.std.proofs.Common.{◌≡◌, ℕ, ℤ, List, [], ◌∷◌, ◌++◌, Bool, true, false, ◌&&◌, ◌||◌, not, ◌⊎◌, inl, inr, refl, sym, ap, append_assoc, append-nil}
 use Rattle.cedar_tokens.specs.Listing.{Decorated, token_value}
 use Rattle.cedar_layout.specs.Layout.{Doc, nil, text_then, line_then as d_line_then, line_or_nil_then as d_line_or_nil_then, nest_then, group_then, line, ◌·◌, Atom, word, must_break, atoms}
@@ -54,7 +54,7 @@ trail_of_atoms (c ∷ cs) = refl
 pub weave_leaf : (c : ℕ) (t : Decorated) → glues c (first_or 32 (token_value t.text)) ≡ false → Weave c (t ∷ []) (atoms (printed t)) (after_of (token_value t.text) t.trailing)
 weave_leaf c t apart = simp (atoms-dot, lead_of_atoms, trail_of_atoms) (simp append-nil at (w_token {c = c} t (before_apart c (first_or 32 (token_value t.text)) t.leading apart) done))
 
--- the document a prints the tokens ts behind c, and what is last then meets P
+-- the document a prints the tokens ts after c, and what comes last then meets P
 pub record Run (P : ℕ → Type 0) (c : ℕ) (ts : List Decorated) (a : Doc) : Type 0 where
   pub last : ℕ
   pub weave : Weave c ts (atoms a) last
@@ -65,11 +65,11 @@ run_then {a = a} {b = b} p f =
     let q = f p.last p.meets in
     record { last = q.last; weave = rw (atoms-dot a b) (weave_append p.weave q.weave); meets = q.meets }
 
--- the same where no token comes behind
+-- the same where no token follows
 pub run_last : {P Q : ℕ → Type 0} {c : ℕ} {ts : List Decorated} {a b : Doc} → Run P c ts a → ((d : ℕ) → P d → Run Q d [] b) → Run Q c ts (a · b)
 run_last {ts = ts} p f = rw (append-nil ts) at (run_then p f)
 
--- the same where the first document stands in a nest or a group
+-- the same where the first document is in a nest or a group
 pub nest_run : {P Q : ℕ → Type 0} {c : ℕ} {ts us : List Decorated} {n : ℤ} {a b : Doc} → Run P c ts a → ((d : ℕ) → P d → Run Q d us b) → Run Q c (ts ++ us) (nest_then n a b)
 nest_run p f =
     let q = f p.last p.meets in
@@ -102,7 +102,7 @@ maybe_then q = record { last = q.last; weave = w_line_or_nil q.weave; meets = q.
 pub just : {Q : ℕ → Type 0} (c : ℕ) → Q c → Run Q c [] nil
 just c m = record { last = c; weave = done; meets = m }
 
--- a token, of which it is known what it begins and ends with
+-- a token whose first and last characters are known
 pub token : (P : ℕ → Type 0) (c : ℕ) (t : Decorated) → glues c (first_or 32 (token_value t.text)) ≡ false → P 32 → P (last_byte_or 32 (token_value t.text)) → Run P c (t ∷ []) (printed t)
 token P c t apart b e = record { last = after_of (token_value t.text) t.trailing; weave = weave_leaf c t apart; meets = after_is P (token_value t.text) t.trailing b e }
 
@@ -162,7 +162,7 @@ after_other (call l a r m) q = maybe_then q
 after_other (field d x m) q = maybe_then q
 after_other (index l x r m) q = maybe_then q
 
--- a token with a break or a space behind it where it has no trailing text
+-- a token, followed by a break or a space where it has no trailing text
 record Behind (n : Doc) (w tr : List ℕ) : Type 0 where
   rest : List Atom
   is : atoms (trail_of tr n) ≡ trail_atoms tr ++ rest
@@ -202,7 +202,7 @@ sign : (c : ℕ) (t : Decorated) → Opens c → IsMark (codes "!") t ⊎ IsMark
 sign c t o (inl f) = mark Opens (codes "!") c t f (o 33 refl) blank_opens opens_at_bang
 sign c t o (inr f) = mark Opens (codes "-") c t f (o 45 refl) blank_opens opens_at_dash
 
--- what may stand in front of a node: an access follows anything but a colon, all else must be opened
+-- what may come before a node: for an access anything but a colon, for all else a character that opens
 abbrev pub Entry : NodeKind → ℕ → Type 0
 Entry accesses c = Ends c
 Entry _ c = Opens c

@@ -30,7 +30,7 @@ typed_weave i v s n c o fv fn = run_then (word_token c v o fv) (λ d e. grouped 
 compared_atoms : (i : ℤ) (l left right : Doc) (s : Decorated) → atoms ((l · left) · (line · (printed s · (line · right)))) ≡ atoms (l · comparison i left s right)
 compared_atoms i l left right s = simp (atoms-dot, append_assoc, append-nil)
 
--- leading lines, and a comparison of what is behind them
+-- leading lines, and a comparison of what follows them
 compared_weave : (i : ℤ) (l left right : Doc) (s : Decorated) {c : ℕ} {ts us : List Decorated} → Run Ends c ts (l · left) → Run Ends 32 us right → Run Ends c (ts ++ (s ∷ us)) (l · comparison i left s right)
 compared_weave i l left right s p q = run_as (compared_atoms i l left right s) (run_then p (λ d e. line_then (run_then (operator 32 s (blank_apart (first_or 32 (token_value s.text)))) (λ d _. line_then q))))
 
@@ -45,7 +45,7 @@ variable_weave i (variable_is_op v s n p a) c o f =
 brace_then_line : (c : ℕ) (t : Decorated) → IsMark (codes "{") t → Run Opens c (t ∷ []) (C t line)
 brace_then_line c t f = token_then_blank line c t (λ c. w_line done) (rw f refl)
 
--- the body behind `{`: its first token's leading lines stand in front of its group
+-- the body after `{`: its first token's leading lines come before its group
 body_weave : (i : ℤ) (e : Tree Decorated expr) (c : ℕ) → Opens c → Fit e → Run Ends c (tree_yield e) (lead_of (lines_of_first (yield (parts literal_kind e))) · table i (map_first bare_token e))
 body_weave i e c o f =
     subst (λ z. Run Ends c (tree_yield e) (lead_of (lines_of_first z) · table i (map_first bare_token e))) (sym (typed_leaves literal_kind e))
@@ -58,12 +58,12 @@ cond_weave i k l e r c o f =
 any_cond_weave : (i : ℤ) (k : Clause Decorated a_cond) (c : ℕ) → Opens c → PartFit k → Run Ends c (part_yield k) (part_table i k)
 any_cond_weave i (cond_of k l e r) c o f = cond_weave i k l e r c o f
 
--- the break in front of conditions, and the conditions, parted by breaks
+-- the break before conditions, and the conditions, separated by breaks
 conds_weave : (i : ℤ) (m : Clause Decorated conds) (c : ℕ) → Ends c → PartFit m → Run Ends c (part_yield m) (between_conds m · part_table i m)
 conds_weave i no_cond c e f = just c e
 conds_weave i (conds_more k m) c e f = hard_then (run_then (any_cond_weave i k 32 blank_opens f.0) (λ d e. conds_weave i m d e f.1))
 
--- the closing bracket of the scope; behind it a break where a condition follows
+-- the closing bracket of the scope; after it a break where a condition follows
 conds_after : (i : ℤ) (q : Decorated) (m : Clause Decorated conds) (c : ℕ) → IsMark (codes ")") q → PartFit m → Run Ends c (q ∷ part_yield m) (C q (between_conds m) · part_table i m)
 conds_after i q no_cond c g f = run_then (closing_paren c q g) (λ d e. just d e)
 conds_after i q (conds_more k m) c g f = run_then (token_then_blank hard c q (λ c. w_hard done) (rw g refl)) (λ d o. run_then (any_cond_weave i k d o f.0) (λ d e. conds_weave i m d e f.1))
@@ -110,6 +110,6 @@ policy_weave i (policy_of ns e l p x a y r q cs s) c o f =
     (simp append_assoc) (simp (atoms-dot, append_assoc, append-nil))
 
 -- The law of gaps: under every choice of flat and broken groups and at every indentation, the text of a policy's document
--- is its tokens in order, with nothing but blanks, trailing texts and leading lines between them.
+-- is its tokens in order, with only blanks, trailing texts and leading lines between them.
 pub law_of_gaps : (i : ℤ) (t : Clause Decorated policy) (c : Choice (part_table i t)) → PartFit t → Spelled 32 (part_yield t) (text_of_choice (part_table i t) c)
 law_of_gaps i t c f = spelled (policy_weave i t 32 blank_opens f).weave (made_prints (pieces (part_table i t) c false 0) (atoms (part_table i t)) (pieces_are_made (part_table i t) c false 0))

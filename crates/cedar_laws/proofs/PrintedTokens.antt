@@ -31,8 +31,8 @@ abbrev pub trail_atoms : List ℕ → List Atom
 trail_atoms [] = []
 trail_atoms (c ∷ cs) = word (32 ∷ []) ∷ word (c ∷ cs) ∷ must_break ∷ []
 
--- The atoms print these tokens: each with its leading lines before it and its trailing text behind it,
--- and blanks between; no token glues to what stands before it. c stands before the atoms, d is at worst the last character after them.
+-- The atoms print these tokens, each with its leading lines before it and its trailing text after it, and blanks between;
+-- no token glues to what precedes it. c comes before the atoms, d is at worst the last character after them.
 pub data Weave : ℕ → List Decorated → List Atom → ℕ → Type 0 where
   done : {c : ℕ} → Weave c [] [] c
   w_space : {c d : ℕ} {ts : List Decorated} {xs : List Atom} → Weave 32 ts xs d → Weave c ts (word (32 ∷ []) ∷ xs) d

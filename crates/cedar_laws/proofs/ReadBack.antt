@@ -60,7 +60,7 @@ lines_comments (no_line p) a = no_comments p
 lines_comments (a_comment {g = g} {ls = ls} l p q) a =
     comments_blanks (l ++ (10 ∷ g)) p ∙ (comments_join l g ∙ rw (line_alone l a.0, lines_comments q a.1) refl)
 
--- what the text in front of a token says
+-- what the text before a token says
 pub front_comments : {ls : List (List ℕ)} {g : List ℕ} → Front ls g → AllByRecursion IsLine ls → comments g ≡ ls
 front_comments (bare p) a = no_comments p
 front_comments (led {b} {g} p q) a = comments_blanks (10 ∷ g) p ∙ (comments_skip 10 g refl ∙ lines_comments q a)
@@ -149,7 +149,7 @@ abbrev pub solids : (ts : List Decorated) → AllByRecursion IsGood ts → List 
 solids [] a = []
 solids (t ∷ ts) a = t.leading ++ (token_value t.text ∷ (filter is_solid a.0.trailing.units ++ solids ts a.1))
 
--- the decorated list of s is that of ts, and the text in front of its first token has no trailing part
+-- the decorated list of s is that of ts, and the text before its first token has no trailing part
 pub record Reading (ts : List Decorated) (s : List ℕ) (said : List (List ℕ)) : Type 0 where
   pub units : List (List ℕ)
   pub solid : filter is_solid units ≡ said
@@ -158,7 +158,7 @@ pub record Reading (ts : List Decorated) (s : List ℕ) (said : List (List ℕ))
   pub after : comments (after_newline (gaps units).first) ≡ comments (gaps units).first
   pub value : listing units ≡ record { tokens = map with_value ts; closing = [] }
 
--- what stands behind a token's text
+-- what follows a token's text
 back_before : (tr f : List ℕ) → IsTrailing tr → trim (before_newline f) ≡ [] → trim (before_newline (back tr ++ f)) ≡ tr
 back_before [] f h e = e
 back_before (c ∷ cs) f h e =
@@ -224,7 +224,7 @@ apart_spelled {c} (a_token {g = g} {s = s} t f n r) a = elim (front_cases c f) [
   | inr k ↦ k (token_value t.text ++ (back t.trailing ++ s))
 ]
 
--- behind a token's text: a space, or what comes next
+-- after a token's text: a space, or what comes next
 apart_back : (w tr s : List ℕ) → Apart (after_of w tr) s → Apart (last_byte_or 32 w) (back tr ++ s)
 apart_back w [] s h = h
 apart_back w (c ∷ cs) s h = refl

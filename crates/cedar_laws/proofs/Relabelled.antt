@@ -82,7 +82,7 @@ module _ {A B : Type 0} (h : A → B) (kind : A → Kind) (kind' : B → Kind) (
   closes_same (leaf a f) = ap is_closing (same a)
   closes_same (branch l f g) = refl
 
-  -- trailing commas stay such
+  -- trailing commas remain trailing commas
   pub without_map : (f : Forest Label A) → without_trailing kind' (relabel h f) ≡ relabel h (without_trailing kind f)
   without_map none = refl
   without_map (leaf a f) =

@@ -101,21 +101,21 @@ Row units ps cs out = RowAt 80 units ps cs out
 abbrev Body : ℕ → List (List ℕ) → Tree Decorated expr → List ℕ → Type 0
 Body w units e out = ((listing units).tokens ≡ tree_yield e) × (laid_text w (table (pos 2) e) ≡ out)
 
--- `permit(principal, // p` and in the next line `action,resource);`
+-- `permit(principal, // p`, and on the next line `action,resource);`
 comment_in_scope : Row ((codes "permit") ∷ (codes "(") ∷ (codes "principal") ∷ (codes ",") ∷ (codes " ") ∷ (codes "// p") ∷ (10 ∷ []) ∷ (codes "action") ∷ (codes ",") ∷ (codes "resource") ∷ (codes ")") ∷ (codes ";") ∷ [])
     ((bare closed (with (codes ",") (codes "// p")) no_cond semicolon) ∷ []) ([])
     (codes "permit (principal, // p" ++ (10 ∷ (codes "  action, resource);" ++ (10 ∷ []))))
 unfolding columns unicode_width listing gaps decorate comments lines comment_of_line trim_start trim_end chars encode_utf8 slots punctuators without_zeros string_end
 comment_in_scope = (refl, refl, refl)
 
--- a line of its own before an operator: the blank behind "a" stays, and so does the first line of its piece
+-- a line of its own before an operator: the blank after "a" stays, and so does the first line of its piece
 comment_before_operator : Row ((codes "permit") ∷ (codes "(") ∷ (codes "principal") ∷ (codes ",") ∷ (codes "action") ∷ (codes ",") ∷ (codes "resource") ∷ (codes ")") ∷ (codes "when") ∷ (codes "{") ∷ (34 ∷ (codes "a" ++ (34 ∷ []))) ∷ (10 ∷ []) ∷ (codes "// c") ∷ (10 ∷ []) ∷ (codes "==") ∷ (codes " ") ∷ (34 ∷ (codes "b" ++ (34 ∷ []))) ∷ (codes "}") ∷ (codes ";") ∷ [])
     ((bare closed comma (when (whole (compare (lit (t (34 ∷ (codes "a" ++ (34 ∷ []))))) (led (codes "// c" ∷ []) (codes "==")) (lit (t (34 ∷ (codes "b" ++ (34 ∷ [])))))))) semicolon) ∷ []) ([])
     (codes "permit (principal, action, resource)" ++ (10 ∷ (codes "when" ++ (10 ∷ (codes "{" ++ (10 ∷ (codes "  " ++ (34 ∷ (codes "a" ++ (34 ∷ (codes " " ++ (10 ∷ (codes "  // c" ++ (10 ∷ (codes "  == " ++ (34 ∷ (codes "b" ++ (34 ∷ (10 ∷ (codes "};" ++ (10 ∷ [])))))))))))))))))))))
 unfolding columns unicode_width listing gaps decorate comments lines comment_of_line trim_start trim_end chars encode_utf8 slots punctuators without_zeros string_end
 comment_before_operator = (refl, refl, refl)
 
--- a lone `\r` ends a comment and no line
+-- a lone `\r` ends a comment but not a line
 two_comments_in_one_line : Row ((codes "permit") ∷ (codes "(") ∷ (codes "principal") ∷ (codes ",") ∷ (codes "action") ∷ (codes ",") ∷ (codes "resource") ∷ (codes ")") ∷ (codes ";") ∷ (codes "// a") ∷ (13 ∷ []) ∷ (codes "// b") ∷ [])
     ((bare closed comma no_cond (with (codes ";") (codes "// a" ++ (13 ∷ (codes "// b"))))) ∷ []) ([])
     (codes "permit (principal, action, resource); // a" ++ (13 ∷ (codes "// b" ++ (10 ∷ []))))
@@ -177,7 +177,7 @@ slashes_in_string : Row ((codes "permit") ∷ (codes "(") ∷ (codes "principal"
 unfolding columns unicode_width listing gaps decorate comments lines comment_of_line trim_start trim_end chars encode_utf8 slots punctuators without_zeros string_end
 slashes_in_string = (refl, refl, refl)
 
--- the comment of a trailing comma goes behind the token before it
+-- the comment of a trailing comma goes after the token before it
 trailing_comma : Row ((codes "permit") ∷ (codes "(") ∷ (codes "principal") ∷ (codes ",") ∷ (codes "action") ∷ (codes ",") ∷ (codes "resource") ∷ (codes ",") ∷ (codes " ") ∷ (codes "// r") ∷ (10 ∷ []) ∷ (codes ")") ∷ (codes ";") ∷ [])
     ((policy_of no_annotation (t (codes "permit")) (t (codes "(")) (variable_bare (t (codes "principal"))) comma (variable_bare (t (codes "action"))) comma (variable_bare (with (codes "resource") (codes "// r"))) closed no_cond semicolon) ∷ []) ([])
     (codes "permit (principal, action, resource // r" ++ (10 ∷ (codes "  );" ++ (10 ∷ []))))
@@ -211,7 +211,7 @@ past_last_column : Row ((codes "permit") ∷ (codes "(") ∷ (codes "principal")
 unfolding columns unicode_width listing gaps decorate comments lines comment_of_line trim_start trim_end chars encode_utf8 slots punctuators without_zeros string_end
 past_last_column = (refl, refl, refl)
 
--- leading zeros of numbers go
+-- leading zeros of numbers are dropped
 zeros : Row ((codes "permit") ∷ (codes "(") ∷ (codes "principal") ∷ (codes ",") ∷ (codes "action") ∷ (codes ",") ∷ (codes "resource") ∷ (codes ")") ∷ (codes "when") ∷ (codes "{") ∷ (codes "007") ∷ (codes "==") ∷ (codes "7") ∷ (codes "}") ∷ (codes ";") ∷ [])
     ((bare closed comma (when (whole (compare (lit (t (codes "007"))) (t (codes "==")) (lit (t (codes "7")))))) semicolon) ∷ []) ([])
     (codes "permit (principal, action, resource)" ++ (10 ∷ (codes "when { 7 == 7 };" ++ (10 ∷ []))))
@@ -225,14 +225,14 @@ annotation : RowAt 80 (parted (codes "@~id~(~\"x\"~)~permit~(~principal~,~action
 unfolding columns unicode_width listing gaps decorate comments lines comment_of_line trim_start trim_end chars encode_utf8 slots punctuators without_zeros string_end
 annotation = (refl, refl, refl)
 
--- a variable with a type, `in` and a slot; where these are too wide they break in the order of their groups
+-- a variable with a type, `in` and a slot; where these are too wide, they break in the order of their groups
 type_and_slot_in_scope : RowAt 18 (parted (codes "permit~(~principal~ ~is~ ~A~ ~in~ ~?principal~,~action~,~resource~)~;"))
     ((policy_of no_annotation (t (codes "permit")) (t (codes "(")) (variable_is_op (t (codes "principal")) (t (codes "is")) (name_one (t (codes "A"))) (t (codes "in")) (alone (slot (t (codes "?principal"))))) comma (variable_bare (t (codes "action"))) comma (variable_bare (t (codes "resource"))) closed no_cond semicolon) ∷ []) ([])
     (codes "permit (\n  principal is A\n  in\n    ?principal,\n  action,\n  resource\n);\n")
 unfolding columns unicode_width listing gaps decorate comments lines comment_of_line trim_start trim_end chars encode_utf8 slots punctuators without_zeros string_end
 type_and_slot_in_scope = (refl, refl, refl)
 
--- a variable with an operator and a list of entities, each on a line of its own
+-- a variable with an operator and a list of entities, each on its own line
 entities_in_scope : RowAt 20 (parted (codes "permit~(~principal~,~action~ ~in~ ~[~A~::~\"x\"~,~A~::~\"y\"~]~,~resource~)~;"))
     ((policy_of no_annotation (t (codes "permit")) (t (codes "(")) (variable_bare (t (codes "principal"))) comma (variable_op (t (codes "action")) (t (codes "in")) (alone (list_of (t (codes "[")) (args_more (whole (single (alone (reference (ref_of (name_one (t (codes "A"))) (t (codes "::")) (t (codes "\"x\""))))))) comma (args_one (whole (single (alone (reference (ref_of (name_one (t (codes "A"))) (t (codes "::")) (t (codes "\"y\""))))))))) (t (codes "]"))))) comma (variable_bare (t (codes "resource"))) closed no_cond semicolon) ∷ []) ([])
     (codes "permit (\n  principal,\n  action in\n    [A::\"x\",\n     A::\"y\"],\n  resource\n);\n")
@@ -253,7 +253,7 @@ record_and_type : RowAt 80 (parted (codes "permit~(~principal~,~action~,~resourc
 unfolding columns unicode_width listing gaps decorate comments lines comment_of_line trim_start trim_end chars encode_utf8 slots punctuators without_zeros string_end
 record_and_type = (refl, refl, refl)
 
--- `if` on lines of its own, and an entity
+-- `if` on its own lines, and an entity
 branches : RowAt 30 (parted (codes "permit~(~principal~,~action~,~resource~)~when~{~if~ ~a~::~\"x\"~==~principal~ ~then~ ~true~ ~else~ ~false~}~;"))
     ((bare closed comma (conds_more (cond_of (t (codes "when")) (t (codes "{")) (if_expr (t (codes "if")) (whole (compare (alone (reference (ref_of (name_one (t (codes "a"))) (t (codes "::")) (t (codes "\"x\""))))) (t (codes "==")) (alone (named (name_one (t (codes "principal"))))))) (t (codes "then")) (whole (single (lit (t (codes "true"))))) (t (codes "else")) (whole (single (lit (t (codes "false")))))) (t (codes "}"))) no_cond) semicolon) ∷ []) ([])
     (codes "permit\n(principal, action, resource)\nwhen\n{\n  if\n    a::\"x\" == principal\n  then\n    true\n  else\n    false\n};\n")
@@ -275,13 +275,13 @@ three_conditions : RowAt 30 (parted (codes "@~a~ ~permit~(~principal~ ~is~ ~Orga
 unfolding columns unicode_width listing gaps decorate comments lines comment_of_line trim_start trim_end chars encode_utf8 slots punctuators without_zeros string_end
 three_conditions = (refl, refl, refl)
 
--- a sum and a product, each broken behind its operator
+-- a sum and a product, each broken after its operator
 sum_and_product : Body 4 (parted (codes "1~+~2~*~3")) ((whole (single (add_of (sums_more (mult_of (products_one (unsigned (member_of (literal (t (codes "1"))) no_access)))) (t (codes "+")) (sums_one (mult_of (products_more (unsigned (member_of (literal (t (codes "2"))) no_access)) (t (codes "*")) (products_one (unsigned (member_of (literal (t (codes "3"))) no_access)))))))))))
     (codes "1 +\n2 *\n3")
 unfolding columns unicode_width listing gaps decorate comments lines comment_of_line trim_start trim_end chars encode_utf8 slots punctuators without_zeros string_end
 sum_and_product = (refl, refl)
 
--- signs, a method call that breaks, and a field behind it
+-- signs, a method call that breaks, and a field after it
 signs_and_accesses : Body 15 (parted (codes "!~!~context~.~b~(~1~)~.~c")) ((whole (single (add_of (sums_one (mult_of (products_one (signed (t (codes "!")) (signed (t (codes "!")) (unsigned (member_of (named (name_one (t (codes "context")))) (field (t (codes ".")) (t (codes "b")) (call (t (codes "(")) (args_one (whole (single (lit (t (codes "1")))))) closed (field (t (codes ".")) (t (codes "c")) no_access))))))))))))))
     (codes "!!context.b(\n    1\n  )\n  .c")
 unfolding columns unicode_width listing gaps decorate comments lines comment_of_line trim_start trim_end chars encode_utf8 slots punctuators without_zeros string_end

@@ -27,7 +27,7 @@ scans_concat (u ∷ us) x y s =
     let e : drop (length u) x ≡ s.0.begins.0 = ap (drop (length u)) s.0.begins.1 ∙ drop-append_seam u s.0.begins.0 in
     s.0.begins.1 ∙ (ap (λ r. u ++ r) (sym e ∙ scans_concat us (drop (length u) x) y s.1) ∙ sym (append_assoc u (concat us) y))
 
--- what stands at the start of a text stands at the start of its front, if it is no longer
+-- what a text begins with, its front begins with too, if it is long enough
 pub begins_within : (a b v : List ℕ) → BeginsWith (a ++ b) v → length v ≤ length a → BeginsWith a v
 begins_within a b [] g l = (a, refl)
 begins_within [] b (c ∷ v) g l = absurd (omega (arith, l))
@@ -101,7 +101,7 @@ string_class u b k c = elim k [
     no_comment [] e = absurd cc
     no_comment (d ∷ u) e = let p = comment_parts b d u e in let f : class 47 ≡ 3 = rw p.0 at c in omega (arith, f)
 
--- a line feed behind a text changes none of its units
+-- a line feed after a text changes none of its units
 pub first_before_feed : (a r u : List ℕ) → IsFirstUnit a u → IsFirstUnit (a ++ (10 ∷ r)) u
 first_before_feed [] r u f = absurd (omega (arith, unit_nonempty u f.kind, begins_fits [] u f.begins))
 first_before_feed (b ∷ a) r u f = record {
@@ -134,7 +134,7 @@ first_before_feed (b ∷ a) r u f = record {
           | token e ↦ (let s = token_no_feed b a p.more e in let w = front u f.kind f.begins s.0 in string_front w.0 p.more w.1 w.2 s.1)
         ]
 
--- so a line feed behind a text that splits changes nothing
+-- so a line feed after a text that splits changes nothing
 pub scans_before_feed : (us : List (List ℕ)) (x r : List ℕ) → Scans us x [] → Scans us (x ++ (10 ∷ r)) (10 ∷ r)
 scans_before_feed [] x r s = rw s refl
 scans_before_feed (u ∷ us) x r s = (first_before_feed x r u s.0, rw (drop-append-le (length u) x (10 ∷ r) (begins_fits x u s.0.begins)) (scans_before_feed us (drop (length u) x) r s.1))

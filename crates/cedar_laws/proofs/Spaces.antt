@@ -1,4 +1,4 @@
--- Units without a token: the comments that they say, where their first line feed stands, and how a text of them is cut at its end.
+-- Units without a token: their comments, where their first line feed is, and how a text of them is cut at its end.
 use Rattle.std.proofs.Common.{◌≡◌, ℕ, Bool, true, false, not, ◌==◌, ◌⊎◌, inl, inr, List, [], ◌∷◌, ◌++◌, length, map, drop, refl, ap, arith, sym, ◌∙◌, subst, append_assoc, length-append}
 use Rattle.std.proofs.Math.Numerals.{one-add}
 use Rattle.std.specs.List.{list_all, AllByRecursion, concat, filter, prefix_len}
@@ -18,7 +18,7 @@ use Rattle.cedar_laws.proofs.BlankLines.{blank_no_comment, Parted, parted_parts,
 
 -- ---- UTF-8
 
--- the units of a text in UTF-8 are in UTF-8
+-- the units of a UTF-8 text are UTF-8
 pub units_utf8 : (us : List (List ℕ)) (x : List ℕ) → IsUtf8 x → SplitsInto x us → AllByRecursion IsUtf8 us
 units_utf8 [] x h s = tt
 units_utf8 (u ∷ us) x h s =
@@ -39,7 +39,7 @@ line_is [] [] h e = refl
 line_is [] (d ∷ r) h e = rw e refl
 line_is (b ∷ v) r h e = let p = and_parts (is_comment_byte b) (list_all is_comment_byte v) h in rw (p.0, line_is v r p.1 e, one-add) refl
 
--- a comment and a line end behind it
+-- a comment and a line end after it
 comment_then : (u r : List ℕ) → is_comment u ≡ true → Ended r → comments (u ++ r) ≡ trim u ∷ comments r
 comment_then [] r h e = absurd cc
 comment_then (a ∷ []) r h e = absurd cc
@@ -67,7 +67,7 @@ ended_behind u (d ∷ r) h f = go (is_comment_byte d) refl
     go false e = e
     go true e = absurd (let l = f.longest (u ++ (d ∷ [])) (comment (comment_more u d h e)) (r, sym (append_assoc u (d ∷ []) r)) in omega (arith, l, length-append u (d ∷ [])))
 
--- what the units without a token of a text say is their comments, trimmed
+-- units without a token say their text's comments, trimmed
 pub units_comments : (us : List (List ℕ)) → Parted us → NoTokens us → comments (concat us) ≡ map trim (filter is_comment us)
 units_comments [] p a = comments_nil
 units_comments (u ∷ us) p a = elim p.0.kind [
@@ -108,7 +108,7 @@ find_feed (u ∷ us) p a = go (u_feed p.0.kind) (find_feed us (parted_parts (u �
 
 -- ---- a shorter end
 
--- a shorter text behind units leaves them
+-- a shorter text after units leaves them unchanged
 pub scans_shorter : (us : List (List ℕ)) (a b : List ℕ) → Scans us (concat us ++ (a ++ b)) (a ++ b) → Scans us (concat us ++ a) a
 scans_shorter [] a b s = refl
 scans_shorter (u ∷ us) a b s =

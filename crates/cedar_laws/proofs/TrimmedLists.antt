@@ -1,4 +1,4 @@
--- Trimming keeps the decorated list of every text in UTF-8 that splits.
+-- Trimming keeps the decorated list of every UTF-8 text that splits.
 use Rattle.std.proofs.Common.{◌≡◌, ℕ, ◌<◌, Bool, true, false, cond, not, ◌&&◌, ◌==◌, ◌⊎◌, inl, inr, List, [], ◌∷◌, ◌++◌, Some, None, length, get_or, map, take, drop, refl, ap, arith, sym, ◌∙◌, subst, nat_lt, append_assoc, append-nil, length-append}
 use Rattle.std.specs.List.{list_all, AllByRecursion, concat, filter}
 use Rattle.std.specs.Char.{is_whitespace, is_ascii_digit}
@@ -90,7 +90,7 @@ token_ends b v t =
       | punctuator _ _ a ↦ ends_all b v l (and_parts (black b) (list_all black v) (one_of (list_all black) punctuators (b ∷ v) punctuators_black a)).1
     ]
 
--- a text that ends in no blank
+-- a text that ends in a non-blank
 pub record Black (k : List ℕ) : Type 0 where
   pub first : ℕ
   pub rest : List ℕ
@@ -257,7 +257,7 @@ says cs bs k e n u p q = let r = by_feed (find_feed cs (parted_parts cs (k ∷ b
         regroup : (a b c d : List ℕ) → (a ++ (b ++ c)) ++ d ≡ (a ++ b) ++ (c ++ d)
         regroup a b c d = simp append_assoc
 
--- units cut behind their last token
+-- units cut after their last token
 data LastToken (us : List (List ℕ)) : Type 0 where
   no_token : NoTokens us → LastToken us
   last_token : (fs cs : List (List ℕ)) (w : List ℕ) → us ≡ fs ++ (w ∷ cs) → is_token w ≡ true → NoTokens cs → LastToken us
@@ -303,7 +303,7 @@ end_listing vs bs k e u p q = go (find_token vs)
 
 -- ---- the law
 
--- the units of the trimmed text: those of us without some blanks, the last without the blanks at its end
+-- the units of the trimmed text: us without some blanks, the last without the blanks at its end
 pub record Trims (us : List (List ℕ)) : Type 0 where
   pub rest : List (List ℕ)
   pub units : List (List ℕ)
@@ -385,7 +385,7 @@ pub utf8_parts : (xs ys : List (List ℕ)) → AllByRecursion IsUtf8 (xs ++ ys) 
 utf8_parts [] ys h = (tt, h)
 utf8_parts (x ∷ xs) ys h = let r = utf8_parts xs ys h.1 in ((h.0, r.0), r.1)
 
--- k is the last of these units that is no blank
+-- k is the last of these units that isn't a blank
 record Last (us : List (List ℕ)) : Type 0 where
   front : List (List ℕ)
   last : List ℕ

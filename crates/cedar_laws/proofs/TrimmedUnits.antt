@@ -14,7 +14,7 @@ use Rattle.cedar_tokens.proofs.CommentLines.{comments_nil}
 use Rattle.cedar_laws.proofs.Joined.{before_cons, after_cons}
 use Rattle.cedar_laws.proofs.BlankLines.{feedless, blanks_no_token, blanks_no_comment, blank_feed}
 
--- a blank in front goes
+-- a blank at the start is removed
 pub trim_blank : (u x : List ℕ) → IsBlank u → trim (u ++ x) ≡ trim x
 unfolding trim_start
 trim_blank u x k = rw (chars_blank u x k, k.1) refl
@@ -23,7 +23,7 @@ pub front_blank_goes : (u : List ℕ) (us : List (List ℕ)) → IsBlank u → P
 unfolding listing gaps
 front_blank_goes u us k p = ((parted_parts (u ∷ []) us p).1, rw (blank_no_token u k) (decorate_same (gaps us).first (u ++ (gaps us).first) (gaps us).tokens (sym (comments_pass u (gaps us).first (blank_no_slash u k)))))
 
--- what blanks behind a token say
+-- what blanks after a token say
 pub before_free : (u x : List ℕ) → feedless u ≡ true → before_newline (u ++ x) ≡ u ++ before_newline x
 before_free [] x h = refl
 before_free (b ∷ u) x h =
@@ -66,7 +66,7 @@ same_more : (w g : List ℕ) (ts us : List (List ℕ × List ℕ)) → SameGaps 
 unfolding decorate
 same_more w g ts us h f = rw (h (after_newline g)) refl
 
--- units behind which the gaps say the same
+-- units after which the gaps say the same
 pub same_front : (vs xs ys : List (List ℕ)) → (gaps xs).first ≡ (gaps ys).first → SameGaps (gaps xs).tokens (gaps ys).tokens → ((gaps (vs ++ xs)).first ≡ (gaps (vs ++ ys)).first) × SameGaps (gaps (vs ++ xs)).tokens (gaps (vs ++ ys)).tokens
 unfolding gaps
 same_front [] xs ys e h = (e, h)
@@ -79,7 +79,7 @@ same_front (u ∷ vs) xs ys e h = go (is_token u) (same_front vs xs ys e h)
     go true q = (refl, rw q.0 (same_more u (gaps (vs ++ ys)).first (gaps (vs ++ xs)).tokens (gaps (vs ++ ys)).tokens q.1))
     go false q = (ap (λ z. u ++ z) q.0, q.1)
 
--- blanks behind the last token go
+-- blanks after the last token are removed
 pub token_end : (vs bs : List (List ℕ)) (k : List ℕ) → is_token k ≡ true → AllBlank bs → Parted ((vs ++ (k ∷ [])) ++ bs) → Parted (vs ++ (k ∷ [])) × (listing (vs ++ (k ∷ [])) ≡ listing (vs ++ (k ∷ bs)))
 unfolding listing gaps decorate
 token_end vs bs k h a p =

@@ -1,4 +1,4 @@
--- Which unit stands at the start of a text, by what follows it.
+-- Which unit begins a text, by what follows it.
 use Rattle.std.proofs.Common.{◌≡◌, ℕ, ◌<◌, ◌≤◌, ◌+◌, Bool, true, false, cond, not, ◌&&◌, ◌||◌, ◌==◌, ◌⊎◌, inl, inr, List, [], ◌∷◌, ◌++◌, length, get_or, refl, ap, arith, sym, ◌∙◌, nat_lt, append-nil, length-append, Some}
 use Rattle.std.specs.Prelude.{codes, ⊤}
 use Rattle.std.specs.List.{list_all}
@@ -14,7 +14,7 @@ use Rattle.cedar_tokens.proofs.FirstUnit.{comment_parts, token_class, no_empty_b
 use Rattle.cedar_laws.specs.Neighbours.{glues}
 use Rattle.cedar_layout.specs.Cleaning.{last_byte_or}
 
--- what stands at the start of w ++ r stands within w, or goes on behind it
+-- what begins w ++ r lies within w or extends beyond it
 pub record Past (w r v : List ℕ) : Type 0 where
   pub next : ℕ
   pub rest : List ℕ
@@ -30,7 +30,7 @@ past (b ∷ w) r (c ∷ v) g =
     let s = same_head b c (w ++ r) v g in
     elim (past w r v s.1) [ inl l ↦ inl (omega (arith, l)) | inr p ↦ inr (record { next = p.next; rest = p.rest; more = p.more; is_rest = p.is_rest; is = let e : v ≡ w ++ (p.next ∷ p.more) = p.is in rw (s.0, e) refl }) ]
 
--- the unit w stands at the start of w ++ r, if no unit goes on behind it
+-- the unit w begins w ++ r if no unit extends beyond it
 pub first_from : (w r : List ℕ) → IsUnit w → ((v : List ℕ) → IsUnit v → Past w r v → ⊥) → IsFirstUnit (w ++ r) w
 first_from w r k none = record { kind = k; begins = (r, refl); longest = λ v n g. elim (past w r v g) [ inl l ↦ l | inr p ↦ absurd (none v n p) ] }
 
@@ -68,7 +68,7 @@ next_passes p (c ∷ w) d v h = next_passes p w d v (and_parts (p c) (list_all p
 words_glue : (c d : ℕ) → is_word_byte c ≡ true → is_word_byte d ≡ true → glues c d ≡ true
 words_glue c d h k = rw (k, h) refl
 
--- a punctuator of two bytes has a first byte that glues to the second, or is no sign without it
+-- the first byte of a punctuator of two bytes glues to the second, or is no punctuator by itself
 abbrev pair_glues : List ℕ → Bool
 pair_glues (a ∷ (d ∷ [])) = glues a d || not (is_one_of punctuators (a ∷ []))
 pair_glues _ = true
@@ -190,7 +190,7 @@ abbrev pub Apart : ℕ → List ℕ → Type 0
 Apart c [] = ⊤
 Apart c (d ∷ r) = glues c d ≡ false
 
--- a token is the unit where it stands, if what follows doesn't glue to it
+-- a token is the unit at its place if what follows doesn't glue to it
 pub token_first : (w r : List ℕ) → IsToken w → Apart (last_byte_or 32 w) r → IsFirstUnit (w ++ r) w
 token_first [] r h a = absurd (no_empty_token h)
 token_first (b ∷ w) r h a = first_from (b ∷ w) r (token h) none
@@ -228,7 +228,7 @@ abbrev pub Ended : List ℕ → Type 0
 Ended [] = ⊤
 Ended (d ∷ r) = is_comment_byte d ≡ false
 
--- a comment is the unit where it stands, if a line end follows
+-- a comment is the unit at its place if a line end follows
 pub comment_first : (w r : List ℕ) → IsComment w → Ended r → IsFirstUnit (w ++ r) w
 comment_first [] r h a = absurd cc
 comment_first (b ∷ []) r h a = absurd cc
@@ -262,7 +262,7 @@ comment_first (b ∷ (c ∷ w)) r h a = first_from (b ∷ (c ∷ w)) r (comment 
           | token e ↦ absurd (no_punctuator (w ++ (p.next ∷ p.more)) e)
         ]
 
--- a blank is the unit where it stands
+-- a blank is the unit at its place
 pub blank_first : (w r : List ℕ) → IsBlank w → IsFirstUnit (w ++ r) w
 blank_first [] r h = absurd (no_empty_blank h)
 blank_first (b ∷ w) r h = first_from (b ∷ w) r (blank h) none

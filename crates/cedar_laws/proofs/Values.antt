@@ -37,6 +37,6 @@ values_equal ts cs = ap (λ z. record { tokens = z; closing = cs }) (each ts)
     each [] = refl
     each (t ∷ ts) = ap (λ z. record { text = z; leading = t.leading; trailing = t.trailing } ∷ map with_value (map with_value ts)) (value_once t.text) ∙ ap (λ z. with_value t ∷ z) (each ts)
 
--- rows: `resource, // r` in front of `)`, and a comma whose neighbour has a trailing text
+-- rows: `resource, // r` before `)`, and a comma whose neighbour has a trailing text
 abbrev t : List ℕ → Decorated
 t s = record { text = s; leading = []; trailing = [] }

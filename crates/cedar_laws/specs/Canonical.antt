@@ -1,4 +1,4 @@
--- The canonical form: the output of a text, and what outputs tell of their texts.
+-- The canonical form: the output of a text, and what outputs say about their texts.
 use Rattle.std.specs.Prelude.{◌≡◌, ◌↔◌, ℕ, ℤ, List, [], ◌∷◌, ◌++◌, map}
 use Rattle.std.specs.List.{AllByRecursion}
 use Rattle.std.specs.Str.{trim, IsUtf8}
@@ -21,7 +21,7 @@ use Rattle.cedar_tokens.specs.Bytes.{line_feed}
 
 -- ---- outputs of trees
 
--- trees that differ in leading zeros of numbers alone have the same document
+-- trees that differ only in leading zeros of numbers have the same document
 abbrev pub DocumentsGoByValue : Type 0
 DocumentsGoByValue = (i : ℤ) (p q : Clause Decorated policy) → part_map with_value p ≡ part_map with_value q → part_table i p ≡ part_table i q
 
@@ -48,7 +48,7 @@ PolicyHasNoBlankLine = (i : ℤ) (p : Clause Decorated policy) (c : Choice (part
 abbrev pub plain_listing : Listing → Listing
 plain_listing l = record { tokens = plain_list l.tokens; closing = l.closing }
 
--- Of a text in UTF-8 and the trees of its plain list: under every choice of groups and at every indentation the output splits,
+-- For a UTF-8 text and the trees of its plain list: under every choice of groups and at every indentation the output splits,
 -- and its decorated list is the text's plain list by value.
 abbrev pub TextsReadBack : Type 0
 TextsReadBack = (i : ℤ) (x : List ℕ) (l : Listing) (ps : List (Clause Decorated policy)) (output : List ℕ) → IsUtf8 x → IsListing x l → IsTree ps → tokens_of ps ≡ plain_list l.tokens

@@ -8,7 +8,7 @@ use Rattle.cedar_tokens.specs.Listing.{Listing, IsListing}
 use Rattle.cedar_layout.specs.Cleaning.{IsCleaned}
 use Rattle.cedar_tokens.specs.Bytes.{line_feed}
 
--- every text has one text without the blank lines of its pieces, and so one cleaned text
+-- every text has exactly one text without the blank lines of its pieces, and so exactly one cleaned text
 abbrev pub CleaningIsUnique : Type 0
 CleaningIsUnique = (x y z : List ℕ) → IsCleaned x y → IsCleaned x z → y ≡ z
 
@@ -29,17 +29,17 @@ pub data Thinned : List (List ℕ) → List (List ℕ) → Type 0 where
   unit_stays : (u : List ℕ) {us vs : List (List ℕ)} → Thinned us vs → Thinned (u ∷ us) (u ∷ vs)
   blank_goes : (u : List ℕ) {us vs : List (List ℕ)} → IsBlank u → Thinned us vs → Thinned (u ∷ us) vs
 
--- the units, the last without the blanks at its end if it is a comment
+-- the units; if the last is a comment, without the blanks at its end
 abbrev pub with_last_trimmed : List (List ℕ) → List (List ℕ)
 with_last_trimmed [] = []
 with_last_trimmed (u ∷ []) = (if is_comment u then trim u else u) ∷ []
 with_last_trimmed (u ∷ (v ∷ us)) = u ∷ with_last_trimmed (v ∷ us)
 
--- cleaning takes away blanks between tokens and comments, and those at the end of a last comment; all else stays, strings unchanged
+-- cleaning removes only blanks between tokens and comments, and those at the end of a last comment; strings stay unchanged
 abbrev pub CleaningTakesBlanks : Type 0
 CleaningTakesBlanks = (x y : List ℕ) (us : List (List ℕ)) → IsUtf8 x → SplitsInto x us → IsCleaned x y → (vs : List (List ℕ)) × Thinned us vs × SplitsInto y (with_last_trimmed vs)
 
--- between two line feeds stand more than blanks
+-- between two line feeds there are more than blanks
 abbrev pub NoBlankLine : List (List ℕ) → Type 0
 NoBlankLine us = (front blanks behind : List (List ℕ)) → us ≡ front ++ ((line_feed ∷ []) ∷ (blanks ++ ((line_feed ∷ []) ∷ behind))) → ¬ (AllByRecursion IsBlank blanks)
 

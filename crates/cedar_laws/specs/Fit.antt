@@ -1,4 +1,4 @@
--- The texts that the leaves of a tree have.
+-- Which texts the leaves of a tree have.
 use Rattle.std.specs.Prelude.{ℕ, List, [], ◌∷◌, Bool, true, false, ◌||◌, ◌==◌, ◌≡◌, codes, not, ⊤, ◌⊎◌}
 use Rattle.cedar_tokens.specs.Listing.{Decorated, token_value}
 use Rattle.cedar_laws.specs.Neighbours.{glues, first_or}
@@ -6,7 +6,7 @@ use Rattle.cedar_layout.specs.Cleaning.{last_byte_or}
 use Rattle.cedar_grammar.specs.TypedTrees.{Tree, NodeKind, PartKind, Clause, variable_bare, variable_is, variable_op, variable_is_op, cond_of, no_cond, conds_more, annotation_bare, annotation_value, no_annotation, annotations_more, policy_of, name_one, name_more, ref_of, args_one, args_more, init_of, inits_one, inits_more, literal, slot, reference, named, parens, list_empty, list_of, record_empty, record_of, no_access, field, call_empty, call, index, member_of, unsigned, signed, products_one, products_more, mult_of, sums_one, sums_more, add_of, single, compare, has_or_like, is_type, is_in, ands_one, ands_more, ors_one, ors_more, ors_expr, if_expr}
 use Rattle.cedar_tokens.specs.Bytes.{colon, equals, slash, space_character}
 
--- what stands last behind a token with this text and this trailing text, and what stands in front of a token
+-- the last character of a token with this text and this trailing text, and the character before a token
 -- with these leading lines: a space stands for any blank
 abbrev pub after_of : List ℕ → List ℕ → ℕ
 after_of w [] = last_byte_or space_character w

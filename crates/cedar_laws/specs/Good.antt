@@ -13,7 +13,7 @@ pub record IsLine (l : List ℕ) : Type 0 where
   pub trimmed : trim l ≡ l
   pub utf8 : IsUtf8 l
 
--- a trailing text: blanks and comments within one line, trimmed (a lone `\r` may part two comments)
+-- a trailing text: blanks and comments within one line, trimmed (a lone `\r` may separate two comments)
 pub record IsTrailing (tr : List ℕ) : Type 0 where
   pub trimmed : trim tr ≡ tr
   pub one_line : before_newline tr ≡ tr

@@ -6,10 +6,10 @@ use Rattle.cedar_tokens.specs.Listing.{Decorated, Listing, IsListing}
 use Rattle.cedar_tokens.specs.PlainList.{plain_list}
 use Rattle.cedar_laws.specs.Good.{IsGood, IsLine}
 
--- those of the decorated list of a text in UTF-8
+-- the decorated list of a UTF-8 text has good decorations
 abbrev pub EveryListIsGood : Type 0
 EveryListIsGood = (x : List ℕ) (l : Listing) → IsUtf8 x → IsListing x l → AllByRecursion IsGood l.tokens × AllByRecursion IsLine l.closing
 
--- and they stay good where trailing commas go
+-- decorations stay good where trailing commas are removed
 abbrev pub PlainListStaysGood : Type 0
 PlainListStaysGood = (l : List Decorated) → AllByRecursion IsGood l → AllByRecursion IsGood (plain_list l)

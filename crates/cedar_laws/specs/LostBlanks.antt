@@ -1,4 +1,4 @@
--- What cleaning takes away of every text, also of one that doesn't split.
+-- What cleaning removes from any text, even one that doesn't split.
 use Rattle.std.specs.Prelude.{◌≡◌, ◌⊎◌, ℕ, List, [], ◌++◌, true}
 use Rattle.std.specs.Char.{IsScalar, encode_utf8, is_whitespace}
 use Rattle.std.specs.Str.{trim, IsUtf8}
@@ -11,15 +11,15 @@ pub data LosesBlanks : List ℕ → List ℕ → Type 0 where
   stays : (c : ℕ) {a b : List ℕ} → IsScalar c → LosesBlanks a b → LosesBlanks (encode_utf8 c ++ a) (encode_utf8 c ++ b)
   goes : (c : ℕ) {a b : List ℕ} → is_whitespace c ≡ true → LosesBlanks a b → LosesBlanks (encode_utf8 c ++ a) b
 
--- t is what is left of s where y is left behind it: all of s, but of a comment with nothing left behind it perhaps only the trimmed one
+-- t is what is left of s where y is left after it: all of s, or, if s is a comment and y is empty, perhaps the trimmed s
 abbrev pub IsLeftBefore : List ℕ → List ℕ → List ℕ → Type 0
 IsLeftBefore y s t = (t ≡ s) ⊎ (IsComment s × (t ≡ trim s) × (y ≡ []))
 
--- x is cut at its strings and comments: these stay in y, and of all else White_Space characters alone go
+-- x is cut at its strings and comments: these stay in y, and from the rest only White_Space is removed
 pub data LosesBlanksBetween : List ℕ → List ℕ → Type 0 where
   last_part : (m n : List ℕ) → NoneBegins m [] → LosesBlanks m n → LosesBlanksBetween m n
   more_parts : (m n s t r y : List ℕ) → NoneBegins m (s ++ r) → IsLongest IsKept (s ++ r) s → LosesBlanks m n → IsLeftBefore y s t → LosesBlanksBetween r y → LosesBlanksBetween (m ++ (s ++ r)) (n ++ (t ++ y))
 
--- cleaning takes White_Space alone, and none of a string
+-- cleaning removes only White_Space, and none from a string
 abbrev pub EveryTextLosesBlanks : Type 0
 EveryTextLosesBlanks = (x y : List ℕ) → IsUtf8 x → IsCleaned x y → LosesBlanksBetween x y

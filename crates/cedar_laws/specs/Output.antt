@@ -1,4 +1,4 @@
--- The text of policies and of closing comments, and the law that every layout reads back.
+-- The text of policies and closing comments, and the law that every layout reads back.
 use Rattle.std.specs.Prelude.{◌≡◌, ℕ, ℤ, List, [], ◌∷◌, ◌++◌, map}
 use Rattle.std.specs.List.{AllByRecursion, AllZip, flat_map}
 use Rattle.cedar_layout.specs.Layout.{Doc, Choice, text_of_choice}
@@ -34,14 +34,14 @@ pub record IsOutput (laid : Doc → List ℕ → Type 0) (i : ℤ) (policies : L
 abbrev pub IsSomeLayout : Doc → List ℕ → Type 0
 IsSomeLayout d s = (c : Choice d) × (s ≡ text_of_choice d c)
 
--- the token with its number's leading zeros left away
+-- the token without leading zeros in its number
 abbrev pub with_value : Decorated → Decorated
 with_value d = record { text = token_value d.text; leading = d.leading; trailing = d.trailing }
 
 abbrev pub tokens_of : List (Clause Decorated policy) → List Decorated
 tokens_of ps = flat_map part_yield ps
 
--- Of policies whose leaves fit and have the decorations of a real text, under every choice of flat and broken groups and at
+-- For policies whose leaves fit and have the decorations of a real text, under every choice of flat and broken groups and at
 -- every indentation: the output splits, and its decorated list is that of the policies and the closing comments, by value.
 abbrev pub EveryLayoutReadsBack : Type 0
 EveryLayoutReadsBack = (i : ℤ) (policies : List (Clause Decorated policy)) (closing : List (List ℕ)) (output : List ℕ)

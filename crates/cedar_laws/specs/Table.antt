@@ -19,7 +19,7 @@ lead t = lead_of t.leading
 abbrev pub tok : Decorated → Doc
 tok t = text (token_value t.text)
 
--- its trailing text; `next` stands in place of a missing one
+-- its trailing text, or `next` if it has none
 abbrev pub trail : Decorated → Doc → Doc
 trail t next = trail_of t.trailing next
 
@@ -46,7 +46,7 @@ bare_token t = record t { leading = [] }
 
 -- ---- expressions
 
--- the break in front of an access, none in front of the first: after a field a call follows at once
+-- the break before an access, none before the first: a call follows a field at once
 abbrev pub break_after_field : Tree Decorated accesses → Doc
 break_after_field no_access = nil
 break_after_field (call_empty l r m) = nil
@@ -110,11 +110,11 @@ abbrev pub is_bare : Clause Decorated variable → Bool
 is_bare (variable_bare v) = true
 is_bare _ = false
 
--- three variables; `next` stands behind a comma in place of a missing trailing text
+-- three variables; `next` takes the place of a missing trailing text after a comma
 abbrev pub variables : Doc → Doc → Decorated → Doc → Decorated → Doc → Doc
 variables next p c a d r = p · C c next · a · C d next · r
 
--- the variables between the brackets: bare ones on one line where they fit, others on a line each
+-- the variables between the brackets: bare ones on one line if they fit, others on a line each
 abbrev pub scope : ℤ → Bool → Doc → Decorated → Doc → Decorated → Doc → Doc
 scope i bare p c a d r = if bare then group (nest i (variables space p c a d r)) else (nest i (hard · variables hard p c a d r) · hard)
 
@@ -122,16 +122,16 @@ scope i bare p c a d r = if bare then group (nest i (variables space p c a d r))
 abbrev pub type_part : ℤ → Decorated → Doc → Doc
 type_part i is type = group (nest i (group (line · printed is) · line · type))
 
--- an operator, what stands before it, and what that is compared with
+-- an operator, what comes before it, and what that is compared with
 abbrev pub comparison : ℤ → Doc → Decorated → Doc → Doc
 comparison i left o right = group (group (left · line · printed o) · nest i (line · right))
 
--- the break in front of conditions
+-- the break before conditions
 abbrev pub between_conds : Clause Decorated conds → Doc
 between_conds no_cond = nil
 between_conds (conds_more c m) = hard
 
--- The document of each part of a policy. In a condition the leading lines of the body's first token stand before the body's group.
+-- The document of each part of a policy. A condition has the leading lines of its body's first token before its group.
 abbrev pub part_table : {k : PartKind} → ℤ → Clause Decorated k → Doc
 part_table i (policy_of ns e l p c a d r q cs s) =
     part_table i ns

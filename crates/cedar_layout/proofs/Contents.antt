@@ -1,4 +1,4 @@
--- What documents hold, one after the other and in a sequence.
+-- What documents contain, one after the other and in a sequence.
 use Rattle.std.proofs.Common.{◌≡◌, ℕ, ◌+◌, ◌<◌, ◌≤◌, ◌||◌, List, [], ◌∷◌, ◌++◌, length, drop, get_or, refl, ap, ◌∙◌, arith}
 use Rattle.std.proofs.lemmas.List.{at_drop_more, at_drop_all}
 use Rattle.cedar_layout.specs.declared.layout.Document.{Document}

@@ -1,4 +1,4 @@
--- Halving among tokens in order.
+-- Binary search among tokens in order.
 use Rattle.std.proofs.Common.{◌≡◌, ℕ, zero, suc, ◌+◌, ◌^◌, ◌<◌, ◌≤◌, List, [], ◌∷◌, map, Bool, true, false, cond, not, ◌==◌, ◌≢◌, ◌⊎◌, inl, inr, Some, None, length, get_or, refl, ap, sym, ◌∙◌, arith}
 use Rattle.std.proofs.Math.Nat.{pow-succ'}
 use Rattle.std.specs.List.{position, position_or_len}
@@ -28,7 +28,7 @@ edge_within : (e : Edge) (s : Span) → s.start < s.end → (s.start ≤ edge_of
 edge_within Start s h = (omega arith, omega arith)
 edge_within End s h = (omega arith, omega arith)
 
--- an edge further on is further right
+-- the edge of a later token is further right
 pub edges_grow : (e : Edge) (p : ℕ) (ts : List WrappedToken) (j k : ℕ) (c d : WrappedToken) → OrderedFrom p ts → j ≤ k → k < length ts → edge_of e (get_or ts j c).span ≤ edge_of e (get_or ts k d).span
 edges_grow e p [] j k c d o l h = absurd (omega arith)
 edges_grow e p (t ∷ ts) zero zero c d o l h = omega arith
@@ -46,7 +46,7 @@ below_middle e at ts m x o h b k d l = let g = edges_grow e 0 ts k m d x o (omeg
 pub above_middle : (e : Edge) (at : ℕ) (ts : List WrappedToken) (m : ℕ) (x : WrappedToken) → AreInOrder ts → m < length ts → at ≤ edge_of e (get_or ts m x).span → (k : ℕ) (d : WrappedToken) → m ≤ k → k < length ts → at ≤ edge_of e (get_or ts k d).span
 above_middle e at ts m x o h b k d l i = let g = edges_grow e 0 ts m k x d o l i in omega (arith, g, b)
 
--- one step more leaves half of the places, and so a binary digit less
+-- one more step leaves half of the places, and so one binary digit less
 pub halved : (s t e steps b : ℕ) → 0 < s → t + t ≤ s → s < 2 ^ e → steps + e ≤ b → (f : ℕ) × (t < 2 ^ f) × (steps + 1 + f ≤ b)
 halved s t zero steps b z h l m = absurd (omega arith)
 halved s t (suc e) steps b z h l m = let p = pow-succ' 2 e in (e, omega (arith, p), omega arith)
@@ -56,7 +56,7 @@ pub first_passing : {X : Type 0} (p : X → Bool) (xs : List X) (i : ℕ) → i 
 first_passing p [] i l f t = omega arith
 first_passing p (x ∷ xs) i l f t = sym (position_or_len_is p (x ∷ xs) i x l (λ k h. f k x h) (t x))
 
--- ---- the token with an edge at a place, where the first with its edge at it or behind it is known
+-- ---- the token with an edge at a place, where the first with its edge at or after it is known
 
 some_at : {X : Type 0} (p : X → Bool) (xs : List X) (i : ℕ) → i < length xs → i ≡ position_or_len p xs → Some i ≡ position p xs
 some_at p xs i l e = go (nat_lt (position_or_len p xs) (length xs)) refl

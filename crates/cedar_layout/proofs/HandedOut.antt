@@ -1,4 +1,4 @@
--- What a lookup hands out: the comments of the token that was named; and what stays of the others.
+-- What a lookup returns: the comments of the named token; and what stays of the others.
 use Rattle.std.proofs.Common.{◌≡◌, ℕ, zero, suc, subst, sym, Result, Ok, Err, ◌<◌, ◌≤◌, List, [], ◌∷◌, ◌++◌, map, Bool, true, false, cond, not, Some, None, length, get_or, take, drop, set, refl, ap, ◌∙◌, arith}
 use Rattle.std.specs.Prelude.{IsFalse, nat_lt, IfOk, OnErr}
 use Rattle.std.specs.List.{All, position, position_or_len}
@@ -14,7 +14,7 @@ use Rattle.cedar_tokens.specs.declared.token.WrappedToken.{WrappedToken}
 use Rattle.cedar_tokens.specs.Tokens.{leading_lines, trailing_text}
 use Rattle.cedar_layout.specs.Lookups.{AreInOrder, emptied_in, stands_in, Parts, Shown, shown, emptied, unled, comment_parts, HandedOut, LeadingHandedOut, Unmatched}
 
--- none of the first i is named, where none of the places below i is
+-- none of the first i is named if none of the places below i is
 none_before : (named : Shown → Bool) (ts : List WrappedToken) (i : ℕ) (d : WrappedToken) → i ≤ length ts → ((k : ℕ) → k < i → named (shown (get_or ts k d)) ≡ false) → All (λ t. IsFalse (named t)) (map shown (take i ts))
 none_before named ts i d inside below k e h =
     let m : k < length (take i ts) = simp length-map at h in
@@ -74,7 +74,7 @@ led_at named ts i d t answer e changed given =
       answered = given;
     }
 
--- what a call that moves a token's comments out says, in one equation
+-- what a call that moves a token's comments out does, in one equation
 pub shows_unled : (s t : WrappedToken) → leading_lines s.comment ≡ [] → trailing_text s.comment ≡ trailing_text t.comment → s.token ≡ t.token → s.span ≡ t.span → shown s ≡ unled (shown t)
 shows_unled s t a b c d = cc
 

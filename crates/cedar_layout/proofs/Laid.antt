@@ -1,4 +1,4 @@
--- Laws of the computed layout: of documents one after the other, and of numbers that are capped.
+-- Laws of the computed layout: of documents one after the other, and of capped numbers.
 use Rattle.std.proofs.Common.{◌≡◌, ℕ, ◌+◌, ◌^◌, ◌<◌, Bool, true, false, not, ◌||◌, ◌&&◌, nat_le, List, [], ◌∷◌, ◌++◌, refl, sym, ap, ◌∙◌, arith, append_assoc}
 use Rattle.std.proofs.lemmas.Bool.Decides.{nat_tests}
 use Rattle.cedar_layout.specs.Layout.{Doc, nil, text_then, line_then, line_or_nil_then, hard_then, nest_then, group_then, ◌·◌, Atom, word, space_or_break, nothing_or_break, must_break, atoms, columns, flat_columns, has_hard, Piece, written, flat_space, flat_nothing, broken, indented, column_after}
@@ -42,7 +42,7 @@ both_capped : (ps qs : List Piece) (n m : ℕ) (g k : ℕ → List Piece) → ca
 both_capped ps qs n m g k e same h =
     ap (λ x. ps ++ x) (h _ _ (column_after-capped n m ps e)) ∙ ap (λ x. x ++ k (column_after m x)) same
 
--- a document that stands before another one
+-- a document before another one
 abbrev pub AfterIt : ℕ → Doc → Doc → Bool → ℕ → ℕ → ℕ → Type 0
 AfterIt w a b f i col t =
     laid w (a · b) f i col t ≡ laid w a f i col (tail_then (atoms b) t) ++ laid w b f i (column_after col (laid w a f i col (tail_then (atoms b) t))) t
@@ -76,7 +76,7 @@ laid-dot w (group_then d r) b f i col t =
     ap (λ v. laid w d (f || fits w (atoms d) col v) i col v ++ laid w (r · b) f i (column_after col (laid w d (f || fits w (atoms d) col v) i col v)) t) (tail_then-dot r b t)
     ∙ around ps rs _ col (λ m. laid w b f i m t) (laid-dot w r b f i (column_after col ps) t)
 
--- ---- numbers that are capped
+-- ---- capped numbers
 
 pub tail_then-capped : (xs : List Atom) (t u : ℕ) → capped t ≡ capped u → capped (tail_then xs t) ≡ capped (tail_then xs u)
 tail_then-capped [] t u e = e

@@ -63,7 +63,7 @@ all_notes-dot (group_then d r) b t =
 pub same_measures : (g h : Bool) (c n t u : ℕ) → g ≡ h → c ≡ n → t ≡ u → (let m : Measures = record { has_hard = g; columns = c; tail = t } in m) ≡ record { has_hard = h; columns = n; tail = u }
 same_measures g h c n t u e k l = cc
 
--- its numbers are those of a `u128`
+-- its numbers fit in a `u128`
 pub record InRange (m : Measures) : Type 0 where
   pub columns : m.columns < 2 ^ 128
   pub tail : m.tail < 2 ^ 128
@@ -101,7 +101,7 @@ measured-dot a b m =
 pub items_of-push : (ps : List Pending) (p : Pending) → items_of (ps ++ p ∷ []) ≡ item p ∷ items_of ps
 items_of-push ps p = ap reverse (map-append item ps (p ∷ [])) ∙ reverse-append (map item ps) (item p ∷ [])
 
--- a document that holds no others
+-- a document that contains no others
 pub leaf_step : (xs : List Item) (d : Doc) (known m : Measures) → all_notes d known.tail ≡ [] → measured d known ≡ m → notes_to_come xs m ≡ notes_to_come (whole d ∷ xs) known
 leaf_step xs d known m e h = ap (notes_to_come xs) (sym h) ∙ ap (λ y. y ++ notes_to_come xs (measured d known)) (sym e)
 
@@ -120,7 +120,7 @@ pair_step xs a b m =
     ∙ ap (λ y. y ++ rest) (sym (all_notes-dot a b m.tail))
     ∙ ap (λ k. all_notes (a · b) m.tail ++ notes_to_come xs k) (sym (measured-dot a b m))
 
--- A sequence is taken up: its documents lie on the stack up to the k-th.
+-- A sequence is taken up: its documents are on the stack up to the k-th.
 abbrev pub IsPushed : List Item → List Item → Doc → Type 0
 IsPushed new old d = (m : Measures) → InRange m → notes_to_come new m ≡ notes_to_come (whole d ∷ old) m
 
@@ -134,7 +134,7 @@ push_step old new xs p docs k d e i l at h m r =
     ∙ pair_step xs D x m
     ∙ ap (λ y. notes_to_come (whole y ∷ xs) m) (sym split)
 
--- A nest is as its content.
+-- A nest is measured as its content.
 pub nest_step : (xs : List Item) (d e : Doc) (m : Measures) (n : ℤ) → d ≡ nest n e → notes_to_come (whole e ∷ xs) m ≡ notes_to_come (whole d ∷ xs) m
 nest_step xs d e m n h =
     let same = append-nil (atoms e) in

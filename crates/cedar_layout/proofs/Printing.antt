@@ -1,4 +1,4 @@
--- The laws of the printing pass: of a stack of documents that are still to be printed.
+-- The laws of the printing pass, for a stack of documents that are still to be printed.
 use Rattle.std.proofs.Common.{◌≡◌, ℕ, ℤ, ◌+◌, ◌-◌, ◌<◌, ◌≤◌, ◌^◌, Bool, true, false, ◌||◌, ◌&&◌, not, nat_le, length-append, List, [], ◌∷◌, ◌++◌, length, take, get_or, arith, subst, refl, sym, ap, ◌∙◌, append_assoc, append-nil}
 use Rattle.std.specs.List.{flat_map}
 use Rattle.std.proofs.lemmas.Bool.Decides.{nat_tests}
@@ -141,7 +141,7 @@ group_pieces w ps new q d col g e f h =
 pub not_none : (xs ys : List Note) (n : Note) → xs ≡ ys ++ n ∷ [] → 0 < length xs
 not_none xs ys n e = omega (arith, ap length e, length-append ys (n ∷ []))
 
--- ---- documents that hold no others
+-- ---- documents that contain no others
 
 pub laid_all-capped : (w : ℕ) (ps : List Todo) (n m t : ℕ) → w < 2 ^ 64 → capped n ≡ capped m → laid_all w ps n t ≡ laid_all w ps m t
 laid_all-capped w [] n m t h e = refl

@@ -84,7 +84,7 @@ behind : (p q : ℕ) (t : WrappedToken) → q < p → p ≤ t.span.start → t.s
 behind p q t h l m true = grind (arith, nat_tests)
 behind p q t h l m false = refl
 
--- no token of those that start behind the span is in it
+-- no token that starts after the span is in it
 none_behind : (s : Span) (p : ℕ) (ts : List WrappedToken) → s.end < p → OrderedFrom p ts → NoneIn s ts
 none_behind s p [] h o k d l = absurd (omega arith)
 none_behind s p (t ∷ ts) h o zero d l = behind p s.end t h o.0 o.1 (nat_le s.start t.span.start)
@@ -99,7 +99,7 @@ take_one n t ts = let e : 1 + n ≡ suc n = omega arith in ap (λ k. take k (t �
 drop_one : (n : ℕ) (t : WrappedToken) (ts : List WrappedToken) → drop (1 + n) (t ∷ ts) ≡ drop n ts
 drop_one n t ts = let e : 1 + n ≡ suc n = omega arith in ap (λ k. drop k (t ∷ ts)) e
 
--- of tokens that start in the span or behind it, those up to the first that ends behind it are in it
+-- of the tokens that start in or after the span, those before the first that ends after it are in it
 pub first_taken : (s : Span) (p : ℕ) (ts : List WrappedToken) → s.start ≤ p → OrderedFrom p ts → (comments_in s (map shown ts) ≡ map (λ t. t.comment) (map shown (take (prefix_len (ends_by s) ts) ts))) × (emptied_in s (map shown ts) ≡ map emptied (map shown (take (prefix_len (ends_by s) ts) ts)) ++ map shown (drop (prefix_len (ends_by s) ts) ts))
 first_taken s p [] h o = (refl, refl)
 first_taken s p (t ∷ ts) h o = go (first_taken s t.span.end ts (omega (arith, h, o.0, o.1)) o.2) (ends_by s t) refl
@@ -118,7 +118,7 @@ first_taken s p (t ∷ ts) h o = go (first_taken s t.span.end ts (omega (arith, 
         let r = none_taken s ts (none_behind s t.span.end ts l o.2) in
         (rw outside r.0, rw outside (ap (λ r. shown t ∷ r) r.1))
 
--- ---- the tokens from the first that starts in the span or behind it
+-- ---- the tokens from the first that starts in or after the span
 
 from_there : (p q : ℕ) (ts : List WrappedToken) (i : ℕ) (d : WrappedToken) → OrderedFrom p ts → i < length ts → q ≤ (get_or ts i d).span.start → OrderedFrom q (drop i ts)
 from_there p q [] i d o h l = absurd (omega arith)

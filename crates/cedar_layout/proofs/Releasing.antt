@@ -1,4 +1,4 @@
--- Each document that is let go leaves less work.
+-- Each document that is dropped leaves less work.
 use Rattle.std.proofs.Common.{◌≡◌, ◌≢◌, ℕ, ℤ, ◌+◌, ◌≤◌, ◌<◌, ◌⊎◌, ⊎_elim, List, [], ◌∷◌, ◌++◌, map, sum, refl, sym, ap, ◌∙◌, subst, arith}
 use Rattle.std.proofs.lemmas.List.Sums.{sum_by-cons}
 use Rattle.std.specs.declared.alloc.Global.{Global}
@@ -49,7 +49,7 @@ pub first_nested_within : (ds : List Document) → nested_first ds ≤ nodes_of_
 first_nested_within [] = omega arith
 first_nested_within (d ∷ ds) = omega (arith, nested_within d, sum_by-cons (λ n. n) (nodes d) (map nodes ds))
 
--- ---- one more document behind others
+-- ---- one more document after others
 
 nested_first_same : (ds : List Document) (d : Document) → ds ≢ [] → nested_first (ds ++ d ∷ []) ≡ nested_first ds
 nested_first_same [] d h = absurd (h refl)
@@ -65,11 +65,11 @@ nested_first_flat (e ∷ ds) d h = refl
 
 -- ---- the cases of a document
 
--- it holds no others
+-- it contains no others
 pub leaf_released : (ds : List Document) (d : Document) → nested d ≡ 0 → 0 < nodes d → work ds + 1 ≤ work (ds ++ d ∷ [])
 leaf_released ds d h p = omega (arith, nested_first_flat ds d h, nodes_of_all-push ds d, first_nested_within ds)
 
--- it holds one
+-- it contains one
 pub inner_released : (ds new : List Document) (d e : Document) → new ≡ ds ++ e ∷ [] → nested d ≡ 0 → nodes d ≡ 1 + nodes e → work new + 1 ≤ work (ds ++ d ∷ [])
 inner_released ds new d e h z n =
     let at = ap work h in
@@ -109,20 +109,20 @@ nested_leaf d =
     (⊎_elim (λ e. ap nested e ∙ nested_line)
     (⊎_elim (λ e. ap nested e ∙ nested_line_or_nil) (λ e. ap nested e ∙ nested_hard))))
 
--- a list in the place of nothing
+-- a list in place of nothing
 pub first_joined : (ds : List Document) (v : Vec Document Global) → ds ≡ [] → work v.items + 1 ≤ work (ds ++ made.Seq v ∷ [])
 first_joined ds v e =
     let at = ap (λ xs. work (xs ++ made.Seq v ∷ [])) e in
     let n = nodes_of_all-push [] (made.Seq v) in
     omega (arith, at, n, nested_seq v, nodes_seq v, first_nested_within v.items)
 
--- nothing behind a list
+-- nothing after a list
 pub none_joined : (ds : List Document) (v : Vec Document Global) → ds ≢ [] → v.items ≡ [] → work ds + 1 ≤ work (ds ++ made.Seq v ∷ [])
 none_joined ds v h e =
     let none = ap nodes_of_all e in
     omega (arith, none, nested_first_same ds (made.Seq v) h, nodes_of_all-push ds (made.Seq v), nodes_seq v, first_nested_within ds)
 
--- a list in front of another one, with one document of that one
+-- a list before another one, with one document of that one
 pub all_joined : (ds rest new : List Document) (v w : Vec Document Global) (d : Document) → ds ≢ [] → v.items ≡ rest ++ d ∷ [] → w.items ≡ ds ++ d ∷ [] → new ≡ made.Seq w ∷ rest → work new + 1 ≤ work (ds ++ made.Seq v ∷ [])
 all_joined ds rest new v w d h ev ew en =
     let at = ap work en in

@@ -44,7 +44,7 @@ no_slashes u t = elim (token_of 47 (47 ∷ u) t) [
     short [] l p = absurd cc
     short (x ∷ w) l p = absurd (omega (arith, l))
 
--- where a comment begins, no other unit of its length or more does
+-- where a comment begins, no other unit that is as long begins
 slashes_begin : (text u v : List ℕ) → IsComment v → BeginsWith text v → IsToken u → BeginsWith text u → length v ≤ length u → ⊥
 slashes_begin text u [] k g t h l = absurd cc
 slashes_begin text u (x ∷ []) k g t h l = absurd cc
@@ -168,7 +168,7 @@ nothing_kept : (v : List ℕ) → BeginsWith [] v → IsKept v → ⊥
 nothing_kept [] g k = absurd cc
 nothing_kept (x ∷ v) g k = absurd (let l = begins_fits [] (x ∷ v) g in omega (arith, l))
 
--- nothing begins behind the text's end
+-- nothing begins after the text's end
 pub none_past : (sought : Sought) (text : List ℕ) (k : ℕ) → length text ≤ k → BeginsNone (IsSought sought) (drop k text)
 none_past sought text k l v h g = nothing_kept v (subst (λ z. BeginsWith z v) (drop_all k text l) g) (kept sought v h)
   where

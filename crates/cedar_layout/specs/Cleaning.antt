@@ -12,12 +12,12 @@ abbrev pub last_byte_or : ℕ → List ℕ → ℕ
 last_byte_or c [] = c
 last_byte_or c (d ∷ ds) = last_byte_or d ds
 
--- the lines of a piece, each up to and with its `\n`; what stands behind the last `\n` is the last line
+-- the lines of a piece, each up to and including its `\n`; what follows the last `\n` is the last line
 abbrev pub piece_lines : List ℕ → List (List ℕ)
 piece_lines [] = [] ∷ []
 piece_lines (b ∷ bs) = if b == line_feed then (line_feed ∷ []) ∷ piece_lines bs else with_first b (piece_lines bs)
 
--- it ends in a line feed and has blanks alone
+-- it ends in a line feed and is otherwise only blanks
 abbrev pub is_blank_line : List ℕ → Bool
 is_blank_line l = last_byte_or space_character l == line_feed && list_all is_whitespace (chars l)
 
@@ -57,7 +57,7 @@ pub record IsCleaned (x y : List ℕ) : Type 0 where
 
 -- ---- places in a text
 
--- the leftmost text of the kind K that starts at or after a place stands there, and it is the longest there
+-- s is the place of the leftmost text of the kind K at or after from, and it is the longest there
 pub record StandsFirst (K : List ℕ → Type 0) (text : List ℕ) (from : ℕ) (s : Span) : Type 0 where
   pub behind : from ≤ s.start
   pub first : (k : ℕ) → from ≤ k → k < s.start → BeginsNone K (drop k text)
@@ -65,6 +65,6 @@ pub record StandsFirst (K : List ℕ → Type 0) (text : List ℕ) (from : ℕ) 
   pub inside : s.end ≤ length text
   pub longest : IsLongest K (drop s.start text) (slice_range text s.start s.end)
 
--- the place of the leftmost text of the kind K that starts at or after a place; `None` where none does
+-- the place of the leftmost text of the kind K at or after a place; `None` if there is none
 abbrev pub FindsFirst : (List ℕ → Type 0) → List ℕ → ℕ → Option Span → Type 0
 FindsFirst K text from result = MatchOption result ((k : ℕ) → from ≤ k → BeginsNone K (drop k text)) (StandsFirst K text from)

@@ -11,7 +11,7 @@ abbrev pub broken_lines : List (List ℕ) → Doc
 broken_lines [] = nil
 broken_lines (l ∷ ls) = text l · hard · broken_lines ls
 
--- the leading lines of a token, in lines of their own
+-- the leading lines of a token, on lines of their own
 abbrev pub lead_of : List (List ℕ) → Doc
 lead_of [] = nil
 lead_of (l ∷ ls) = hard · broken_lines (l ∷ ls)

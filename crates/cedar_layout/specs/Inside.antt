@@ -1,4 +1,4 @@
--- What only contracts below the formatter's own calls cite.
+-- Definitions cited only by contracts below the formatter's own calls.
 pub mod Computed
 pub mod Measuring
 pub mod Printing

@@ -6,7 +6,7 @@ use Rattle.cedar_tokens.specs.Bytes as byte
 
 -- ---- documents
 
--- A document is a list of things to lay out, each before the rest. What is nested or grouped is a document of its own.
+-- A document is a list of things to lay out in order. What is nested or grouped is a document of its own.
 -- So two documents are equal exactly if they differ only in `Nil` and in how sequences are nested.
 pub data Doc : Type 0 where
   nil : Doc
@@ -66,7 +66,7 @@ atoms (group_then d r) = atoms d ++ atoms r
 unfoldable pub columns : List ℕ → ℕ
 columns s = str_width false (chars s)
 
--- the columns of a content that is laid flat
+-- the columns of a content that is laid out flat
 abbrev pub flat_columns_of : Atom → ℕ
 flat_columns_of (word s) = columns s
 flat_columns_of space_or_break = 1
@@ -102,12 +102,12 @@ print flat_space = byte.space_character ∷ []
 print flat_nothing = []
 print (broken i) = byte.line_feed ∷ replicate i byte.space_character
 
--- an indentation and a nesting: it stops at 0 below and at the greatest `usize` above
+-- an indentation plus a nesting, capped at 0 and at the greatest `usize`
 abbrev pub indented : ℕ → ℤ → ℕ
 indented i (pos n) = min (i + n) (2 ^ 64 - 1)
 indented i (negsuc n) = i - suc n
 
--- The pieces of a layout, one for each atom. `flat` says that the document stands in a flat group.
+-- The pieces of a layout, one for each atom. `flat` says that the document is in a flat group.
 abbrev pub pieces : (d : Doc) → Choice d → Bool → ℕ → List Piece
 pieces nil c flat i = []
 pieces (text_then s r) c flat i = written s ∷ pieces r c flat i
@@ -123,7 +123,7 @@ text_of_choice d c = flat_map print (pieces d c false 0)
 
 -- ---- the layout at a width
 
--- the column after pieces that begin in a column
+-- the column after pieces that begin at a column
 abbrev pub column_after : ℕ → List Piece → ℕ
 column_after col [] = col
 column_after col (written s ∷ ps) = column_after (col + columns s) ps
@@ -131,7 +131,7 @@ column_after col (flat_space ∷ ps) = column_after (col + 1) ps
 column_after col (flat_nothing ∷ ps) = column_after col ps
 column_after col (broken i ∷ ps) = column_after i ps
 
--- Where a group stands in a layout: whether inside a flat group, its column, its content, what follows it in the whole
+-- Where a group is in a layout: whether inside a flat group, its column, its content, what follows it in the whole
 -- document, and how the choice marks it.
 pub record Place : Type 0 where
   pub inside_flat : Bool
@@ -174,7 +174,7 @@ has_hard (_ ∷ xs) = has_hard xs
 abbrev pub Fits : ℕ → Place → Type 0
 Fits w p = IsFalse (has_hard p.content) × (p.column + flat_columns p.content + columns_of_all (tail p.after) ≤ w)
 
--- a group is flat exactly where it stands in a flat one or fits
+-- a group is flat exactly if it is inside a flat one or fits
 abbrev pub FollowsRule : ℕ → Place → Type 0
 FollowsRule w p = IsTrue p.is_flat ↔ (IsTrue p.inside_flat ⊎ Fits w p)
 
@@ -192,7 +192,7 @@ IsTheLayoutAt w d t = IsLayoutAt w d t × ((u : List ℕ) → IsLayoutAt w d u �
 
 -- ---- atoms and pieces
 
--- a piece is what a layout can make of an atom
+-- a piece is what a layout can make from an atom
 abbrev pub IsMadeOf : Piece → Atom → Type 0
 IsMadeOf (written u) (word s) = u ≡ s
 IsMadeOf flat_space space_or_break = ⊤
@@ -202,7 +202,7 @@ IsMadeOf (broken i) nothing_or_break = ⊤
 IsMadeOf (broken i) must_break = ⊤
 IsMadeOf _ _ = ⊥
 
--- each piece is made of the atom at its place
+-- each piece is made from the atom at its place
 abbrev pub AreMadeOf : List Piece → List Atom → Type 0
 AreMadeOf [] [] = ⊤
 AreMadeOf (p ∷ ps) (x ∷ xs) = IsMadeOf p x × AreMadeOf ps xs

@@ -1,4 +1,4 @@
--- The tokens that a lookup names, and what it hands out. The tokens' places are in order.
+-- The tokens that a lookup names, and what it returns. The tokens' places are in order.
 use Rattle.std.specs.Prelude.{◌≡◌, ◌≤◌, ◌<◌, ◌+◌, ◌^◌, ℕ, List, [], ◌∷◌, ◌++◌, map, Bool, ◌==◌, ◌&&◌, nat_le, IsTrue, IsFalse, if◌then◌else◌, Option, MatchOption}
 use Rattle.std.specs.List.{All, filter}
 use Rattle.std.specs.Borrow.{Bor}
@@ -49,11 +49,11 @@ ends_at p t = t.span.end == p
 abbrev pub starts_from : ℕ → Shown → Bool
 starts_from p t = nat_le p t.span.start
 
--- the token stands in the span
+-- the token is in the span
 abbrev pub stands_in : Span → Shown → Bool
 stands_in s t = nat_le s.start t.span.start && nat_le t.span.end s.end
 
--- ---- what is handed out
+-- ---- what is returned
 
 -- no token is named, and nothing has changed
 pub record Unmatched (named : Shown → Bool) (old new : List Shown) : Type 0 where
@@ -71,7 +71,7 @@ pub record HandedOut (named : Shown → Bool) (old new : List Shown) (answer : P
   pub now : new ≡ before ++ emptied token ∷ after
   pub answered : answer ≡ token.comment
 
--- the same of the first named token's leading lines alone
+-- the same for the first named token's leading lines alone
 pub record LeadingHandedOut (named : Shown → Bool) (old new : List Shown) (answer : List (List ℕ)) : Type 0 where
   pub before : List Shown
   pub token : Shown
@@ -86,7 +86,7 @@ pub record LeadingHandedOut (named : Shown → Bool) (old new : List Shown) (ans
 abbrev pub HandsOutNamed : (Shown → Bool) → List WrappedToken → List WrappedToken → Option Comment → Type 0
 HandsOutNamed named old new answer = MatchOption answer (Unmatched named (map shown old) (map shown new)) (λ c. HandedOut named (map shown old) (map shown new) (comment_parts c))
 
--- the same of its leading lines
+-- the same for its leading lines
 abbrev pub HandsOutLines : (Shown → Bool) → List WrappedToken → List WrappedToken → Option (Vec (Bor (List ℕ)) Global) → Type 0
 HandsOutLines named old new answer = MatchOption answer (Unmatched named (map shown old) (map shown new)) (λ lines. LeadingHandedOut named (map shown old) (map shown new) (map (λ l. l.now) lines.items))
 
@@ -100,7 +100,7 @@ emptied_in s ts = map (λ t. if stands_in s t then emptied t else t) ts
 
 -- ---- steps
 
--- the steps of a search among n tokens: none among none, else at least one and at most one more than n has binary digits,
+-- the steps of a search among n tokens: 0 if n is 0, else at least one and at most one more than n has binary digits,
 -- where n below 2 ^ d has at most d of them
 pub record CountsSteps (n old new : ℕ) : Type 0 where
   pub none : n ≡ 0 → new ≡ old

@@ -4,7 +4,7 @@ use Rattle.cedar_layout.specs.declared.layout.Document.{Document}
 use Rattle.cedar_layout.specs.declared.layout.Document.TheOpen.{Document-F, Nil, Text, Line, LineOrNil, Hard, Seq, Nest, Group}
 use Rattle.cedar_layout.specs.declared.layout.Document.TheFolds.{fold-Document}
 
--- one, and those of the documents that it holds
+-- one, plus those of the documents that it contains
 abbrev pub nodes_step : Document-F ℕ → ℕ
 nodes_step Nil = 1
 nodes_step (Text s) = 1

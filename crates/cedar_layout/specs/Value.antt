@@ -16,7 +16,7 @@ interspersed sep [] = nil
 interspersed sep (d ∷ []) = d
 interspersed sep (d ∷ ds) = d · sep · interspersed sep ds
 
--- a document, with what each document inside it means in its place
+-- a document, with each document inside it replaced by what it means
 abbrev pub doc_step : Document-F Doc → Doc
 doc_step Nil = nil
 doc_step (Text s) = text s.now

@@ -28,22 +28,22 @@ pub enum Document<'src> {
     Nil,
     /// A text, which is never broken.
     Text(&'src str),
-    /// A space where it is laid flat, else a break.
+    /// A space where it is laid out flat, else a break.
     Line,
-    /// Nothing where it is laid flat, else a break.
+    /// Nothing where it is laid out flat, else a break.
     LineOrNil,
-    /// A break, everywhere.
+    /// A break, always.
     Hard,
     /// One document after the other.
     Seq(Vec<Document<'src>>),
-    /// A document whose breaks are indented by so many columns more.
+    /// A document whose breaks are indented by this many more columns.
     Nest(isize, Box<Document<'src>>),
-    /// A document that is laid flat as a whole where that fits.
+    /// A document that is laid out flat as a whole if it fits.
     Group(Box<Document<'src>>),
 }
 
 impl<'src> Document<'src> {
-    /// This document and then the other one. A sequence takes the other one at its end, so that a chain of these is one
+    /// This document followed by the other one. A sequence takes the other one at its end, so a chain of these is a single
     /// sequence.
     pub fn append(self, alloc: Global, other: Document<'src>) -> Result<Document<'src>, AllocError>
         ensures { IfOk result (λ d. doc_of d ≡ doc_of self.entry · doc_of other.entry) }
@@ -59,7 +59,7 @@ impl<'src> Document<'src> {
         Ok(Document::Seq(docs))
     }
 
-    // The documents of a sequence, else this document alone.
+    // The documents of a sequence, or this document alone.
     fn into_list(self, alloc: Global) -> Result<Vec<Document<'src>>, AllocError>
         ensures { IfOk result (λ v. docs_of v.items ≡ doc_of self.entry) }
     {
@@ -73,14 +73,14 @@ impl<'src> Document<'src> {
         }
     }
 
-    /// This document, its breaks indented by `n` columns more.
+    /// This document, its breaks indented by `n` more columns.
     pub fn nest(self, alloc: Global, n: isize) -> Result<Document<'src>, AllocError>
         ensures { IfOk result (λ d. doc_of d ≡ nest n (doc_of self.entry)) }
     {
         Ok(Document::Nest(n, Box::new(alloc, self)?))
     }
 
-    /// This document, laid flat as a whole where that fits.
+    /// This document, laid out flat as a whole if it fits.
     pub fn group(self, alloc: Global) -> Result<Document<'src>, AllocError>
         ensures { IfOk result (λ d. doc_of d ≡ group (doc_of self.entry)) }
     {
@@ -144,7 +144,7 @@ fn copy<'src>(doc: &Document<'src>) -> Result<Document<'src>, AllocError>
     }
 }
 
-/// The documents one after the other, with a copy of `sep` between neighbours. Of no documents it is `Nil`.
+/// The documents one after the other, with a copy of `sep` between neighbours. Without documents it is `Nil`.
 pub fn intersperse<'src>(
     alloc: Global,
     docs: Vec<Document<'src>>,
@@ -178,7 +178,7 @@ pub fn render(
     render_from::<Brand>(alloc, doc, width, out, Blank::new(1))
 }
 
-/// The same, with steps that nobody reads.
+/// The same, discarding the step count.
 fn render_from<L: Ledger>(
     alloc: Global,
     doc: &Document<'_>,
@@ -198,7 +198,7 @@ fn render_from<L: Ledger>(
     render_counted(alloc, doc, width, out, &mut steps)
 }
 
-/// Like `render`, and counts the steps: one for each case of the document that is taken up, once for measuring and
+/// Like `render`, and counts the steps: each case of the document that is processed is counted once for measuring and
 /// once for printing.
 pub fn render_counted<L: Ledger>(
     alloc: Global,
@@ -226,7 +226,7 @@ pub fn render_counted<L: Ledger>(
     }
 }
 
-/// Both passes. Where memory is refused, a part of the layout may have been appended.
+/// Both passes. If memory runs out, a part of the layout may have been appended.
 fn measure_and_print<L: Ledger>(
     alloc: Global,
     doc: &Document<'_>,

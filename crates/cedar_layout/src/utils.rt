@@ -1,4 +1,4 @@
-//! What the formatter makes documents with: the comments of named tokens, the documents of comments, and the cleaning of
+//! What the formatter builds documents from: the comments of named tokens, the documents of comments, and the cleaning of
 //! a text. All positions are in bytes.
 mod cleaning;
 mod comments;

@@ -1,4 +1,4 @@
--- The units so far beside given tokens.
+-- The units so far, compared with given tokens.
 use Rattle.std.proofs.Common.{◌≡◌, ◌≢◌, ◌≤◌, ◌<◌, ◌+◌, ℕ, true, false, List, [], ◌∷◌, ◌++◌, length, map, drop, refl, ap, sym, ◌∙◌, arith, append_assoc, append-nil, get_or, suc, drop-cons, add-one}
 use Rattle.std.specs.Prelude.{if◌then◌else◌}
 use Rattle.std.specs.List.{filter}
@@ -78,7 +78,7 @@ held_more text rest u ws us found k h f t l x =
     let none : token_value u ∷ v.0 ≡ [] = v.1 ∙ ap (map value_of) (drop_all found ws l) in
     absurd cc
 
--- a token that is another one
+-- a token that differs from the next one
 pub held_other : (text rest u : List ℕ) (ws : List WrappedToken) (us : List (List ℕ)) (w : WrappedToken) (found : ℕ) → Scans us text rest → Held ws us found → IsFirstUnit rest u → is_token u ≡ true
     → drop found ws ≡ w ∷ drop (found + 1) ws → token_value u ≢ value_of w → HasTheTokens text ws → ⊥
 held_other text rest u ws us w found k h f t next m x =
@@ -108,6 +108,6 @@ held_end text rest ws us found k h none x = go b.units b.split b.same
     go [] s v = (s, omega (arith, no_values (drop found ws) v, length-drop found ws, h.fits))
     go (v ∷ vs) s e = absurd (none v s.0.kind s.0.begins)
 
--- the token at an index, and those behind it
+-- the token at an index, and those after it
 pub token_at : (ws : List WrappedToken) (index : ℕ) (w : WrappedToken) → index < length ws → w ≡ get_or ws index w → drop index ws ≡ w ∷ drop (index + 1) ws
 token_at ws index w l is = drop-cons ws index w l ∙ ap (λ z. z ∷ drop (suc index) ws) (sym is) ∙ ap (λ j. w ∷ drop j ws) (sym (add-one index))

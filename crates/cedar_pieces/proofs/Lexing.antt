@@ -22,7 +22,7 @@ use Rattle.cedar_pieces.proofs.Lists.{scanned_front, piece_units, tokenless}
 use Rattle.cedar_pieces.proofs.Refusals.{semicolon_token, tokens_cut, no_tokens, piece_tokens, fit_parts, parts_fit}
 use Rattle.cedar_pieces.proofs.Semicolons.{differs, piece_whole}
 
--- what is no token is no `;`
+-- what isn't a token isn't a `;`
 pub no_semicolon : (u : List ℕ) → is_token u ≡ false → is_semicolon u ≡ false
 no_semicolon u h = differs u (codes ";") (λ e. (let t = sym (ap is_token e ∙ semicolon_token) in cc))
 
@@ -62,6 +62,6 @@ piece_lexemes text rest at n lexemes h s e r =
       kinds = s.kinds;
     }
 
--- what follows a piece has tokens that can be parsed, if the text has
+-- what follows a piece has tokens that can be parsed if the text has
 pub tokens_after : (text : List ℕ) (n : ℕ) → IsPiece text n → HasTokens text → HasTokens (drop n text)
 tokens_after text n p h = let f = parts_fit text n h.units p h.split h.fitting in record { units = f.1.0; split = f.1.1; fitting = f.1.2 }

@@ -1,4 +1,4 @@
--- The decorated list of a text is that of its piece, and then that of the rest.
+-- The decorated list of a text is that of its piece followed by that of the rest.
 use Rattle.std.proofs.Common.{◌≡◌, ℕ, Bool, true, false, cond, not, ◌&&◌, ◌||◌, ◌==◌, Some, None, inl, inr, List, [], ◌∷◌, ◌++◌, length, take, drop, refl, ap, sym, ◌∙◌, subst, append_assoc, append-nil}
 use Rattle.std.specs.Prelude.{◌⊎◌, codes}
 use Rattle.std.specs.List.{list_any, concat, AllByRecursion}
@@ -34,7 +34,7 @@ scanned_front (u ∷ us) (v ∷ vs) text rest a b =
     let next = scanned_front us vs (drop (length u) text) rest a.1 (rw (sym same) at b.1) in
     (next.0, cc (same, next.1), next.2)
 
--- what is scanned splits so alone
+-- what is scanned splits the same by itself
 scanned_alone : (us : List (List ℕ)) (text rest : List ℕ) → Scans us text rest → SplitsInto (concat us) us
 scanned_alone us text rest s =
     let e = scans_concat us text rest s in
@@ -99,12 +99,12 @@ no_gap rest (v ∷ vs) (inr (u, f, t)) s =
 fed_after : (front : List (List ℕ)) (f : List ℕ) → HaveNoFeed front → after_newline (concat front ++ (10 ∷ f)) ≡ f
 fed_after front f h = after_free (concat front) (10 ∷ f) (feedless_units front h) ∙ after_cons 10 f
 
--- behind the line nothing is left of its text
+-- after the line nothing is left of its text
 line_alone : (line : List (List ℕ)) (rest : List ℕ) → EndInFeed line ⊎ (HaveNoFeed line × BeginsNoBlank rest) → after_newline (concat line) ≡ []
 line_alone line rest (inl (front, e, h)) = ap after_newline (ap concat e ∙ concat_append front ((10 ∷ []) ∷ [])) ∙ fed_after front [] h
 line_alone line rest (inr (h, b)) = ap after_newline (sym (append-nil (concat line))) ∙ after_free (concat line) [] (feedless_units line h)
 
--- what the text behind the `;` says, with the next gap behind it
+-- what the text after the `;` says, with the next gap after it
 record Says (g h f : List ℕ) : Type 0 where
   before : before_newline g ≡ before_newline h
   after : after_newline g ≡ f
@@ -132,7 +132,7 @@ line_says line vs rest r s = elim r.ends [ inl e ↦ fed e.0 e.1 e.2 | inr e ↦
 abbrev step : Bool → List ℕ → Gaps → Gaps
 step t u g = cond t (record { first = []; tokens = (u, g.first) ∷ g.tokens }) (record { first = u ++ g.first; tokens = g.tokens })
 
--- before a token the gaps part
+-- the gaps split before a token
 gaps_part : (us xs : List (List ℕ)) → (gaps xs).first ≡ [] → gaps (us ++ xs) ≡ record { first = (gaps us).first; tokens = (gaps us).tokens ++ (gaps xs).tokens }
 unfolding gaps
 gaps_part [] xs e = rw (sym e) refl
@@ -156,14 +156,14 @@ piece_gaps us line vs h =
     let e = semicolon_gaps line vs h in
     gaps_part us (codes ";" ∷ (line ++ vs)) (ap (λ (g : Gaps). g.first) e) ∙ ap (λ (g : Gaps). record { first = (gaps us).first; tokens = (gaps us).tokens ++ g.tokens }) e
 
--- the same where nothing is behind the line
+-- the same where nothing follows the line
 lone_gaps : (us line : List (List ℕ)) → list_any is_token line ≡ false → gaps (us ++ (codes ";" ∷ line)) ≡ record { first = (gaps us).first; tokens = (gaps us).tokens ++ ((codes ";", concat line) ∷ []) }
 unfolding gaps
 lone_gaps us line h = ap (λ z. gaps (us ++ (codes ";" ∷ z))) (sym (append-nil line)) ∙ (piece_gaps us line [] h ∙ ap (λ z. record { first = (gaps us).first; tokens = (gaps us).tokens ++ ((codes ";", z) ∷ []) }) (append-nil (concat line)))
 
 -- ---- lists
 
--- one list and then the other, which has the closing comments
+-- one list followed by the other, which has the closing comments
 abbrev then_list : Listing → Listing → Listing
 then_list l m = record { tokens = l.tokens ++ m.tokens; closing = m.closing }
 
@@ -172,7 +172,7 @@ unfolding decorate
 decorate_parts f [] w g h k us s = rw (s.before, s.after) refl
 decorate_parts f (t ∷ ts) w g h k us s = rw (decorate_parts (after_newline t.1) ts w g h k us s) refl
 
--- the list of units parts behind the line
+-- the list of units splits after the line
 listing_parts : (us line vs : List (List ℕ)) (rest : List ℕ) → IsRestOfLine line rest → SplitsInto rest vs → listing ((us ++ (codes ";" ∷ line)) ++ vs) ≡ then_list (listing (us ++ (codes ";" ∷ line))) (listing vs)
 unfolding listing gaps
 listing_parts us line vs rest r s =
@@ -183,7 +183,7 @@ listing_parts us line vs rest r s =
 piece_value : (text : List ℕ) (n : ℕ) (l : Listing) (p : IsPiece text n) → IsListing (take n text) l → l ≡ listing (p.before ++ (codes ";" ∷ p.line))
 piece_value text n l p a = a.value ∙ ap listing (split_unique (take n text) a.units (p.before ++ (codes ";" ∷ p.line)) a.split (piece_splits text n p))
 
--- the decorated list of a text is that of its piece and then that of the rest
+-- the decorated list of a text is that of its piece followed by that of the rest
 pub lists_follow : (text : List ℕ) (n : ℕ) (l m : Listing) → IsPiece text n → IsListing (take n text) l → IsListing (drop n text) m → IsListing text (record { tokens = l.tokens ++ m.tokens; closing = m.closing })
 lists_follow text n l m p a b = record {
   units = (p.before ++ (codes ";" ∷ p.line)) ++ b.units;
@@ -218,7 +218,7 @@ begins_trailing [] = false
 begins_trailing (c ∷ []) = false
 begins_trailing (c ∷ (b ∷ ts)) = is_trailing_comma c b
 
--- a `;` is no bracket, and no comma
+-- a `;` is neither a bracket nor a comma
 no_bracket : (c t : Decorated) → t.text ≡ codes ";" → is_trailing_comma c t ≡ false
 no_bracket c t e = rw e (last (is_comma c.text))
   where
@@ -254,11 +254,11 @@ plain_list_parts (c ∷ (b ∷ ts)) t us e h = go (is_trailing_comma c b) (plain
     go true moved stays = moved
     go false moved stays = stays
 
--- so the plain list parts there too, unless a trailing comma comes first behind the `;`, which would leave its comments to it
+-- so the plain list splits there too, unless the `;` is followed by a trailing comma, which would leave its comments to it
 pub plain_follow : (ts : List Decorated) (t : Decorated) (us : List Decorated) → t.text ≡ codes ";" → begins_trailing us ≡ false → plain_list ((ts ++ (t ∷ [])) ++ us) ≡ plain_list (ts ++ (t ∷ [])) ++ plain_list us
 plain_follow ts t us e h = ap plain_list (append_assoc ts (t ∷ []) us) ∙ plain_list_parts ts t us e h
 
--- behind a token its text stays the first
+-- the token before a list stays first, with its text
 plain_from_first : (d : Decorated) (ts : List Decorated) → (t : Decorated) × (us : List Decorated) × (plain_from d ts ≡ t ∷ us) × (t.text ≡ d.text)
 plain_from_first d [] = (d, [], refl, refl)
 plain_from_first d (c ∷ []) = (d, c ∷ [], refl, refl)
@@ -298,7 +298,7 @@ tokenless (u ∷ us) h = go (is_token u) refl h (tokenless us)
     go true e k ih = absurd cc
     go false e k ih = (e, ih k)
 
--- the list of a text without tokens has its comments alone
+-- the list of a text without tokens has only its comments
 pub comments_alone : (text : List ℕ) (us : List (List ℕ)) → SplitsInto text us → only_tokens us ≡ [] → IsListing text (record { tokens = []; closing = comments text })
 unfolding listing gaps decorate
 comments_alone text us s h =

@@ -1,4 +1,4 @@
--- A piece of a text is one of each front of the text that ends with a further piece.
+-- A piece of a text is a piece of each front of the text that ends with a further piece.
 use Rattle.std.proofs.Common.{◌≡◌, ◌≤◌, ◌<◌, ◌+◌, ℕ, List, [], ◌∷◌, ◌++◌, length, take, drop, refl, ap, sym, ◌∙◌, subst, arith, inl, inr}
 use Rattle.std.specs.Prelude.{codes, ◌⊎◌}
 use Rattle.std.specs.List.{sum_by, concat}
@@ -16,7 +16,7 @@ use Rattle.cedar_pieces.specs.Pieces.{IsPiece, BeginsNoBlank, EndInFeed, HaveNoF
 abbrev pub units_of : {text : List ℕ} {n : ℕ} → IsPiece text n → List (List ℕ)
 units_of p = p.before ++ (codes ";" ∷ p.line)
 
--- a piece has a byte at least
+-- a piece has at least one byte
 pub piece_positive : (text : List ℕ) (n : ℕ) → IsPiece text n → 0 < n
 piece_positive text n p = omega (arith, p.place, sum_by-append length p.before (codes ";" ∷ p.line), sum_by-cons length (codes ";") p.line)
 
@@ -31,7 +31,7 @@ piece_inside text n p =
     let us = units_of p in
     omega (arith, p.place, concat_length us, ap length (scans_concat us text (drop n text) p.scans), length-append (concat us) (drop n text))
 
--- the text without what stands behind n further bytes
+-- the text without what follows n further bytes
 abbrev pub through : List ℕ → ℕ → ℕ → List ℕ
 through text at n = take (at + n) text
 
@@ -54,7 +54,7 @@ through_text text at n p =
     let l : at ≡ length (concat us) = p.place ∙ sym (concat_length us) in
     ap (λ k. take (k + n) text) l ∙ (ap (take (length (concat us) + n)) (scans_concat us text (drop at text) p.scans) ∙ take-append-add (concat us) (drop at text) n)
 
--- a front of the text that ends with a further piece begins with the same piece, behind which that one stands
+-- a front of the text that ends with a further piece begins with the same piece, followed by that one
 pub piece_before : (text : List ℕ) (at n : ℕ) → IsPiece text at → IsPiece (drop at text) n → take at (through text at n) ≡ take at text
 piece_before text at n p q =
     let us = units_of p in

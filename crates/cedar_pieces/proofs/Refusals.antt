@@ -43,7 +43,7 @@ tokens_one u us h = rw h refl
 pub tokens_cut : (us : List (List ℕ)) (t : List ℕ) (vs : List (List ℕ)) → is_token t ≡ true → only_tokens (us ++ (t ∷ vs)) ≡ only_tokens us ++ (t ∷ only_tokens vs)
 tokens_cut us t vs h = tokens_join us (t ∷ vs) ∙ ap (λ z. only_tokens us ++ z) (tokens_one t vs h)
 
--- units that are no tokens have none
+-- units that aren't tokens have none
 pub no_tokens : (us : List (List ℕ)) → list_any is_token us ≡ false → only_tokens us ≡ []
 no_tokens [] h = refl
 no_tokens (u ∷ us) h = rw (or_left (is_token u) (list_any is_token us) h) (no_tokens us (or_right (is_token u) (list_any is_token us) h))
@@ -173,7 +173,7 @@ piece_refused text n at deep us p s fit r = go r
         let x = parts (only_tokens p.before) greatest_depth b.tree b.rest (subst (λ z. G kind_of greatest_depth b.tree (z ++ b.rest)) same b.grammar) in
         absurd (h.unfinished.not_whole x.0.0 (subst (λ z. G kind_of greatest_depth x.0.0 z) (sym same) x.0.1))
 
--- behind an accepted piece a refusal of the rest is one of the text, its place moved by the piece
+-- after an accepted piece a refusal of the rest is one of the text, its place moved by the piece
 pub rest_refused : (text : List ℕ) (n at : ℕ) (deep : Bool) (us : List (List ℕ)) → IsPiece text n → SplitsInto text us → list_any is_too_large us ≡ false → Accepted (take n text) → IsRefused (drop n text) at deep
     → IsRefused text (n + at) deep
 rest_refused text n at deep us p s fit (tree, a) r = go r

@@ -56,7 +56,7 @@ comment_no_feed [] k = refl
 comment_no_feed (a ∷ []) k = absurd cc
 comment_no_feed (a ∷ b ∷ body) k = let p = comment_parts a b body k in rw (p.0, p.1) (comment_body body p.2)
 
--- a line feed among the bytes, and what stands round it
+-- a line feed among the bytes, and what is around it
 feed_at : (u : List ℕ) → list_any is_feed u ≡ true → (w : List ℕ) × (v : List ℕ) × (u ≡ w ++ (10 ∷ v))
 feed_at [] h = absurd cc
 feed_at (b ∷ u) h = go (is_feed b) refl (feed_at u)
@@ -69,7 +69,7 @@ get_feed : (w v : List ℕ) → get_or (w ++ (10 ∷ v)) (length w) 0 ≡ 10
 get_feed [] v = refl
 get_feed (b ∷ w) v = get_feed w v
 
--- a blank with a line feed among its bytes is one
+-- a blank that contains a line feed is just that line feed
 blank_feed : (u : List ℕ) → IsBlank u → list_any is_feed u ≡ true → u ≡ 10 ∷ []
 blank_feed u k h =
     let f = feed_at u h in
@@ -103,11 +103,11 @@ ends_in_feed us text rest u n e m no_token no_feed = record {
   rest = record { no_token = any_more is_token us (10 ∷ []) no_token feed_no_token; ends = inl (us, refl, no_feed) };
 }
 
--- the units so far, where neither blank nor comment follows
+-- the units so far, where neither a blank nor a comment follows
 pub ends_before : (us : List (List ℕ)) (text rest : List ℕ) (n : ℕ) → EndsAt us text rest n → list_any is_token us ≡ false → HaveNoFeed us → BeginsNoBlank rest → EndsLine text n
 ends_before us text rest n e no_token no_feed b = record { line = us; scans = e.scans; place = e.place; rest = record { no_token = no_token; ends = inr (no_feed, rw e.left at b) } }
 
--- through the `;` and the rest of its line is the first piece
+-- everything through the `;` and the rest of its line is the first piece
 abbrev pub piece_whole : (text rest : List ℕ) (at n : ℕ) → EndsInSemicolon text at → rest ≡ drop at text → EndsLine rest n → IsFirstPiece text (at + n)
 piece_whole text rest at n s e r =
     let l : EndsLine (drop at text) n = rw e at r in

@@ -1,4 +1,4 @@
--- A policy's tokens end with their only `;`, so a list of the grammar parts behind each `;`.
+-- A policy's tokens end with their only `;`, so a list of the grammar splits after each `;`.
 use Rattle.std.specs.Prelude.{◌≡◌, ℕ, zero, suc, Bool, true, false, ◌||◌, ◌&&◌, not, IsTrue, nat_eq, List, [], ◌∷◌, ◌++◌, ◌⊎◌}
 use Rattle.std.specs.List.{list_any}
 use Rattle.std.proofs.Common.{refl, sym, ap, ◌∙◌, inl, inr, append_assoc, append-nil, subst}
@@ -198,7 +198,7 @@ module _ {A : Type 0} (kind : A → Kind) where
         nothing : (z.front ++ (z.last ∷ [])) ++ yield v ≡ [] → ⊥
         nothing k = filled z.front (yield v) z.last k
 
-    -- a row whose only such token is its last is of one list
+    -- a row whose only such token is its last consists of one list
     one_row : (f : Forest Label A) (a : List A) (s : A) → Many Y f → IsTrue (semicolon s) → some a ≡ false → yield f ≡ a ++ (s ∷ []) → (u : Forest Label A) × (f ≡ u) × Y u
     one_row f a s (no_more i e) t h k = absurd (nothing a (sym (ap yield e) ∙ k))
       where
@@ -229,7 +229,7 @@ module _ {A : Type 0} (kind : A → Kind) where
   leaves_of : (f g : Forest Label A) (ts : List A) → f ≡ branch L.policies g none → yield f ≡ ts → yield g ≡ ts
   leaves_of f g ts e h = sym (append-nil (yield g)) ∙ sym (ap yield e) ∙ h
 
-  -- a list of the grammar parts behind each `;` into two
+  -- a list of the grammar splits after each `;` into two
   pub list_parts : (d : ℕ) (tree : Forest Label A) (a : List A) (s : A) (b : List A) → IsTrue (is K.SemiColon (kind s)) → G.G kind d tree (a ++ (s ∷ b))
       → ((f : Forest Label A) × G.G kind d f (a ++ (s ∷ []))) × ((g : Forest Label A) × G.G kind d g b)
   list_parts d tree a s b t g = go g.shape
@@ -239,7 +239,7 @@ module _ {A : Type 0} (kind : A → Kind) where
           let r = row_parts (G.Policy kind d) (policy_ended d) u m a s b t (leaves_of tree u (a ++ (s ∷ b)) e g.leaves) in
           (listed d (a ++ (s ∷ [])) r.0, listed d b r.1)
 
-  -- two lists of the grammar are one, one after the other
+  -- two lists of the grammar, one after the other, are one
   pub lists_join : (d : ℕ) (f g : Forest Label A) (a b : List A) → G.G kind d f a → G.G kind d g b → (h : Forest Label A) × G.G kind d h (a ++ b)
   lists_join d f g a b x y = go x.shape y.shape
     where

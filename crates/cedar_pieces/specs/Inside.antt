@@ -1,2 +1,2 @@
--- What only contracts below the formatter's own calls cite.
+-- Definitions cited only by contracts below the formatter's own calls.
 pub mod Steps

@@ -1,4 +1,4 @@
--- Where a text is parted into pieces: behind a `;` and the rest of its line.
+-- Where a text is split into pieces: after a `;` and the rest of its line.
 use Rattle.std.specs.Prelude.{◌≡◌, ◌⊎◌, ℕ, Bool, false, ◌==◌, List, [], ◌∷◌, ◌++◌, length, drop, codes}
 use Rattle.std.specs.List.{list_any, sum_by}
 use Rattle.std.specs.Str.{bytes_eq}
@@ -9,7 +9,7 @@ use Rattle.cedar_tokens.specs.Bytes.{line_feed}
 abbrev pub is_semicolon : List ℕ → Bool
 is_semicolon u = bytes_eq (codes ";") u
 
--- no line feed stands in these units
+-- no line feed is among these units
 abbrev pub HaveNoFeed : List (List ℕ) → Type 0
 HaveNoFeed units = list_any (λ u. list_any (λ b. b == line_feed) u) units ≡ false
 
@@ -26,7 +26,7 @@ pub record IsRestOfLine (line : List (List ℕ)) (rest : List ℕ) : Type 0 wher
   pub no_token : list_any is_token line ≡ false
   pub ends : EndInFeed line ⊎ (HaveNoFeed line × BeginsNoBlank rest)
 
--- the text's first n bytes are whole units, of which the last token is a `;`, with the rest of its line behind it
+-- the text's first n bytes are whole units, of which the last token is a `;`, with the rest of its line after it
 pub record IsPiece (text : List ℕ) (n : ℕ) : Type 0 where
   pub before : List (List ℕ)
   pub line : List (List ℕ)
@@ -39,7 +39,7 @@ pub record IsFirstPiece (text : List ℕ) (n : ℕ) : Type 0 where
   pub piece : IsPiece text n
   pub first : list_any is_semicolon piece.before ≡ false
 
--- no `;` stands before the text's end or its fault
+-- no `;` comes before the text's end or its fault
 pub record HasNoPiece (text : List ℕ) : Type 0 where
   pub units : List (List ℕ)
   pub rest : List ℕ

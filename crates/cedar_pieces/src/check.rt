@@ -9,7 +9,7 @@ use cedar_tokens::lexer::UnitKind;
 use cedar_tokens::token::WrappedToken;
 use cedar_tokens::units::Units;
 
-/// Whether `text` splits and its tokens are `tokens`, numbers by value. Comments are not looked at, and it takes no memory.
+/// Whether `text` splits and its tokens are `tokens`, numbers by value. Ignores comments, and allocates nothing.
 pub fn has_tokens(text: &str, tokens: &[WrappedToken<'_>]) -> bool
     ensures { IsTrue result ↔ HasTheTokens text.now tokens.now }
 {
@@ -37,7 +37,7 @@ fn same_value(a: &str, b: &str) -> bool
     a == b || value(a) == value(b)
 }
 
-// A token by value: a number without its leading zeros, any other as it is.
+// A token by value: a number without its leading zeros, any other unchanged.
 fn value(text: &str) -> &str
     ensures { result.now ≡ token_value text.now }
 {

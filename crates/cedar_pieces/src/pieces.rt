@@ -13,9 +13,9 @@ use cedar_tokens::token::Span;
 use cedar_tokens::units::Units;
 use std::alloc::AllocError;
 
-/// The bytes of the first piece of `text`, and in `lexemes` the piece's lexemes. A piece goes through its first `;` and the rest of
-/// that line, the line feed too, up to the next token. Where there is none, the answer is `None`, and the lexemes are those of the
-/// whole text. What `lexemes` held before is dropped, and its room is used again.
+/// The bytes of the first piece of `text`; its lexemes are stored in `lexemes`. A piece extends through its first `;` and
+/// the rest of that line, including the line feed, up to the next token. If there is no `;`, the answer is `None`, and the
+/// lexemes are those of the whole text. The former contents of `lexemes` are dropped, and its memory is reused.
 pub fn read_piece<'src>(
     text: &'src str,
     lexemes: &mut Vec<Lexeme<'src>>,
@@ -33,7 +33,7 @@ pub fn read_piece<'src>(
     Ok(Some(end + rest_of_line(&text[end..])))
 }
 
-// The bytes through the first `;`, and the lexemes up to there; where there is none, all lexemes.
+// The bytes through the first `;`, and the lexemes up to there; without a `;`, all lexemes.
 fn lex_to_semicolon<'src>(
     text: &'src str,
     lexemes: &mut Vec<Lexeme<'src>>,

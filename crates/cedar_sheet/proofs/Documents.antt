@@ -1,4 +1,4 @@
--- The document of marks, made from the first to the last.
+-- The document of marks, built from the first to the last.
 use Rattle.std.proofs.Common.{◌≡◌, List, [], ◌∷◌, ◌++◌, reverse, sym, ap, ◌∙◌}
 use Rattle.std.proofs.lemmas.List.{reverse-append}
 use Rattle.cedar_layout.specs.declared.layout.Document.{Document}
@@ -12,7 +12,7 @@ use Rattle.cedar_sheet.specs.Marks.{Sign, flat, end_mark}
 use Rattle.cedar_sheet.specs.Inside.Documents.{Read, read, first_doc, other_docs, around, in_turn, closed, document_at}
 use Rattle.cedar_sheet.proofs.OneToOne.{read_flat}
 
--- one more document in the innermost, for a mark that is one alone
+-- one more document in the innermost, for a mark that is complete by itself
 pub leaf : (bs : List Begun) (ds es : List Document) (mark : Mark) (m : Sign) (x e : Doc) → sign_of mark ≡ m → ((ms : List Sign) → read (m ∷ ms) ≡ record { here = e · (read ms).here; after = (read ms).after }) → x ≡ e → docs_of es ≡ docs_of ds · x → (ms : List Sign) → document_at bs es ms ≡ document_at bs ds (sign_of mark ∷ ms)
 leaf bs ds es mark m x e k r i h ms =
     ap (λ y. closed (reverse bs) (y · (read ms).here) (read ms).after) (h ∙ ap (λ y. docs_of ds · y) i)

@@ -1,4 +1,4 @@
--- What is known of a document's marks, and of those after them.
+-- What is known about a document's marks, and about those after them.
 use Rattle.std.proofs.Common.{◌≡◌, ℕ, ◌+◌, ◌-◌, ◌<◌, ◌≤◌, ◌^◌, Bool, true, false, not, ◌&&◌, nat_le, List, [], ◌∷◌, ◌++◌, arith, refl, sym, ap, ◌∙◌}
 use Rattle.std.proofs.lemmas.Bool.Decides.{nat_tests}
 use Rattle.std.proofs.lemmas.Bool.{false≢true}
@@ -9,7 +9,7 @@ use Rattle.cedar_sheet.specs.Marks.{Sign, end_mark}
 use Rattle.cedar_sheet.specs.Inside.Measured.{facts, first_of, others}
 use Rattle.cedar_sheet.proofs.OneToOne.{onto}
 
--- the columns of a content that is laid flat, where a `Hard` has more than every width
+-- the columns of a content that is laid out flat, where a `Hard` takes more than any width
 abbrev weight_of : Atom → ℕ
 weight_of (word s) = columns s
 weight_of space_or_break = 1

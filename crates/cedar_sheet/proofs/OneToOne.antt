@@ -5,7 +5,7 @@ use Rattle.cedar_layout.proofs.Values.{dot-nil}
 use Rattle.cedar_sheet.specs.Marks.{Sign, flat, text_mark, line_mark, line_or_nil_mark, hard_mark, nest_mark, group_mark, end_mark}
 use Rattle.cedar_sheet.specs.Inside.Documents.{Read, read, first_doc, other_docs}
 
--- the marks of a document, and then these
+-- the marks of a document, followed by these
 abbrev pub onto : Doc → List Sign → List Sign
 onto nil ms = ms
 onto (text_then s r) ms = text_mark s ∷ onto r ms

@@ -17,7 +17,7 @@ use Rattle.cedar_sheet.proofs.Facts.{HasTail, columns_onto, tail_onto, group_fit
 abbrev from : ℕ → List Sign → Bool → ℕ → List Frame → ℕ → List Piece
 from w ms f i outer start = printed w ms (record { here = record { flat = f; indent = i }; outer = outer; notes = (facts ms).notes; start = start })
 
--- the columns of marks are within a `u128`, with a `usize` to spare
+-- the columns of marks fit in a `u128`, with a `usize` to spare
 abbrev InRange : List Sign → Type 0
 InRange ms = (facts ms).columns + 2 ^ 64 ≤ 2 ^ 128
 

@@ -1,4 +1,4 @@
--- What only the crate's own contracts and proofs cite.
+-- Definitions cited only by the crate's own contracts and proofs.
 pub mod Documents
 pub mod Measured
 pub mod Printed

@@ -26,7 +26,7 @@ flat (group_then d r) = group_mark ∷ (flat d ++ end_mark ∷ flat r)
 abbrev pub then_mark : List Sign → Sign → List Sign
 then_mark ms m = ms ++ m ∷ []
 
--- these marks, and then those of a document
+-- these marks, followed by those of a document
 abbrev pub written : List Sign → Doc → List Sign
 written ms nil = ms
 written ms (text_then s r) = written (then_mark ms (text_mark s)) r

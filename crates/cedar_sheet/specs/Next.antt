@@ -1,4 +1,4 @@
--- What stands behind a token that has no trailing text.
+-- What follows a token that has no trailing text.
 use Rattle.cedar_layout.specs.Comments.{space}
 use Rattle.cedar_layout.specs.Layout.{Doc, nil, line, hard}
 use Rattle.cedar_sheet.specs.declared.comments.Next.{Next}

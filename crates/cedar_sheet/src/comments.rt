@@ -14,7 +14,7 @@ use crate::sheet::Sheet;
 use cedar_tokens::token::Comment;
 use std::alloc::AllocError;
 
-/// What stands after a token that has no trailing text.
+/// What follows a token that has no trailing text.
 #[derive(Clone, Copy)]
 pub enum Next {
     Nothing,
@@ -23,8 +23,8 @@ pub enum Next {
     Hard,
 }
 
-/// Writes the leading lines, each after a break, and a break after the last; nothing where there are none. Where memory is
-/// refused, a part may have been written.
+/// Writes the leading lines, each after a break, and a break after the last; nothing if there are none. If memory runs
+/// out, a part may have been written.
 pub fn leading_lines<'src>(sheet: &mut Sheet<'src>, lines: &[&'src str]) -> Result<(), AllocError>
     ensures { OnOk result (sheet.new ≡ written sheet.old (lead_of (map (λ l. l.now) lines.now))) }
 {
@@ -46,8 +46,8 @@ fn broken_lines<'src>(sheet: &mut Sheet<'src>, lines: &[&'src str]) -> Result<()
     Ok(())
 }
 
-/// Writes a space, the trailing text and a break; what is next where the text is empty. Where memory is refused, a part may
-/// have been written.
+/// Writes a space, the trailing text and a break, or `next` if the text is empty. If memory runs out, a part may have been
+/// written.
 pub fn trailing_text<'src>(
     sheet: &mut Sheet<'src>,
     text: &'src str,
@@ -74,8 +74,8 @@ fn write_next(sheet: &mut Sheet<'_>, next: Next) -> Result<(), AllocError>
     }
 }
 
-/// Writes a token between its comments: the leading lines, its text, and the trailing text, or what is next where that is
-/// empty. Where memory is refused, a part may have been written.
+/// Writes a token between its comments: the leading lines, its text, and the trailing text, or `next` if that is
+/// empty. If memory runs out, a part may have been written.
 pub fn token<'src>(
     sheet: &mut Sheet<'src>,
     text: &'src str,

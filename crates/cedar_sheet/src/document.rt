@@ -24,7 +24,7 @@ pub fn to_document<'src>(alloc: Global, sheet: &Sheet<'src>) -> Result<Document<
     document_of(alloc, &sheet.marks)
 }
 
-/// The document of marks. What has begun and does not end, ends at last; an end of nothing is passed over.
+/// The document of marks. What has begun but doesn't end, ends after the last mark; an end of nothing is ignored.
 fn document_of<'src>(alloc: Global, marks: &[Mark<'src>]) -> Result<Document<'src>, AllocError>
     ensures { IfOk result (λ x. doc_of x ≡ document_at [] [] (signs_of marks.now)) }
 {
@@ -76,7 +76,7 @@ fn with_one_more<'src>(
     Ok(docs)
 }
 
-/// The documents around a nest or a group, and then that one, which has these documents.
+/// The documents around a nest or a group, followed by that one, which contains these documents.
 fn ended<'src>(
     alloc: Global,
     last: Begun<'src>,
@@ -91,7 +91,7 @@ fn ended<'src>(
     }
 }
 
-/// The document of all nests and groups that have begun, where the innermost has these documents.
+/// The document of all nests and groups that have begun, where the innermost contains these documents.
 fn all_ended<'src>(
     alloc: Global,
     mut begun: Vec<Begun<'src>>,

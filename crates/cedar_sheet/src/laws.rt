@@ -1,4 +1,4 @@
-//! The laws of marks: each says what follows from the definitions, and its body does nothing.
+//! The laws of marks. They only state facts about definitions, so their bodies are empty.
 ghost use Rattle.std.specs.Prelude.{◌≡◌, List, ◌++◌};
 ghost use Rattle.cedar_layout.specs.Layout.{Doc, ◌·◌};
 ghost use Rattle.cedar_sheet.specs.Marks.{Sign, flat, written};

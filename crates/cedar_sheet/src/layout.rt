@@ -10,8 +10,8 @@ use crate::sheet::Sheet;
 pub(crate) use print::Place;
 use std::alloc::AllocError;
 
-/// Appends the layout of a sheet at a width, in columns. It begins in column 0, with indentation 0. The sheet stays as it
-/// is; it keeps the room that this takes.
+/// Appends the layout of a sheet at a width, in columns. It begins in column 0, with indentation 0. The sheet's marks don't
+/// change; it keeps the memory that this uses.
 pub fn lay_out(sheet: &mut Sheet<'_>, width: usize, out: &mut String) -> Result<(), AllocError>
     // No other text is a layout of the document at the width.
     ensures ok { OnOk result ((d : Doc) → sheet.old ≡ flat d → (t : List ℕ)

@@ -19,11 +19,11 @@ pub(crate) enum Mark<'src> {
     End,
 }
 
-/// The marks of a document, in order. A call that is refused memory writes nothing.
+/// The marks of a document, in order. A call that runs out of memory writes nothing.
 #[derive(Drop)]
 pub struct Sheet<'src> {
     pub(crate) marks: Vec<Mark<'src>>,
-    /// Where laying out stands; between two calls it is room alone.
+    /// The state of laying out. Between two calls it only holds memory for reuse.
     pub(crate) place: Place,
 }
 
@@ -44,12 +44,12 @@ impl<'src> Sheet<'src> {
         }
     }
 
-    /// What the sheet allocates by.
+    /// The sheet's allocator.
     pub fn allocator(&self) -> Global {
         *self.marks.allocator()
     }
 
-    /// Removes all marks. The room stays, for the next document.
+    /// Removes all marks, and keeps the memory for the next document.
     pub fn clear(&mut self)
         ensures { self.new ≡ [] }
     {
@@ -64,7 +64,7 @@ impl<'src> Sheet<'src> {
         self.put(Mark::Text(text))
     }
 
-    /// A space where it is laid flat, else a break.
+    /// A space where it is laid out flat, else a break.
     pub fn line(&mut self) -> Result<(), AllocError>
         ensures ok { OnOk result (self.new ≡ then_mark self.old line_mark) }
         ensures err { OnErr result (self.new ≡ self.old) }
@@ -72,7 +72,7 @@ impl<'src> Sheet<'src> {
         self.put(Mark::Line)
     }
 
-    /// Nothing where it is laid flat, else a break.
+    /// Nothing where it is laid out flat, else a break.
     pub fn line_or_nil(&mut self) -> Result<(), AllocError>
         ensures ok { OnOk result (self.new ≡ then_mark self.old line_or_nil_mark) }
         ensures err { OnErr result (self.new ≡ self.old) }
@@ -80,7 +80,7 @@ impl<'src> Sheet<'src> {
         self.put(Mark::LineOrNil)
     }
 
-    /// A break, everywhere.
+    /// A break, always.
     pub fn hard(&mut self) -> Result<(), AllocError>
         ensures ok { OnOk result (self.new ≡ then_mark self.old hard_mark) }
         ensures err { OnErr result (self.new ≡ self.old) }
@@ -88,7 +88,7 @@ impl<'src> Sheet<'src> {
         self.put(Mark::Hard)
     }
 
-    /// The beginning of a nest, whose breaks are indented by `n` columns more, up to its `end`.
+    /// The beginning of a nest, whose breaks are indented by `n` more columns, up to its `end`.
     pub fn nest(&mut self, n: isize) -> Result<(), AllocError>
         ensures ok { OnOk result (self.new ≡ then_mark self.old (nest_mark n)) }
         ensures err { OnErr result (self.new ≡ self.old) }
@@ -96,7 +96,7 @@ impl<'src> Sheet<'src> {
         self.put(Mark::Nest(n))
     }
 
-    /// The beginning of a group, which is laid flat as a whole where that fits, up to its `end`.
+    /// The beginning of a group, which is laid out flat as a whole if it fits, up to its `end`.
     pub fn group(&mut self) -> Result<(), AllocError>
         ensures ok { OnOk result (self.new ≡ then_mark self.old group_mark) }
         ensures err { OnErr result (self.new ≡ self.old) }
@@ -104,7 +104,7 @@ impl<'src> Sheet<'src> {
         self.put(Mark::Group)
     }
 
-    /// The end of the nest or the group that was begun last and has not ended.
+    /// The end of the innermost nest or group that has not ended yet.
     pub fn end(&mut self) -> Result<(), AllocError>
         ensures ok { OnOk result (self.new ≡ then_mark self.old end_mark) }
         ensures err { OnErr result (self.new ≡ self.old) }

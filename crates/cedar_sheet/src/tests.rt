@@ -1,4 +1,4 @@
-//! What no clause says: that the definitions mean what the worked examples say, and that calls succeed with ample memory.
+//! What no clause says: the definitions agree with the worked examples, and calls succeed with ample memory.
 use crate::document::to_document;
 use crate::layout::lay_out;
 use crate::sheet::Sheet;

@@ -1,8 +1,8 @@
--- Devices under watch.
+-- Watched devices.
 use Rattle.std.specs.Prelude.{ℕ, List, Bool, ◌≡◌, ◌<◌, length, Result, MatchResult, ⊤}
 use Rattle.cedar_streams.specs.declared.watched.Watched.{Watched}
 
--- the device that is watched, and whether a read or a write through this failed
+-- the watched device, and whether a read or a write through it failed
 abbrev pub device_of : {D : Type 0} → Watched D → D
 device_of w = w.device
 
@@ -13,7 +13,7 @@ has_failed w = w.has_failed
 abbrev pub is_flushed : {D : Type 0} → Watched D → Bool
 is_flushed w = w.is_flushed
 
--- the write is refused, or takes nothing of some bytes
+-- the write is refused, or takes nothing though there are bytes
 abbrev pub IsFailedWrite : {E : Type 0} → Result ℕ E → List ℕ → Type 0
 IsFailedWrite r buf = MatchResult r (λ n. (n ≡ 0) × (0 < length buf)) (λ _. ⊤)
 

@@ -13,17 +13,17 @@ GivesAll old new x = Consumes old new x × IsAtEnd new
 abbrev pub GivesText : Option (List ℕ) → Option (List ℕ) → List ℕ → Type 0
 GivesText old new x = GivesAll old new x × IsUtf8 x
 
--- why there is no text: a read failed; all was read, and isn't UTF-8; memory is wanting
+-- why there is no text: a read failed; everything was read, but isn't UTF-8; out of memory
 abbrev pub FailsToGive : Option (List ℕ) → Option (List ℕ) → ReadFault → Type 0
 FailsToGive old new Read = ⊤
 FailsToGive old new NotUtf8 = (x : List ℕ) × GivesAll old new x × ¬ (IsUtf8 x)
 FailsToGive old new OutOfMemory = ⊤
 
--- with `Read` the reader has failed; with success and every other fault it has failed if it had before
+-- after `Read` the reader has failed; after success or any other fault it has failed if it had before
 abbrev pub TellsRead : {T : Type 0} → Bool → Bool → Result T ReadFault → Type 0
 TellsRead old new (Err Read) = IsTrue new
 TellsRead old new r = new ≡ old
 
--- a beginning of y was appended, and not all of y
+-- a beginning of y was appended, but not all of y
 abbrev pub AppendsPart : Option (List ℕ) → Option (List ℕ) → List ℕ → Type 0
 AppendsPart held holds y = (front rest : List ℕ) × (y ≡ front ++ rest) × (0 < length rest) × Appends held holds front

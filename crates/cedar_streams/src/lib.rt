@@ -1,7 +1,7 @@
-//! Whole texts from readers, and whole texts to writers, to the first failure.
+//! Whole texts from readers and to writers, stopping at the first failure.
 //!
 //! `Watched` remembers whether its reader or writer failed. `read_text` reads a text to its end, and
-//! `write_until_failure` writes bytes to theirs. Neither tries again, also where a call was interrupted.
+//! `write_until_failure` writes bytes to their end. Neither retries, not even an interrupted call.
 #![tactic(auto)]
 
 mod reading;

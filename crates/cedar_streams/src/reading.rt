@@ -16,14 +16,14 @@ pub enum ReadFault {
     Read,
     /// What was read isn't UTF-8.
     NotUtf8,
-    /// There was no memory for it.
+    /// There was not enough memory for it.
     OutOfMemory,
 }
 
-/// The text that `input` gives up to its end.
+/// The text that `input` yields up to its end.
 ///
-/// The first failed read ends it with `Read`, also an interrupted one. `NotUtf8` is answered where all was read and isn't
-/// UTF-8, and `OutOfMemory` for want of memory alone.
+/// The first failed read ends it with `Read`, even if it was only interrupted. `NotUtf8` means that everything was read but
+/// isn't UTF-8, and `OutOfMemory` only that memory ran out.
 pub fn read_text<R: Read>(alloc: Global, input: &mut Watched<R>) -> Result<String, ReadFault>
     ensures read { TellsRead (has_failed input.old) (has_failed input.new) result }
     ensures text { MatchResult result (λ t. GivesText (R.remaining (device_of input.old)) (R.remaining (device_of input.new)) (string_bytes t)) (FailsToGive (R.remaining (device_of input.old)) (R.remaining (device_of input.new))) }
@@ -37,7 +37,7 @@ pub fn read_text<R: Read>(alloc: Global, input: &mut Watched<R>) -> Result<Strin
 
 const BLOCK: usize = 65536;
 
-// All bytes that `input` gives, which it reads into their place.
+// All bytes that `input` yields, read directly into place.
 fn read_all<R: Read>(alloc: Global, input: &mut Watched<R>) -> Result<Vec<u8>, ReadFault>
     ensures read { TellsRead (has_failed input.old) (has_failed input.new) result }
     ensures bytes { MatchResult result (λ v. GivesAll (R.remaining (device_of input.old)) (R.remaining (device_of input.new)) v.items) (FailsToGive (R.remaining (device_of input.old)) (R.remaining (device_of input.new))) }
@@ -59,7 +59,7 @@ fn read_all<R: Read>(alloc: Global, input: &mut Watched<R>) -> Result<Vec<u8>, R
     }
 }
 
-// Makes room for a read behind the first `filled` bytes, if there is none.
+// Makes room for a read after the first `filled` bytes, if there is none.
 fn make_room(bytes: &mut Vec<u8>, filled: usize) -> Result<(), AllocError>
     requires { filled ≤ vec_len bytes.old }
     ensures room { OnOk result (filled < vec_len bytes.new) }
@@ -71,7 +71,7 @@ fn make_room(bytes: &mut Vec<u8>, filled: usize) -> Result<(), AllocError>
     bytes.resize(filled.saturating_add(BLOCK), 0)
 }
 
-// One read, into what stands from `at` on: how many bytes it gave, none only at the end.
+// One read, into the bytes from `at` on. Returns how many bytes it read, 0 only at the end.
 fn read_at<R: Read>(input: &mut Watched<R>, bytes: &mut [u8], at: usize) -> io::Result<usize>
     requires { at < length bytes.old }
     ensures ok { OnOk result (has_failed input.new ≡ has_failed input.old) }

@@ -1,4 +1,4 @@
-//! A reader or a writer under watch.
+//! A watched reader or writer.
 ghost use Rattle.std.specs.Prelude.{◌≡◌, IsTrue, IsFalse, OnOk, OnErr};
 ghost use Rattle.std.specs.Io.{ReadsAtMost, WritesAtMost};
 ghost use Rattle.std.specs.Io.KnownBytes.{Keeps, ReadConsumes, WriteAppends};
@@ -7,7 +7,7 @@ ghost use Rattle.cedar_streams.specs.Devices.{device_of, has_failed, is_flushed,
 use std::io;
 use std::io::{Read, Write};
 
-/// A reader or a writer that remembers whether it failed, and whether all that it took is flushed.
+/// A reader or a writer that remembers whether it failed, and whether everything it took is flushed.
 ///
 /// It is flushed while it has taken nothing since the last flush, and that flush succeeded.
 #[derive(Debug, Drop)]
@@ -31,7 +31,7 @@ impl<D> Watched<D> {
         }
     }
 
-    /// Whether a read or a write through this failed. A write of one byte or more that takes nothing is a failed one.
+    /// Whether a read or a write through this failed. A write of one byte or more that takes nothing counts as failed.
     pub fn failed(&self) -> bool
         ensures { result ≡ has_failed self.now }
     {

@@ -8,7 +8,7 @@ use crate::watched::Watched;
 use std::io;
 use std::io::{ErrorKind, Write};
 
-/// Writes these bytes. The first failed write ends it, also an interrupted one; then a beginning is written, and not all.
+/// Writes these bytes. The first failed write ends it, even if it was only interrupted; then only a beginning is written.
 pub fn write_until_failure<W: Write>(bytes: &[u8], output: &mut Watched<W>) -> io::Result<()>
     ensures ok { OnOk result (has_failed output.new ≡ has_failed output.old) }
     ensures err { OnErr result (IsTrue (has_failed output.new)) }

@@ -90,7 +90,7 @@ between (u ∷ us) text at l utf8 s =
     go after inside rest true e r = token_between text u at us (IsCharBoundary-from_drop text at l utf8) (IsCharBoundary-from_drop text (at + length u) inside rest) (begins_take (drop at text) u s.0.begins) e r
     go after inside rest false e r = other_between text u at us (after_unit (drop at text) u s.0 ∙ ap (λ v. u ++ v) after) e r
 
--- units that are no tokens have no places
+-- units that aren't tokens have no places
 no_spans : (us : List (List ℕ)) (at : ℕ) → NoTokens us → token_spans at us ≡ []
 unfolding token_spans
 no_spans [] at h = refl
@@ -105,7 +105,7 @@ pub first_boundary : (text : List ℕ) (ss : List Span) → ArePlaces text ss �
 first_boundary text [] h = IsCharBoundary-end text
 first_boundary text (s ∷ ss) h = h.0.start
 
--- the tokens are the first ones of the text, the text leading leads the next one or closes the text, and the others stand at
+-- the tokens are the first ones of the text, the text leading precedes the next one or closes the text, the others are at
 -- these places
 pub record Commented (text : List ℕ) (tokens : List WrappedToken) (leading : List ℕ) (spans : List Span) : Type 0 where
   pub list : IsListing text (record { tokens = map decorated tokens ++ (decorate leading (texts_between text spans)).tokens; closing = (decorate leading (texts_between text spans)).closing })

@@ -1,4 +1,4 @@
--- The tokens that a reader has given, and what it has left.
+-- The tokens that a reader has returned, and what it has left.
 use Rattle.std.proofs.Common.{◌≡◌, ◌≤◌, ◌<◌, ◌+◌, Bool, true, false, List, [], ◌∷◌, ◌++◌, ℕ, length, map, refl, ap, ◌∙◌, arith}
 use Rattle.std.proofs.lemmas.List.{append_assoc, append-nil, map-append}
 use Rattle.std.specs.List.{AllByRecursion}
@@ -76,7 +76,7 @@ places_all text tokens spans e h =
 pub collected_spans : (text : List ℕ) (tokens : List WrappedToken) (r : TokenReader) → (c : Collected text tokens r) → ((l : Listing) (spans : List Span) → HasLeft text r l spans → (l.tokens ≡ []) × (spans ≡ [])) → AreTokenSpans text (spans_of tokens)
 collected_spans text tokens r c none = places_all text tokens c.spans (none c.rest c.spans c.has).1 c.places
 
--- the tokens' places among units are in order
+-- the places of the tokens among units are in order
 places_in_order : (from at : ℕ) (us : List (List ℕ)) (text rest : List ℕ) → Scans us text rest → from ≤ at → InOrderFrom from (token_spans at us)
 unfolding token_spans
 places_in_order from at [] text rest s l = tt

@@ -1,4 +1,4 @@
--- What `==` and `clone` say of tokens and comments.
+-- What `==` and `clone` do on tokens and comments.
 use Rattle.std.specs.Prelude.{◌≡◌, ◌&&◌, Bool, true, false, List, [], ◌∷◌, ℕ, map, nat_eq}
 use Rattle.std.proofs.Common.{refl, sym, ap, subst, inl, inr}
 use Rattle.std.specs.Bool.{Decides}
@@ -30,7 +30,7 @@ Fixed ([] ∷ Fss) (inr c) = Fixed Fss c
 Fixed ((F ∷ Fs) ∷ Fss) (inl x) = ⊥
 Fixed ((F ∷ Fs) ∷ Fss) (inr c) = Fixed Fss c
 
--- a variant without fields equals itself alone
+-- a variant without fields equals only itself
 told_choice : (Fss : List (List Field)) (each : Each Bool Fss) (c d : Choice Fss) → Fixed Fss c → by false false Fss each c d ≡ true → c ≡ d
 told_choice [] each c d p h = absurd c
 told_choice ([] ∷ Fss) each (inl x) (inl y) p h = refl
@@ -101,7 +101,7 @@ at_true : (t : Bool) → t ≡ true → T t
 at_true true h = tt
 at_true false h = absurd (true≢false (sym h))
 
--- of any two variants but these three pairs, both sides are the same once both are known: so the line before the last
+-- for any two variants but these three pairs, both sides are the same once both are known: hence the line before the last
 copied : (a b : Token) → (token_clone.ghosts).is_clone a b → T ((token_equality.ghosts).eq a b)
 copied (Identifier s) (Identifier t) h = at_true _ ((text_decides _ _).1 (sym h))
 copied (Number s) (Number t) h = at_true _ ((text_decides _ _).1 (sym h))

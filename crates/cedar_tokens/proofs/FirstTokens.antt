@@ -16,7 +16,7 @@ use Rattle.cedar_tokens.proofs.FirstUnit.{unit_nonempty}
 use Rattle.cedar_tokens.proofs.Scanning.{split_unique}
 use Rattle.cedar_tokens.proofs.Gaps.{behind_gap}
 
--- what is ahead behind the text's first gap is the whole list
+-- what is ahead after the text's first gap is the whole list
 pub ahead_start : (text : List ℕ) (n : ℕ) (l : Listing) (spans : List Span) → IsGap text n → IsListing text l → AreTokenSpans text spans → IsAhead n (take n text) (drop n text) l spans
 unfolding listing
 ahead_start text n l spans g h k =

@@ -1,4 +1,4 @@
--- Gaps of a text, and what stands behind them.
+-- Gaps of a text, and what follows them.
 use Rattle.std.proofs.Common.{◌≡◌, ◌+◌, ◌<◌, true, false, List, [], ◌∷◌, ◌++◌, ℕ, length, drop, take, refl, sym, ap, ◌∙◌, arith}
 use Rattle.std.proofs.lemmas.List.{append_assoc, append-nil, append_cancel_right, take-append-drop, length-append, length-take-le}
 use Rattle.std.specs.List.{AllByRecursion}
@@ -22,7 +22,7 @@ pub no_tokens_push : (us : List (List ℕ)) (u : List ℕ) → NoTokens us → i
 no_tokens_push [] u h e = (e, tt)
 no_tokens_push (v ∷ us) u h e = (h.0, no_tokens_push us u h.1 e)
 
--- a split goes on as the scan did
+-- a split begins as the scan did
 pub split_after : (ws us : List (List ℕ)) (text rest : List ℕ) → Scans ws text rest → SplitsInto text us → (vs : List (List ℕ)) × (us ≡ ws ++ vs) × SplitsInto rest vs
 split_after [] us text rest s h = (us, refl, rw s at h)
 split_after (w ∷ ws) [] text rest s h = absurd (omega (arith, unit_nonempty w s.0.kind, begins_fits [] w (rw h at s.0.begins)))
@@ -47,13 +47,13 @@ spans_after (w ∷ ws) vs at h =
 gap_joined : (text : List ℕ) (n : ℕ) (g : IsGap text n) → joined g.units ≡ take n text
 gap_joined text n g = append_cancel_right (joined g.units) (take n text) (drop n text) (sym (joined_scan g.units text (drop n text) g.scans) ∙ sym (take-append-drop n text))
 
--- what comes behind a gap begins with a token or is empty
+-- what follows a gap begins with a token or is empty
 gap_begins : (text : List ℕ) (n : ℕ) (vs : List (List ℕ)) → IsGap text n → SplitsInto (drop n text) vs → (gaps vs).first ≡ []
 unfolding gaps
 gap_begins text n [] g s = refl
 gap_begins text n (v ∷ vs) g s = rw (g.token v s.0) refl
 
--- of a text that splits, the units behind its first gap
+-- for a text that splits, the units after its first gap
 pub record Behind (text : List ℕ) (n : ℕ) (us : List (List ℕ)) : Type 0 where
   pub units : List (List ℕ)
   pub split : SplitsInto (drop n text) units
@@ -100,7 +100,7 @@ next_token us text rest u at utf8 e f k =
     let g : IsFirstUnit (drop at text) u = rw e.left at f in
     (rw (begins_take (drop at text) u g.begins) at k, unit_boundary (drop at text) u (scan_utf8 us text (drop at text) utf8 e.scans) g, g.longest)
 
--- the token that is next is the unit there
+-- the next token is the unit there
 first_of : (text : List ℕ) (n : ℕ) → BeginsToken text n → IsFirstUnit text (take n text)
 first_of text n b = record { kind = token b.0; begins = front_begins text n; longest = λ v k g. rw (length-take-le n text b.1.0) (b.2 v k g) }
 

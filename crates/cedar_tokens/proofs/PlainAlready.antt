@@ -1,4 +1,4 @@
--- Lists of tokens that have no trailing comma.
+-- Lists of tokens without trailing commas.
 use Rattle.std.proofs.Common.{◌≡◌, Bool, true, false, ◌&&◌, ◌||◌, List, [], ◌∷◌, map, refl, sym, ap}
 use Rattle.cedar_tokens.specs.PlainList.{is_comma, is_closing_bracket, is_trailing_comma, plain_from, plain_list, kept_tokens}
 use Rattle.cedar_tokens.specs.Tokens.{decorated, token_text}
@@ -17,7 +17,7 @@ plain_from_already d (c ∷ (b ∷ ts)) h =
     let other : is_trailing_comma (decorated c) (decorated b) ≡ false = (or_parts (is_trailing_comma (decorated c) (decorated b)) (has_trailing_comma (b ∷ ts)) more).0 in
     rw other (ap (λ z. decorated d ∷ z) (plain_from_already c (b ∷ ts) more))
 
--- without a trailing comma a list is as it was
+-- a list without a trailing comma is unchanged
 pub plain_already : (ts : List WrappedToken) → has_trailing_comma ts ≡ false → map decorated ts ≡ plain_list (map decorated ts)
 plain_already [] h = refl
 plain_already (c ∷ []) h = refl
@@ -33,7 +33,7 @@ kept_already (c ∷ (b ∷ ts)) h =
     let other : is_trailing_comma (decorated c) (decorated b) ≡ false = p.0 in
     rw other (ap (λ z. c ∷ z) (kept_already (b ∷ ts) p.1))
 
--- the same behind a token that is a comma or none
+-- the same after a token that is a comma or none
 abbrev pub trails : Bool → List WrappedToken → Bool
 trails after [] = false
 trails after (t ∷ ts) = (after && is_closing_bracket (token_text t.token)) || trails (is_comma (token_text t.token)) ts

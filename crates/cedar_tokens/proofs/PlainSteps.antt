@@ -75,7 +75,7 @@ pub collect : (all done : List (List (List ℕ))) (p : Option (List ℕ)) (c k :
     → (done ++ lines_for c k ∷ []) ++ moved_lines (Some c.trailing) (k ∷ ts) ≡ all
 collect all done p c k ts h e = rw append_assoc (rw e at h)
 
--- what is known between two tokens: kept are done, before is the last token that stays and comma one that may go, rest comes behind them
+-- between two tokens: kept are done, before is the last token that stays, comma is one that may be removed, rest follows
 pub record Reached (all kept : List WrappedToken) (before comma : Option WrappedToken) (rest : List WrappedToken) (lines : List (List (List ℕ))) (len capacity : ℕ) : Type 0 where
   pub list : map decorated kept ++ plain_after (option_map decorated before) (map decorated (option_to_list comma ++ rest)) ≡ plain_list (map decorated all)
   pub tokens : map bare kept ++ (map bare (option_to_list before) ++ map bare (kept_tokens (option_to_list comma ++ rest))) ≡ map bare (kept_tokens all)
@@ -116,7 +116,7 @@ tail_same : (x y : List (List ℕ)) (xs ys : List (List (List ℕ))) → x ∷ x
 unfolding tail_of
 tail_same x y xs ys e = ap tail_of e
 
--- a bracket behind a comma, which goes
+-- a bracket after a comma, which is removed
 pub reached_dropped : (all kept kept' : List WrappedToken) (before last : Option WrappedToken) (c k k' : WrappedToken) (rest : List WrappedToken) (lines lines' : List (List (List ℕ))) (len len' cap cap' : ℕ)
     → Reached all kept before (Some c) (k ∷ rest) lines len cap → is_closing_bracket (token_text k.token) ≡ true
     → (leaves (trailing_before before) (decorated c) ≡ true → LeftToToken (option_map decorated before) (decorated c) (decorated k) (option_map decorated last) (decorated k') × (lines' ≡ lines))

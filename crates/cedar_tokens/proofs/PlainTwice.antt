@@ -5,12 +5,12 @@ use Rattle.cedar_tokens.specs.Listing.{Decorated}
 use Rattle.cedar_tokens.specs.PlainList.{is_comma, is_closing_bracket, is_trailing_comma, touches, with_trailing_of, with_lines_of, plain_from, plain_list, NoTwoCommas, PlainListIsPlain}
 use Rattle.cedar_tokens.proofs.PlainSteps.{no_comma}
 
--- no token of the list is a trailing comma, nor the text before it
+-- no token of the list is a trailing comma, and neither is the text before it
 abbrev pub Clean : List ℕ → List Decorated → Type 0
 Clean before [] = ⊤
 Clean before (x ∷ xs) = ((is_comma before && is_closing_bracket x.text) ≡ false) × Clean x.text xs
 
--- d stays in front of the list
+-- d stays before the list
 abbrev pub Stays : Decorated → List Decorated → Type 0
 Stays d [] = ⊤
 Stays d (c ∷ ts) = is_trailing_comma d c ≡ false

@@ -26,7 +26,7 @@ none_has text r l spans n h =
     let none = ahead_none _ r.leading.now r.ahead.text.now l spans n h.left in
     (ap (λ v. v.tokens) none.0, none.1)
 
--- a part of a text that stands at the end of another
+-- a part of a text at the end of another
 slice_at : (text ahead : List ℕ) (at n : ℕ) → ahead ≡ drop at text → slice_range text at (at + n) ≡ take n ahead
 slice_at text ahead at n e = let i : at + n - at ≡ n = omega arith in rw (i, e) refl
 
@@ -68,7 +68,7 @@ gives_first text old after t w l spans f h s b a x p y z place =
       };
     }
 
--- some text ahead, led by `leading`, ends with these closing comments
+-- some text ahead, preceded by `leading`, ends with these closing comments
 pub record Closes (leading ahead : List ℕ) (closing : List (List ℕ)) : Type 0 where
   pub at : ℕ
   pub rest : Listing

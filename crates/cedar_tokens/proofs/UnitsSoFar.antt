@@ -1,4 +1,4 @@
--- The units so far: what calls of `next` gave stands at the start of the text, and what is left follows.
+-- The units so far: what calls of `next` returned is at the start of the text, followed by what is left.
 use Rattle.std.proofs.Common.{◌≡◌, ◌<◌, ◌≤◌, ◌+◌, ℕ, List, [], ◌∷◌, ◌++◌, length, map, drop, refl, ap, sym, ◌∙◌, arith, subst}
 use Rattle.std.proofs.Math.Seq.{drop-append_seam}
 use Rattle.std.proofs.lemmas.List.{append_assoc, drop_all, length-drop, length-append, map-append}
@@ -41,7 +41,7 @@ joined_length : (us : List (List ℕ)) → length (joined us) ≡ sum_by length 
 joined_length [] = refl
 joined_length (u ∷ us) = length-append u (joined us) ∙ ap (λ n. length u + n) (joined_length us) ∙ sym (sum_by-cons length u us)
 
--- a text is its unit and what is after it
+-- a text is its unit followed by the rest
 pub after_unit : (text u : List ℕ) → IsFirstUnit text u → text ≡ u ++ drop (length u) text
 after_unit text u f =
     let e : drop (length u) text ≡ f.begins.0 = rw f.begins.1 (drop-append_seam u f.begins.0) in
@@ -86,7 +86,7 @@ one_more us text rest u new at e f g =
 pub place_more : (old u new : List ℕ) (n at : ℕ) → at + length old ≡ n → old ≡ u ++ new → at + length u + length new ≡ n
 place_more old u new n at e g = omega (arith, e, ap length g, length-append u new)
 
--- what calls of `next` gave ends at the byte `at`, and what is left begins there
+-- what calls of `next` returned ends at the byte `at`, and what is left begins there
 pub so_far : (us : List Unit) (s t : Units) (text : List ℕ) (at : ℕ) → text_left s ≡ text → Yields GivesUnit s us t → at + length (text_left t) ≡ length text → EndsAt (texts us) text (text_left t) at
 so_far us s t text at e y p = ends_at (texts us) text (text_left t) at (scans_so_far us s t text e y) p
 

@@ -12,7 +12,7 @@ use Rattle.cedar_tokens.specs.contracts.token.TokenClone.TheImpl as token_clone
 use Rattle.cedar_tokens.specs.contracts.token.CommentClone.TheImpl as comment_clone
 use Rattle.cedar_tokens.specs.contracts.token.WrappedTokenClone.TheImpl as wrapped_clone
 
--- the tokens are of one kind, and the texts that they hold are the same
+-- the tokens are of one kind and hold the same texts
 abbrev pub SameToken : Token → Token → Type 0
 SameToken (Identifier s) (Identifier t) = string_bytes s ≡ string_bytes t
 SameToken (Number s) (Number t) = string_bytes s ≡ string_bytes t

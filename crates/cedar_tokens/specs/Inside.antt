@@ -1,4 +1,4 @@
--- What only contracts below the formatter's own calls cite.
+-- Definitions cited only by contracts below the formatter's own calls.
 pub mod Scanners
 pub mod FixedTexts
 pub mod Gaps

@@ -1,11 +1,11 @@
--- Where the tokens of a text stand, in bytes.
+-- Where the tokens of a text are, in bytes.
 use Rattle.std.specs.Prelude.{◌≡◌, ◌<◌, ◌≤◌, ◌+◌, if◌then◌else◌, [], ◌∷◌, length, map, List, ℕ, ⊤}
 use Rattle.cedar_tokens.specs.Units.{is_token}
 use Rattle.cedar_tokens.specs.Split.{SplitsInto}
 use Rattle.cedar_tokens.specs.declared.token.Span.{Span}
 use Rattle.cedar_tokens.specs.declared.token.WrappedToken.{WrappedToken}
 
--- the places of the tokens among units that begin at this byte: a token of n bytes at the byte p stands at p to p + n
+-- the places of the tokens among units that begin at this byte: a token of n bytes at the byte p is at p to p + n
 unfoldable pub token_spans : ℕ → List (List ℕ) → List Span
 token_spans at [] = []
 token_spans at (u ∷ us) = if is_token u

@@ -16,15 +16,15 @@ is_closing_bracket text = is_one_of (codes ")" ∷ codes "]" ∷ codes "}" ∷ [
 abbrev pub is_trailing_comma : Decorated → Decorated → Bool
 is_trailing_comma c b = is_comma c.text && is_closing_bracket b.text
 
--- nothing stands between the token d and the comma c, so what trails the comma may trail d
+-- nothing is between the token d and the comma c, so d may take over c's trailing text
 abbrev pub touches : Decorated → Decorated → Bool
 touches d c = is_empty d.trailing && is_empty c.leading
 
--- the token d with what trailed the comma c behind it
+-- the token d with the trailing text of the comma c after it
 abbrev pub with_trailing_of : Decorated → Decorated → Decorated
 with_trailing_of d c = record { text = d.text; leading = d.leading; trailing = c.trailing }
 
--- the bracket b with the lines of the comma c before its own: those that led c, then the comments of what trailed it
+-- the bracket b with the lines of the comma c before its own: c's leading lines, then the comments of c's trailing text
 abbrev pub with_lines_of : Decorated → Decorated → Decorated
 with_lines_of b c = record { text = b.text; leading = c.leading ++ (comments c.trailing ++ b.leading); trailing = b.trailing }
 
@@ -42,27 +42,27 @@ plain_list [] = []
 plain_list (c ∷ []) = c ∷ []
 plain_list (c ∷ (b ∷ ts)) = if is_trailing_comma c b then plain_from (with_lines_of b c) ts else plain_from c (b ∷ ts)
 
--- the tokens that are no trailing commas, as they are
+-- the tokens that aren't trailing commas, unchanged
 abbrev pub kept_tokens : List WrappedToken → List WrappedToken
 kept_tokens [] = []
 kept_tokens (c ∷ []) = c ∷ []
 kept_tokens (c ∷ (b ∷ ts)) = if is_trailing_comma (decorated c) (decorated b) then kept_tokens (b ∷ ts) else c ∷ kept_tokens (b ∷ ts)
 
--- the first of the list passes the test
+-- the first token of the list passes the test
 abbrev pub first_passes : {A : Type 0} → (A → Bool) → List A → Bool
 first_passes p [] = false
 first_passes p (a ∷ ts) = p a
 
--- no two that pass the test stand next to each other
+-- no two that pass the test are next to each other
 abbrev pub NoNeighbours : {A : Type 0} → (A → Bool) → List A → Type 0
 NoNeighbours p [] = ⊤
 NoNeighbours p (a ∷ ts) = ((p a && first_passes p ts) ≡ false) × NoNeighbours p ts
 
--- no two commas stand next to each other
+-- no two commas are next to each other
 abbrev pub NoTwoCommas : List Decorated → Type 0
 NoTwoCommas ts = NoNeighbours (λ t. is_comma t.text) ts
 
--- where no two commas stand next to each other, a list without its trailing commas has none left
--- (of `,,)` it keeps the first comma, which then stands before the bracket)
+-- where no two commas are next to each other, a list without its trailing commas has none left
+-- (of `,,)` it keeps the first comma, which is then before the bracket)
 abbrev pub PlainListIsPlain : Type 0
 PlainListIsPlain = (l : List Decorated) → NoTwoCommas l → plain_list (plain_list l) ≡ plain_list l

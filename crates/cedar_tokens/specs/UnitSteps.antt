@@ -1,4 +1,4 @@
--- What an iterator over the units of a text gives, and what is left to it.
+-- What an iterator over the units of a text returns, and what is left to it.
 use Rattle.std.specs.Prelude.{◌≡◌, ℕ, List, ◌++◌, length, Option, None, Some}
 use Rattle.std.specs.Iterator.{Count, at_most}
 use Rattle.cedar_tokens.specs.Units.{IsFirstUnit, BeginsNoUnit}
@@ -14,7 +14,7 @@ text_left s = s.rest.now
 abbrev pub unit_text : Unit → List ℕ
 unit_text u = u.text.now
 
--- the unit at the start of what is left is given, with its kind, or none begins there
+-- the unit at the start of what is left is returned, with its kind, or none begins there
 abbrev pub GivesUnit : Units → Option Unit → Units → Type 0
 GivesUnit old None new = BeginsNoUnit (text_left old) × (text_left new ≡ text_left old)
 GivesUnit old (Some u) new = IsFirstUnit (text_left old) (unit_text u) × HasKind u.kind (unit_text u) × (text_left old ≡ unit_text u ++ text_left new)

@@ -1,4 +1,4 @@
-//! The gaps between tokens, and what stands after a gap.
+//! The gaps between tokens, and what follows a gap.
 ghost use Rattle.std.specs.Prelude.{◌≡◌, ◌==◌, drop, IfSome, IfNone};
 ghost use Rattle.std.specs.List.{before_first, after_first};
 ghost use Rattle.std.specs.Option.{ForSome, ForNone};
@@ -9,7 +9,7 @@ ghost use Rattle.cedar_tokens.specs.Inside.Gaps.{IsGap, BeginsToken, BeginsNoTok
 use crate::lexer::UnitKind;
 use crate::units::Units;
 
-/// What stands in `gap` before its first line feed, or all of it; and what stands after it, or nothing.
+/// The part of `gap` before its first line feed, or all of it; and the part after it, or nothing.
 pub fn split_gap(gap: &str) -> (&str, &str)
     ensures trailing { result.0.now ≡ before_first (λ b. b == line_feed) gap.now }
     ensures leading { result.1.now ≡ after_first (λ b. b == line_feed) gap.now }
@@ -20,7 +20,7 @@ pub fn split_gap(gap: &str) -> (&str, &str)
     }
 }
 
-// How many bytes stand before the first token of `text`, or before the place where no unit begins; and the length of
+// How many bytes precede the first token of `text`, or the place where no unit begins; and the length of
 // that token.
 pub(crate) fn gap_len(text: &str) -> (usize, Option<usize>)
     ensures gap { IsGap text.now result.0 }
@@ -42,7 +42,7 @@ pub(crate) fn gap_len(text: &str) -> (usize, Option<usize>)
 #[derive(Clone, Copy, Debug)]
 pub(crate) struct Ahead<'src> {
     pub(crate) text: &'src str,
-    // The length of that token; `None` where no token begins there.
+    // The length of that token; `None` if no token begins there.
     pub(crate) token: Option<usize>,
     ghost some: { ForSome token (λ n. BeginsToken text.now n) },
     ghost none: { ForNone token (BeginsNoToken text.now) },

@@ -15,10 +15,10 @@ use std::vec::IntoIter;
 
 /// Takes the trailing commas out of `tokens`: each comma whose next token is `)`, `]` or `}`.
 ///
-/// Its comments stay between the same neighbours. Where no comment stands between the token before and the comma, that
-/// token gets the comma's trailing text. Else the bracket's lines begin with the comma's leading lines and the comments
-/// of its trailing text. Spans stay as they are, so tokens in order stay in order. All memory is taken first, and none where no
-/// trailing comma stands: after a refusal `tokens` is as before.
+/// Its comments stay between the same neighbours. If no comment is between the token before and the comma, that
+/// token gets the comma's trailing text. Otherwise the comma's leading lines and the comments of its trailing text are
+/// added before the bracket's lines. Spans don't change, so tokens in order stay in order. All memory is allocated first,
+/// and none if there is no trailing comma: if memory runs out, `tokens` is unchanged.
 pub fn drop_trailing_commas(
     alloc: Global,
     tokens: &mut Vec<WrappedToken<'_>>,
@@ -75,7 +75,7 @@ fn leaves(before: Option<&WrappedToken<'_>>, comma: &WrappedToken<'_>) -> bool
     }
 }
 
-// Whether `token` is a trailing comma whose comments go to the bracket behind it.
+// Whether `token` is a trailing comma whose comments go to the bracket after it.
 fn moves(
     before: Option<&WrappedToken<'_>>,
     token: &WrappedToken<'_>,
@@ -166,7 +166,7 @@ fn settle<'src>(
     }
 }
 
-// Puts the token, if there is one, behind the others. There is room for it.
+// Adds the token, if there is one, after the others. There is room for it.
 fn keep<'src>(kept: &mut Vec<WrappedToken<'src>>, token: Option<WrappedToken<'src>>)
     requires room { vec_len kept.old + length (option_to_list token) ≤ vec_capacity kept.old }
     ensures items { kept.new.items ≡ kept.old.items ++ option_to_list token.entry }
@@ -178,7 +178,7 @@ fn keep<'src>(kept: &mut Vec<WrappedToken<'src>>, token: Option<WrappedToken<'sr
     }
 }
 
-// The last token that stays, where `next` comes behind `before` if it is there.
+// The last token that stays: `next`, with `before` added to `kept`, or else `before`.
 fn pass<'src>(
     kept: &mut Vec<WrappedToken<'src>>,
     before: Option<WrappedToken<'src>>,

@@ -1,17 +1,17 @@
-//! The laws of the lexis, of the decorated list and of `==`: each says what follows from the definitions, and its body does
-//! nothing.
+//! The laws of the lexis, of the decorated list and of `==`. They only state facts about definitions, so their bodies
+//! are empty.
 ghost use Rattle.cedar_tokens.specs.Characters.{StringByCharacters};
 ghost use Rattle.cedar_tokens.specs.Equality.{CommentClonesAreEqual, CommentEqualityIsByParts, TokenClonesAreEqual, TokenEqualityIsByParts, WrappedClonesAreEqual, WrappedEqualityIsByParts};
 ghost use Rattle.cedar_tokens.specs.Listing.{ListingIsUnique};
 ghost use Rattle.cedar_tokens.specs.PlainList.{PlainListIsPlain};
 ghost use Rattle.cedar_tokens.specs.Split.{FaultIsUnique, FaultPreventsSplit, SplitIsUnique};
 
-/// A text splits into units in one way at most.
+/// A text splits into units in at most one way.
 pub fn split_is_unique()
     ensures { SplitIsUnique }
 {}
 
-/// A text has one decorated list at most.
+/// A text has at most one decorated list.
 pub fn listing_is_unique()
     ensures { ListingIsUnique }
 {}
@@ -31,7 +31,7 @@ pub fn fault_prevents_split()
     ensures { FaultPreventsSplit }
 {}
 
-/// Where no two commas stand next to each other, taking the trailing commas out twice is taking them out once.
+/// Where no two commas are next to each other, removing the trailing commas twice is the same as removing them once.
 pub fn plain_list_is_plain()
     ensures { PlainListIsPlain }
 {}

@@ -10,7 +10,7 @@ pub struct Unit<'src> {
     pub text: &'src str,
 }
 
-/// The units of a text that are still to come, up to its end or the first place where none begins.
+/// The remaining units of a text, up to its end or the first place where none begins.
 #[derive(Clone, Copy, Debug)]
 pub struct Units<'src> {
     rest: &'src str,

@@ -184,7 +184,7 @@ literals (Literal.Num s) (Literal.Num t) = one (text (bytes_decides s.now t.now)
 literals (Literal.Str s) (Literal.Str t) = one (text (bytes_decides s.now t.now))
 literals x y = no refl (differ _ _ refl)
 
--- a literal's label is no other primary's
+-- a literal's label differs from those of other primaries
 unlike : (x : Literal) {l : Label} → variant_label x ≡ l → ltb 6 (number_of l) ≡ false → ⊥
 unlike x e n = let k : true ≡ false = sym (high x) ∙ ap (λ z. ltb 6 (number_of z)) e ∙ n in cc
   where
@@ -278,7 +278,7 @@ ws_join (branch l f h) g = ap (branch l.0 (without_spans f)) (ws_join h g)
 closed : (f g : Erased) (t : List ℕ) {b : Bool} → Tells b f g → Tells b (join f (leaf t none)) (join g (leaf t none))
 closed f g t d = by refl d (λ e. ws_join f _ ∙ ap (λ z. join z (leaf t none)) e ∙ sym (ws_join g _)) (λ e. (last_same _ _ t t (sym (ws_join f _) ∙ e ∙ ws_join g _)).0)
 
--- a list whose items a row holds
+-- a list whose items are in a row
 shown : {X : Type 0} (E : X → X → Bool) {xs us ys vs : List X} {Q : Type 0} → xs ≡ us → ys ≡ vs → Decides (pointwise E us vs) Q → Decides (pointwise E xs ys) Q
 shown E e f d = at (ap₂ (pointwise E) e f) d
 

@@ -1,4 +1,4 @@
--- Errors that are want of memory, or of which something holds.
+-- Errors that are `OutOfMemory`, or of which something holds.
 use Rattle.std.specs.Prelude.{◌≢◌}
 use Rattle.std.proofs.Common.{refl}
 use Rattle.cedar_tree.specs.declared.error.FormatError.{FormatError}

@@ -1,4 +1,4 @@
--- Texts are accepted or refused, with one refusal at most.
+-- Texts are accepted or refused, with at most one refusal.
 use Rattle.std.specs.Prelude.{◌≡◌, ℕ, Bool, true, false, List, [], ◌∷◌, ◌++◌, ◌⊎◌, length}
 use Rattle.std.specs.List.{list_any, sum_by}
 use Rattle.std.proofs.Common.{refl, sym, ap, ◌∙◌, inl, inr, subst}

@@ -1,4 +1,4 @@
--- Nodes with other spans: of policies and a tree that is theirs but for spans there are policies that have that tree.
+-- Nodes with other spans: if policies have a tree up to spans, there are policies that have exactly that tree.
 use Rattle.std.specs.Prelude.{◌≡◌, ℕ, zero, suc, List, [], ◌∷◌, codes, Option, Some, None, length}
 use Rattle.std.proofs.Common.{refl, sym, ap, ◌∙◌}
 use Rattle.cedar_tokens.specs.declared.token.Span.{Span}
@@ -27,7 +27,7 @@ use Rattle.cedar_tree.specs.declared.tree.Member as Member
 use Rattle.cedar_grammar.specs.Trees.{Label, none, leaf, branch, join}
 use Rattle.cedar_tree.specs.Erased.{Erased, node, ident_tree, path_parts, name_tree, ref_tree, sign_leaves, times, expr_parts, or_parts, or_rest, and_rest, relation_parts, compare_tree, in_parts, add_parts, add_rest, mult_parts, mult_rest, unary_parts, access_trees, access_parts, expr_items, more_items, primary_parts, init_items, more_inits, value_parts, annotation_trees, type_parts, operator_parts, variable_tree, cond_trees, policy_parts, policy_trees, erase}
 
--- the same trees but for spans, where the same branches have one
+-- the same trees up to spans, where the same branches have one
 pub data Alike : Erased → Erased → Type 0 where
   no_trees : Alike none none
   a_leaf : (t : List ℕ) {f g : Erased} → Alike f g → Alike (leaf t f) (leaf t g)
@@ -274,7 +274,7 @@ conds_at (n ∷ ns) g (a_node _ s _ (a_node _ t _ (a_leaf _ no_trees) (a_leaf _ 
     let i = n.inner.cond in
     (record { inner = record { cond = record i { span = t }; expr = record { inner = e.0; span = u } }; span = s } ∷ r.0, r.1, r.2, rw (e.1, r.3) refl, ap suc r.4)
 
--- a policy behind its annotations
+-- a policy after its annotations
 abbrev behind : Node Ident → Node VariableDef → Node VariableDef → Node VariableDef → List (Node Cond) → Erased
 behind e p a r cs = ident_tree e (leaf (codes "(") (variable_tree p (leaf (codes ",") (variable_tree a (leaf (codes ",") (variable_tree r (leaf (codes ")") (cond_trees cs (leaf (codes ";") none)))))))))
 

@@ -55,7 +55,7 @@ pub or_row : (n : Count) (k : Or.Row_of-Or-extended-2 n) → or_rest k ≡ and_i
 or_row n Or.end_of-Or-extended-2 = search (rules, Or.the_lemmas)
 or_row n (Or.more_of-Or-extended-2 {n = m} r s v row t rest) = search (rules, Or.the_lemmas, and_row, or_row m rest)
 
--- an operand that a primary and what is accessed in it make
+-- an operand made from a primary and what is accessed in it
 pub view_operand : (item : Node Primary.Primary) (access : Vec (Node MemAccess.MemAccess) Global) (s : Span) (v : Vec (MultOp × Node Unary.Unary) Global) (w : Vec (AddOp × Node Mult.Mult) Global) → v.items ≡ [] → w.items ≡ []
     → add_parts (Add.roll-Add record { initial = record { inner = Mult.roll-Mult record { initial = record { inner = Unary.roll-Unary record { op = None; item = record { inner = Member.roll-Member record { item = item; access = access }; span = s } }; span = s }; extended = v }; span = s }; extended = w })
     ≡ operand_parts s item access.items
@@ -107,6 +107,6 @@ view_add first more = search (rules, Or.the_lemmas, add_row)
 pub view_mult : (first : Node Unary.Unary) (more : Vec (MultOp × Node Unary.Unary) Global) → mult_parts (Mult.roll-Mult record { initial = first; extended = more }) ≡ node Label.unary first.span (unary_parts first.inner) (mult_items more.items)
 view_mult first more = search (rules, Or.the_lemmas, mult_row)
 
--- a member behind its signs
+-- a member after its signs
 pub view_unary : (op : Option NegOp) (m : Node Member.Member) → unary_parts (Unary.roll-Unary record { op = op; item = m }) ≡ sign_leaves op (node Label.member m.span (member_parts m.inner) none)
 view_unary op m = search (rules, Or.the_lemmas, access_row)

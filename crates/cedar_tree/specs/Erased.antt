@@ -1,5 +1,5 @@
 -- The tree of each node type: its parts in order, the tokens' texts as leaves. Each node of the Rust types is a branch with its span;
--- a variant that its tokens don't tell apart is a branch without one.
+-- a variant that its tokens don't distinguish is a branch without one.
 use Rattle.std.specs.Prelude.{◌≡◌, ℕ, zero, suc, List, [], ◌∷◌, codes, Option, Some, None}
 use Rattle.cedar_tokens.specs.declared.token.Span.{Span}
 use Rattle.cedar_tree.specs.declared.tree.Node.{Node}
@@ -91,7 +91,7 @@ abbrev pub times : ℕ → List ℕ → Erased → Erased
 times zero text others = others
 times (suc n) text others = leaf text (times n text others)
 
--- so many signs; a count of none, which no text gives, is a mark of its own
+-- this many signs; a count of none, which no text gives, is a mark of its own
 abbrev pub signs_or : Label → ℕ → List ℕ → Erased → Erased
 signs_or l zero sign others = variant l none others
 signs_or l (suc n) sign others = times (suc n) sign others

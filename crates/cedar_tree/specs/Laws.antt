@@ -27,7 +27,7 @@ RefusalIsUnique = (text : List ℕ) (d e : FormatError) → Refuses text d → R
 abbrev pub TreeIsOfAccepted : Type 0
 TreeIsOfAccepted = (text : List ℕ) (p : Policies) → IsTreeOf text p → Accepted text
 
--- a text has one tree of nodes at most, spans and all
+-- a text has at most one tree of nodes, spans included
 abbrev pub TreeOfNodesIsUnique : Type 0
 TreeOfNodesIsUnique = (text : List ℕ) (p q : Policies) → IsTreeOf text p → IsTreeOf text q → erase p ≡ erase q
 

@@ -1,4 +1,4 @@
--- The trees of nodes in lists: the same as the recursive definition of the trees says of what its nodes hold.
+-- The trees of nodes in lists, matching what the recursive definition of the trees says about the contents of nodes.
 use Rattle.std.specs.Prelude.{ℕ, List, [], ◌∷◌, codes}
 use Rattle.cedar_tokens.specs.declared.token.Span.{Span}
 use Rattle.cedar_grammar.specs.Trees.{Label, none, leaf}
@@ -10,12 +10,12 @@ use Rattle.cedar_tree.specs.declared.tree.Primary as Primary
 use Rattle.cedar_tree.specs.declared.tree.RecInit as RecInit
 use Rattle.cedar_tree.specs.Erased.{Erased, node, expr_parts, relation_parts, access_parts, primary_parts}
 
--- operands behind their signs
+-- operands after their signs
 abbrev pub operand_trees : {X Y : Type 0} → Label → (X → Erased) → (Y → List ℕ) → (Y → Node X) → List Y → Erased
 operand_trees l parts sign operand [] = none
 operand_trees l parts sign operand (y ∷ ys) = leaf (sign y) (node l (operand y).span (parts (operand y).inner) (operand_trees l parts sign operand ys))
 
--- items behind their commas
+-- items after their commas
 abbrev pub more_trees : {X : Type 0} → Label → (X → Erased) → List (Node X) → Erased
 more_trees l parts [] = none
 more_trees l parts (n ∷ ns) = leaf (codes ",") (node l n.span (parts n.inner) (more_trees l parts ns))
@@ -30,7 +30,7 @@ abbrev pub access_items : List (Node MemAccess.MemAccess) → Erased
 access_items [] = none
 access_items (n ∷ ns) = node Label.access n.span (access_parts n.inner) (access_items ns)
 
--- a relation, and more behind `&&`
+-- a relation, and more after `&&`
 abbrev pub and_parts : And.And → Erased
 and_parts a = node Label.relation a.initial.span (relation_parts a.initial.inner) (operand_trees Label.relation relation_parts (λ _. codes "&&") (λ n. n) a.extended.items)
 

@@ -44,7 +44,7 @@ module _ {A : Type 0} (text : A → List ℕ) (place : A → Span) where
   spanned (leaf t f) = leaf (token_value (text t)) (spanned f)
   spanned (branch l f g) = branch (l, if is_node l then span_of (yield f) else None) (spanned f) (spanned g)
 
--- the text is accepted, and its tree without trailing commas is that of the policies, with all spans
+-- the text is accepted, and its tree without trailing commas is that of the policies, spans included
 pub record IsTreeOf (text : List ℕ) (policies : Policies) : Type 0 where
   pub units : List (List ℕ)
   pub split : SplitsInto text units

@@ -23,13 +23,13 @@ pub enum FormatError {
     /// The token that begins there is nested more than 128 deep.
     #[error("nested too deeply at byte {at}")]
     TooDeep { at: usize },
-    /// A policy gave no document.
+    /// A policy yielded no document.
     #[error("failed to produce doc")]
     NoDocument,
     /// The formatted text isn't the same policies.
     #[error("formatter changed the policies")]
     Unsound,
-    /// A growth was refused.
+    /// An allocation failed.
     #[error("out of memory")]
     OutOfMemory,
 }

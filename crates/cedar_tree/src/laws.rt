@@ -1,4 +1,4 @@
-//! Laws of accepted and refused texts, and of trees of nodes. They speak of the definitions alone, so their bodies do nothing.
+//! Laws of accepted and refused texts, and of trees of nodes. They only state facts, so their bodies are empty.
 ghost use Rattle.std.specs.Prelude.{◌↔◌, IsTrue};
 ghost use Rattle.cedar_tree.specs.declared.tree.Policies.{Policies};
 ghost use Rattle.cedar_tree.specs.Erased.{SameTree};
@@ -21,7 +21,7 @@ pub fn accepted_is_not_refused()
     fault_prevents_split();
 }
 
-/// A text has one refusal at most: one place and one kind.
+/// A text has at most one refusal: one place and one kind.
 pub fn refusal_is_unique()
     ensures { RefusalIsUnique }
 {
@@ -35,7 +35,7 @@ pub fn tree_is_of_accepted()
     ensures { TreeIsOfAccepted }
 {}
 
-/// A text has one tree of nodes at most, spans and all.
+/// A text has at most one tree of nodes, spans included.
 pub fn tree_of_nodes_is_unique()
     ensures { TreeOfNodesIsUnique }
 {
@@ -49,7 +49,7 @@ pub fn nodes_have_the_plain_texts()
     split_is_unique();
 }
 
-/// Policies have equal trees without spans exactly where they are equal by `==`: field by field but for spans.
+/// Policies have equal trees without spans exactly if they are equal by `==`, which compares all fields except spans.
 pub fn same_tree_is_by_fields()
     ensures { (a b : Policies) → SameTree a b ↔ IsTrue (⟦<Policies<'static> as PartialEq>⟧.eq a b) }
 {}

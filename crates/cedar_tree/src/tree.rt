@@ -14,7 +14,7 @@ pub struct Node<T> {
     pub span: Span,
 }
 
-/// Nodes are equal where what they hold is, wherever they stand.
+/// Nodes are equal if their contents are, wherever they are in the text.
 impl<T: PartialEq> PartialEq for Node<T> {
     ghost eq = { λ a b. T.eq a.inner b.inner };
 
@@ -129,7 +129,7 @@ pub struct Mult<'src> {
     pub extended: Vec<(MultOp, Node<Unary<'src>>)>,
 }
 
-/// A member behind its signs.
+/// A member after its signs.
 #[cycle(tree)]
 #[derive(PartialEq, Drop)]
 pub struct Unary<'src> {
@@ -154,7 +154,7 @@ pub enum MemAccess<'src> {
     Index(Node<Str<'src>>),
 }
 
-/// What members and operators are built on.
+/// What members and operators are built from.
 #[cycle(tree)]
 #[derive(PartialEq, Drop)]
 pub enum Primary<'src> {
@@ -184,7 +184,7 @@ pub enum Literal<'src> {
     Str(&'src str),
 }
 
-/// A string with its quotes, as it stands in the text.
+/// A string with its quotes, as it is in the text.
 #[derive(PartialEq, Drop)]
 pub struct Str<'src>(pub &'src str);
 
@@ -238,7 +238,7 @@ pub enum MultOp {
     Times,
 }
 
-/// How many `!` or `-` stand before a member, one to four.
+/// How many `!` or `-` precede a member, one to four.
 #[derive(Clone, Copy, Debug, PartialEq, Eq)]
 pub enum NegOp {
     Bang(u8),

@@ -1,4 +1,4 @@
--- Where and why a list of tokens, and a text, are not in the grammar, as the reader of rules tells it.
+-- Where and why a list of tokens or a text is not in the grammar, in terms of the reader of rules.
 use Rattle.std.specs.Prelude.{◌≡◌, ◌↔◌, ℕ, Bool, true, false, IsTrue, List, [], ◌∷◌, ◌++◌, ◌⊎◌, length}
 use Rattle.std.specs.List.{list_any, sum_by}
 use Rattle.cedar_tokens.specs.Units.{is_token}
@@ -25,13 +25,13 @@ module _ {A : Type 0} (kind : A → Kind) where
     pub through : ¬ (BeginsByKinds d (front ++ (at ∷ [])))
     pub kind_is : IsTrue deep ↔ ((e : ℕ) × BeginsByKinds e (front ++ (at ∷ [])))
 
-  -- a list of the grammar begins with all the tokens, but they are none
+  -- the tokens begin a list of the grammar but aren't one
   pub record Unfinished (d : ℕ) (tokens : List A) : Type 0 where
     pub before : BeginsByKinds d tokens
     pub not_whole : (tree : Forest Label A) → ¬ (G kind d tree tokens)
 
 -- the text splits, its numbers fit, and `at` is where its first token begins through which no list of the grammar begins:
--- behind the units before it
+-- after the units before it
 pub record IsHopeless (text : List ℕ) (at : ℕ) (deep : Bool) : Type 0 where
   pub before : List (List ℕ)
   pub token : List ℕ
@@ -49,6 +49,6 @@ pub record IsUnfinished (text : List ℕ) : Type 0 where
   pub fitting : list_any is_too_large units ≡ false
   pub unfinished : Unfinished kind_of greatest_depth (only_tokens units)
 
--- a text whose numbers fit is not in the grammar: from this byte on, and whether only by its depth; an unfinished one at its length
+-- a text whose numbers fit leaves the grammar at this byte, deep if only by its depth; an unfinished one at its length
 abbrev pub IsRefused : List ℕ → ℕ → Bool → Type 0
 IsRefused text at deep = IsHopeless text at deep ⊎ (IsUnfinished text × (at ≡ length text) × (deep ≡ false))

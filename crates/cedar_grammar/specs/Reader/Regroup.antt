@@ -19,7 +19,7 @@ text_first none = false
 text_first (leaf a f) = false
 text_first (branch l f g) = is_text l
 
--- The identifiers and marks that were read, and what follows them: with a string an entity, with a call or nothing a name.
+-- The identifiers and marks read, and what follows them: with a string an entity, with a call or nothing a name.
 abbrev pub gather : {A : Type 0} → Forest Label A → Forest Label A → Forest Label A
 gather read none = branch primary (branch name read none) none
 gather read (leaf a f) = pick (text_first f) (branch primary (branch ref (branch name read (leaf a f)) none) none) (gather (join read (leaf a none)) f)

@@ -26,7 +26,7 @@ pub data Rule : Type 0 where
 abbrev pub expr_first : Kind → Bool
 expr_first x = is K.If x || is K.Neg x || is K.Dash x || is K.True x || is K.False x || is K.Number x || is K.Str x || is_ident x || is K.LParen x || is K.LBracket x || is K.LBrace x
 
--- the empty list is one of the rule
+-- the rule contains the empty list
 abbrev pub nullable : Rule → Bool
 nullable never = false
 nullable empty = true
@@ -68,7 +68,7 @@ module _ {A : Type 0} where
   shaped_at P ts = after (P ts) (λ f r. done (gather none f) r)
 
 module _ {A : Type 0} (kind : A → Kind) where
-  -- S then X and so on, or S then Y; or else Z
+  -- S followed by X and so on, or S followed by Y; or else Z
   abbrev pub tail_to : Kind → (Kind → Bool) → Reader A → Reader A → Reader A → ℕ → Reader A
   tail_to s u X Y Z zero ts = Z ts
   tail_to s u X Y Z (suc n) ts = choice (begins kind (is s) ts) (both (one kind s) (λ rs. choice (begins kind u rs) (both X (tail_to s u X Y Z n)) Y rs)) Z ts
@@ -79,7 +79,7 @@ module _ {A : Type 0} (kind : A → Kind) where
   abbrev pub nested_at : Bool → Kind → Reader A → Reader A
   nested_at room k P ts = choice (begins kind (is k) ts) (nest room (both (one kind k) P)) refuse ts
 
-  -- what reads the rule, where room says whether a bracket or an if may stand there, and E reads what may stand in it
+  -- what reads the rule, where room says whether a bracket or an if is allowed, and E reads what it may contain
   abbrev pub read : Bool → Reader A → Rule → Reader A
   read room E never = refuse
   read room E empty = skip

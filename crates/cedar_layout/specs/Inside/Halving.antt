@@ -1,4 +1,4 @@
--- The search for a token by its edges. It stands in no public contract.
+-- The search for a token by its edges. No public contract uses it.
 use Rattle.std.specs.Prelude.{ℕ, Bool}
 use Rattle.cedar_tokens.specs.declared.token.Span.{Span}
 use Rattle.cedar_layout.specs.Lookups.{Shown, starts_at, ends_at, starts_from}
@@ -12,7 +12,7 @@ abbrev pub edge_of : Edge → Span → ℕ
 edge_of Start s = s.start
 edge_of End s = s.end
 
--- the token is the sought one, or of several the first is
+-- the token is the one looked for, or the first of several
 abbrev pub is_sought : Sought → Shown → Bool
 is_sought (StartsAt p) = starts_at p
 is_sought (EndsAt p) = ends_at p

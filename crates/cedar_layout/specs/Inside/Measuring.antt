@@ -1,4 +1,4 @@
--- The measuring pass. It stands in no public contract.
+-- The measuring pass. No public contract uses it.
 use Rattle.std.specs.Prelude.{ℕ, ◌+◌, ◌*◌, ◌||◌, List, [], ◌∷◌, ◌++◌, map, reverse, sum, sum_by}
 use Rattle.cedar_layout.specs.declared.layout.Document.{Document}
 use Rattle.cedar_layout.specs.declared.layout.measure.Note.{Note}
@@ -33,7 +33,7 @@ measured d m = record {
   tail = capped (tail_then (atoms d) m.tail);
 }
 
--- a group's note, from what is known at its start and was known at its end
+-- a group's note, from what is known at its start and what was known at its end
 abbrev pub note_of : Measures → Measures → Note
 note_of start end = record { has_hard = start.has_hard; columns = capped (start.columns + end.tail) }
 
@@ -71,7 +71,7 @@ abbrev pub nodes_of_item : Pending → ℕ
 nodes_of_item (Take d) = nodes d.now
 nodes_of_item (Leave m) = 0
 
--- how many nodes are still to be taken up
+-- how many nodes are still to be processed
 abbrev pub nodes_to_take : List Pending → ℕ
 nodes_to_take ps = sum_by nodes_of_item ps
 
@@ -79,6 +79,6 @@ abbrev pub turns_of_item : Pending → ℕ
 turns_of_item (Take d) = 2 * nodes d.now
 turns_of_item (Leave m) = 1
 
--- at most how many turns of the loop are left
+-- an upper bound on the remaining turns of the loop
 abbrev pub turns : List Pending → ℕ
 turns ps = sum_by turns_of_item ps

@@ -1,4 +1,4 @@
--- The printing pass, over a stack of documents. It stands in no public contract.
+-- The printing pass, over a stack of documents. No public contract uses it.
 use Rattle.std.specs.Prelude.{◌≡◌, ℕ, Bool, List, [], ◌∷◌, ◌++◌, map, sum_by}
 use Rattle.cedar_layout.specs.declared.layout.measure.Note.{Note}
 use Rattle.cedar_layout.specs.declared.layout.print.Pending.{Pending}

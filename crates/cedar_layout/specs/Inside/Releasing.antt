@@ -1,4 +1,4 @@
--- Letting documents go. It stands in no public contract.
+-- Dropping documents. No public contract uses it.
 use Rattle.std.specs.Prelude.{ℕ, ◌+◌, ◌-◌, ◌*◌, List, [], ◌∷◌, map}
 use Rattle.cedar_layout.specs.declared.layout.Document.{Document}
 use Rattle.cedar_layout.specs.declared.layout.Document.TheOpen.{Document-F, Nil, Text, Line, LineOrNil, Hard, Seq, Nest, Group}
@@ -19,15 +19,15 @@ nested_step (Seq v) = 1 + first_of v.items
 nested_step (Nest n b) = 0
 nested_step (Group b) = 0
 
--- how many sequences begin with one another
+-- how deep sequences nest at the first item of each
 abbrev pub nested : Document → ℕ
 nested = fold-Document ℕ nested_step
 
--- the same of the first document
+-- the same for the first document
 abbrev pub nested_first : List Document → ℕ
 nested_first ds = first_of (map nested ds)
 
--- More than the documents that are still taken up: twice their nodes, without the first sequences that begin with one
--- another, since no list is put in front of them again.
+-- More than the documents that are still processed: twice their nodes, without the sequences nested at the first item of
+-- each, since no list is added before them again.
 abbrev pub work : List Document → ℕ
 work ds = 2 * nodes_of_all ds - nested_first ds

@@ -4,7 +4,7 @@ ghost use Rattle.cedar_tokens.specs.Bytes.{line_feed, space_character};
 
 use std::alloc::AllocError;
 
-/// Appends a line feed and the spaces of an indentation. Memory is asked for before any is written.
+/// Appends a line feed and the spaces of an indentation. Reserves memory before writing anything.
 pub fn write_break(out: &mut String, indent: usize) -> Result<(), AllocError>
     ensures ok { OnOk result (string_bytes out.new ≡ string_bytes out.old ++ line_feed ∷ replicate indent space_character) }
     ensures kept { take (length (string_bytes out.old)) (string_bytes out.new) ≡ string_bytes out.old }

@@ -6,14 +6,14 @@ ghost use Rattle.cedar_layout.specs.Layout.{columns};
 
 use unicode_width::UnicodeWidthStr;
 
-// Whether each byte is a printable character of ASCII.
+// Whether each byte is printable ASCII.
 fn all_printable(bytes: &[u8]) -> bool
     ensures { result ≡ list_all (is_in_range 0x20 0x7E) bytes.now }
 {
     bytes.iter().all(|byte| b' ' <= *byte && *byte <= b'~')
 }
 
-/// The columns of a text. Printable ASCII takes one for each byte, so no character of it is looked up.
+/// The columns of a text. Printable ASCII takes one column per byte, so its characters need no lookup.
 pub fn columns_of(text: &str) -> u128
     ensures value { result ≡ columns text.now }
     ensures range { result < 2 ^ 64 }

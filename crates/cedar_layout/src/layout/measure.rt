@@ -1,4 +1,4 @@
-//! The first pass over a document, from its last node to its first: what the second one has to know of each group.
+//! The first pass over a document, from its last node to its first. It finds what the second one needs about each group.
 ghost use Rattle.std.specs.Prelude.{◌≡◌, ◌+◌, ◌*◌, ◌≤◌, ◌∷◌, IfOk, OnOk};
 ghost use Rattle.cedar_layout.specs.Inside.Measuring.{all_notes, measured, note_of, before_group, whole, items_of, notes_to_come, nodes_to_take, turns};
 ghost use Rattle.cedar_layout.specs.Nodes.{nodes};
@@ -9,7 +9,7 @@ use crate::layout::{Document, Steps};
 use std::alloc::{AllocError, Global};
 use std::sync::ledger::Ledger;
 
-/// What is known of a group before it is printed.
+/// What is known about a group before it is printed.
 #[derive(Clone, Copy)]
 pub(crate) struct Note {
     /// Whether it holds a `Hard`.
@@ -18,23 +18,23 @@ pub(crate) struct Note {
     pub columns: u128,
 }
 
-/// What is known at a place of what stands behind it.
+/// What is known at a place about what follows it.
 #[derive(Clone, Copy)]
 pub(crate) struct Measures {
     /// Whether there is a `Hard` from here to the end of the group.
     pub has_hard: bool,
     /// The flat columns from here to the end of the group.
     pub columns: u128,
-    /// The columns of the texts from here to the first break, or to the end of the document.
+    /// The columns of the texts from here to the first break or the end of the document.
     pub tail: u128,
 }
 
 /// What is still to be done.
 #[derive(Clone, Copy)]
 pub(crate) enum Pending<'a, 'src> {
-    /// A document is measured.
+    /// A document to measure.
     Take(&'a Document<'src>),
-    /// A group is left at its start. With it stands what was known at its end.
+    /// The start of a group, with what was known at its end.
     Leave(Measures),
 }
 
@@ -72,7 +72,7 @@ pub(crate) fn measure<L: Ledger>(
     Ok(notes)
 }
 
-/// The note of a group, from what is known at its start and was known at its end.
+/// The note of a group, from what is known at its start and what was known at its end.
 fn group_note(start: Measures, end: Measures) -> Note
     ensures { result ≡ note_of start end }
 {
@@ -93,7 +93,7 @@ fn leave(start: Measures, end: Measures) -> Measures
     }
 }
 
-/// Measures a document that holds no others, or puts those that it holds on the stack, the last one on top.
+/// Measures a document that contains no others, or pushes those that it contains on the stack, the last one on top.
 fn take_up<'a, 'src>(
     doc: &'a Document<'src>,
     known: Measures,

@@ -1,4 +1,4 @@
-//! The second pass over a document: it prints, from the first node to the last, by the notes of the first pass.
+//! The second pass over a document. It prints from the first node to the last, using the notes of the first pass.
 ghost use Rattle.std.specs.Prelude.{◌≡◌, ℕ, ◌+◌, ◌≤◌, ◌<◌, ◌||◌, ◌&&◌, false, not, nat_le, List, [], ◌∷◌, ◌++◌, length, take, string_bytes, vec_len, IfOk, OnOk, OnErr};
 ghost use Rattle.std.specs.List.{flat_map};
 ghost use Rattle.cedar_layout.specs.declared.layout.measure.Note.{Note};
@@ -20,7 +20,7 @@ use std::sync::ledger::Ledger;
 #[derive(Clone, Copy)]
 pub(crate) struct Pending<'a, 'src> {
     pub doc: &'a Document<'src>,
-    /// Whether it stands in a flat group.
+    /// Whether it is in a flat group.
     pub flat: bool,
     /// The indentation of its breaks.
     pub indent: usize,
@@ -56,8 +56,8 @@ pub(crate) fn print_document<L: Ledger>(
     Ok(())
 }
 
-/// Prints a document that holds no others, or puts those that it holds on the stack, the first one on top. Says the
-/// column after it.
+/// Prints a document that contains no others, or pushes those that it contains on the stack, the first one on top. Returns
+/// the column after it.
 fn take_up<'a, 'src>(
     next: Pending<'a, 'src>,
     width: usize,
@@ -122,7 +122,7 @@ fn take_up<'a, 'src>(
     }
 }
 
-/// Puts the documents of a sequence on the stack, the first one on top.
+/// Pushes the documents of a sequence on the stack, the first one on top.
 fn push_all<'a, 'src>(
     docs: &'a [Document<'src>],
     flat: bool,
@@ -142,7 +142,7 @@ fn push_all<'a, 'src>(
     Ok(())
 }
 
-/// Takes the last note, and says whether its group is laid flat at a column.
+/// Takes the last note, and returns whether its group is laid out flat at a column.
 fn is_flat(flat: bool, width: usize, column: u128, notes: &mut Vec<Note>) -> bool
     requires { 0 < vec_len notes.old }
     ensures { (ns : List Note) (n : Note) → notes.old.items ≡ ns ++ n ∷ [] →

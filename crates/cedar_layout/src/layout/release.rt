@@ -1,12 +1,12 @@
-//! Letting documents go. A derived drop calls itself once for each level and runs out of stack on deep documents. Here
-//! the sequences' own vectors are the stack, so no memory is asked for.
+//! Dropping documents. A derived drop recurses once per level and overflows the stack on deep documents. Here the vectors
+//! of the sequences serve as the stack, so nothing is allocated.
 ghost use Rattle.std.specs.Prelude.{◌≡◌, ◌+◌, ◌≤◌, ◌<◌, [], ◌∷◌, ◌++◌, vec_len};
 ghost use Rattle.std.specs.Vec.{vec_capacity};
 ghost use Rattle.cedar_layout.specs.Inside.Releasing.{work};
 
 use crate::layout::Document;
 
-/// Lets documents go, the last one first.
+/// Drops documents, the last one first.
 pub(crate) fn release_all(mut docs: Vec<Document<'_>>) {
     while let Some(doc) = docs.pop() {
         docs = doc.released(docs);
@@ -15,7 +15,7 @@ pub(crate) fn release_all(mut docs: Vec<Document<'_>>) {
 }
 
 impl<'src> Document<'src> {
-    /// The documents that are left where this one goes: `docs`, which have room for one more, and those that it holds.
+    /// The documents that remain when this one is dropped: `docs`, which have room for one more, and those that it contains.
     fn released(self, mut docs: Vec<Document<'src>>) -> Vec<Document<'src>>
         requires { vec_len docs < vec_capacity docs }
         ensures { work result.items + 1 ≤ work (docs.entry.items ++ self.entry ∷ []) }
@@ -39,7 +39,7 @@ impl<'src> Document<'src> {
     }
 }
 
-/// Both lists in one: `docs` with one of `more` in its room, as the first of the others.
+/// Both lists in one: `docs`, with one item of `more` added, as the first item of the others.
 fn joined<'src>(mut docs: Vec<Document<'src>>, mut more: Vec<Document<'src>>) -> Vec<Document<'src>>
     requires { vec_len docs < vec_capacity docs }
     ensures { work result.items + 1 ≤ work (docs.entry.items ++ Document.Seq more.entry ∷ []) }
@@ -63,7 +63,7 @@ fn joined<'src>(mut docs: Vec<Document<'src>>, mut more: Vec<Document<'src>>) ->
     }
 }
 
-/// Puts a document in the room that there is.
+/// Adds a document within the existing capacity.
 fn put<'src>(docs: &mut Vec<Document<'src>>, doc: Document<'src>)
     requires { vec_len docs.old < vec_capacity docs.old }
     ensures { docs.new.items ≡ docs.old.items ++ doc.entry ∷ [] }

@@ -4,8 +4,8 @@ ghost use Rattle.std.specs.Prelude.{◌≡◌, ℕ, ◌+◌, ◌<◌};
 use std::marker::Model;
 use std::sync::ledger::{Blank, Book, Ledger, Share};
 
-/// How many steps were taken: a whole number without bound that contracts alone see. It takes no bytes, and only
-/// `tick` changes it.
+/// How many steps were taken: an unbounded whole number that only contracts see. It takes no bytes, and only `tick`
+/// changes it.
 ///
 /// A function that counts begins with none, from a blank page of a ledger that its caller chooses:
 ///

@@ -1,4 +1,4 @@
-//! Taking blank lines away from a text, but not from its strings and comments.
+//! Removing blank lines from a text, but not from its strings and comments.
 ghost use Rattle.std.specs.Prelude.{◌≡◌, ◌+◌, ◌<◌, ◌≤◌, ◌==◌, ◌++◌, List, ℕ, drop, length, string_bytes, IfOk, OnOk, IfSome};
 ghost use Rattle.std.specs.Char.{is_whitespace};
 ghost use Rattle.std.specs.List.{list_all, position};
@@ -12,7 +12,7 @@ use cedar_tokens::lexer::{UnitKind, first_unit};
 use cedar_tokens::token::Span;
 use std::alloc::{AllocError, Global};
 
-/// The leftmost comment of `text` that starts at or after `from`. Strings are not looked at. It takes no memory.
+/// The leftmost comment of `text` that starts at or after `from`. Ignores strings. Allocates nothing.
 pub fn find_comment_at(text: &str, from: usize) -> Option<Span>
     ensures place { FindsFirst IsComment text.now from result }
     ensures boundary { IfSome result (λ s. IsCharBoundary text.now s.start × IsCharBoundary text.now s.end) }
@@ -20,7 +20,7 @@ pub fn find_comment_at(text: &str, from: usize) -> Option<Span>
     find(Sought::Comment, text, from)
 }
 
-/// The leftmost string of `text` that starts at or after `from`. Comments are not looked at. It takes no memory.
+/// The leftmost string of `text` that starts at or after `from`. Ignores comments. Allocates nothing.
 pub fn find_string_at(text: &str, from: usize) -> Option<Span>
     ensures place { FindsFirst IsString text.now from result }
     ensures boundary { IfSome result (λ s. IsCharBoundary text.now s.start × IsCharBoundary text.now s.end) }
@@ -30,8 +30,8 @@ pub fn find_string_at(text: &str, from: usize) -> Option<Span>
 
 /// The text without blank lines and without blanks at its ends.
 ///
-/// The text is cut at its strings and comments, from the left; these stay as they are. Of each piece between them the lines
-/// that end in a line feed and have blanks alone are taken away, but for the piece's first line.
+/// The text is cut at its strings and comments, from the left, and these stay as they are. From each piece between them the
+/// lines that end in a line feed and are otherwise blank are removed, except the piece's first line.
 pub fn remove_empty_lines(alloc: Global, text: &str) -> Result<String, AllocError>
     ensures { IfOk result (λ s. IsCleaned text.now (string_bytes s)) }
 {
@@ -143,7 +143,7 @@ fn push_piece(out: &mut String, piece: &str) -> Result<(), AllocError>
     Ok(())
 }
 
-/// The first line, with its line feed, and what is behind it.
+/// The first line, with its line feed, and what follows it.
 fn split_line(text: &str) -> (&str, &str)
     ensures line { IsFirstLine text.now result.0.now result.1.now }
     ensures shorter { 0 < length text.now → length result.1.now < length text.now }
@@ -160,7 +160,7 @@ fn line_feed_at(bytes: &[u8]) -> Option<usize>
     bytes.iter().position(|byte| *byte == b'\n')
 }
 
-/// Whether the line ends in a line feed and has blanks alone.
+/// Whether the line ends in a line feed and is otherwise only blanks.
 fn is_blank_line(line: &str) -> bool
     ensures { result ≡ is_blank_line line.now }
 {

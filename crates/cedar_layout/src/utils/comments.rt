@@ -9,7 +9,7 @@ use crate::layout::Document;
 use cedar_tokens::token::Comment;
 use std::alloc::{AllocError, Global};
 
-/// The leading lines, each after a break, and a break after the last; nothing where there are none.
+/// The leading lines, each after a break, and a break after the last; nothing if there are none.
 pub fn get_leading_comment_doc_from_str<'src>(
     alloc: Global,
     leading: &[&'src str],
@@ -28,7 +28,7 @@ pub fn get_leading_comment_doc_from_str<'src>(
     Ok(Document::Seq(docs))
 }
 
-/// A space, the trailing text and a break; `next_doc` where the text is empty.
+/// A space, the trailing text and a break; `next_doc` if the text is empty.
 pub fn get_trailing_comment_doc_from_str<'src>(
     alloc: Global,
     trailing: &'src str,
@@ -58,12 +58,12 @@ pub fn add_comment<'src>(
 {
     let leading = get_leading_comment_doc_from_str(alloc, comment.leading_comment())?;
     let trailing = get_trailing_comment_doc_from_str(alloc, comment.trailing_comment(), next_doc)?;
-    // (where there is no comment, this is `d` alone)
+    // (without a comment, this is `d` alone)
     let led = leading.append(alloc, d)?;
     led.append(alloc, trailing)
 }
 
-/// `leftp`, `d` with its breaks indented by `offset` columns more, and `rightp`.
+/// `leftp`, `d` with its breaks indented by `offset` more columns, and `rightp`.
 pub fn add_brackets<'src>(
     alloc: Global,
     d: Document<'src>,

@@ -1,4 +1,4 @@
-//! Which token stands where, and its comment moved out. Tokens are found by halving.
+//! Finds tokens by place with binary search, and moves their comments out.
 ghost use Rattle.std.specs.Prelude.{◌≡◌, ◌+◌, ◌<◌, ◌≤◌, ◌^◌, ◌==◌, ◌↔◌, nat_le, ℕ, map, length, IsTrue, IfOk, OnErr};
 ghost use Rattle.std.specs.List.{position, position_or_len, prefix_len};
 ghost use Rattle.cedar_tokens.specs.Places.{InOrderFrom};
@@ -11,7 +11,7 @@ use std::alloc::{AllocError, Global};
 use std::marker::Brand;
 use std::sync::ledger::{Blank, Ledger};
 
-/// Whether the tokens' spans are nonempty, in order and disjoint, as the lookups ask. It takes no memory.
+/// Whether the tokens' spans are nonempty, in order and disjoint, as the lookups require. Allocates nothing.
 pub fn in_order(tokens: &[WrappedToken<'_>]) -> bool
     ensures { IsTrue result ↔ AreInOrder tokens.now }
 {
@@ -26,8 +26,8 @@ pub fn in_order(tokens: &[WrappedToken<'_>]) -> bool
     true
 }
 
-/// The comment of the token that starts at `span.start`; `None` where none does. The token's comment is empty afterwards.
-/// It takes no memory.
+/// Takes the comment of the token that starts at `span.start` and leaves it empty; `None` if no token starts there.
+/// Allocates nothing.
 pub fn get_comment_at_start<'src>(
     span: Span,
     tokens: &mut [WrappedToken<'src>],
@@ -53,8 +53,8 @@ pub fn get_comment_at_start_counted<'src, L: Ledger>(
     take_comment(Sought::StartsAt(span.start), tokens, steps)
 }
 
-/// The leading lines of the token that starts at `span.start`; `None` where none does. The token has no leading lines
-/// afterwards. It takes no memory.
+/// Takes the leading lines of the token that starts at `span.start` and leaves none; `None` if no token starts there.
+/// Allocates nothing.
 pub fn get_leading_comment_at_start<'src>(
     span: Span,
     tokens: &mut [WrappedToken<'src>],
@@ -81,8 +81,8 @@ pub fn get_leading_comment_at_start_counted<'src, L: Ledger>(
     Some(tokens[place].consume_leading_comment())
 }
 
-/// The comment of the token that ends at `span.end`; `None` where none does. The token's comment is empty afterwards. It
-/// takes no memory.
+/// Takes the comment of the token that ends at `span.end` and leaves it empty; `None` if no token ends there.
+/// Allocates nothing.
 pub fn get_comment_at_end<'src>(
     span: Span,
     tokens: &mut [WrappedToken<'src>],
@@ -108,8 +108,8 @@ pub fn get_comment_at_end_counted<'src, L: Ledger>(
     take_comment(Sought::EndsAt(span.end), tokens, steps)
 }
 
-/// The comment of the first token that starts at or after `span.end`; `None` where none does. The token's comment is empty
-/// afterwards. It takes no memory.
+/// Takes the comment of the first token that starts at or after `span.end` and leaves it empty; `None` if there is none.
+/// Allocates nothing.
 pub fn get_comment_after_end<'src>(
     span: Span,
     tokens: &mut [WrappedToken<'src>],
@@ -135,8 +135,8 @@ pub fn get_comment_after_end_counted<'src, L: Ledger>(
     take_comment(Sought::StartsFrom(span.end), tokens, steps)
 }
 
-/// The comments of the tokens that start at or after `span.start` and end at or before `span.end`, in order. Their
-/// comments are empty afterwards. Where memory is refused, nothing has changed.
+/// Takes the comments of the tokens that start at or after `span.start` and end at or before `span.end`, in order, and
+/// leaves them empty. If memory runs out, nothing has changed.
 pub fn get_comment_in_range<'src>(
     alloc: Global,
     span: Span,
@@ -174,7 +174,7 @@ pub fn get_comment_in_range_counted<'src, L: Ledger>(
 enum Sought {
     StartsAt(usize),
     EndsAt(usize),
-    /// The first that starts there or behind.
+    /// The first that starts there or later.
     StartsFrom(usize),
 }
 
@@ -223,7 +223,7 @@ fn count_before<L: Ledger>(
     low
 }
 
-/// The place of the first token with this edge at `at` or behind it.
+/// The place of the first token with this edge at or after `at`.
 fn find_from<L: Ledger>(
     edge: Edge,
     at: usize,
@@ -264,7 +264,7 @@ fn find_at<L: Ledger>(
     }
 }
 
-/// The place of the sought token.
+/// The place of the token looked for.
 fn find<L: Ledger>(
     sought: Sought,
     tokens: &[WrappedToken<'_>],
@@ -295,7 +295,7 @@ fn take_comment<'src, L: Ledger>(
     Some(tokens[place].consume_comment())
 }
 
-/// The comments of the tokens in the span, where `first` is the place of the first that starts in it or behind it.
+/// The comments of the tokens in the span, where `first` is the place of the first that starts in or after it.
 fn take_from<'src>(
     alloc: Global,
     first: Option<usize>,
@@ -315,7 +315,7 @@ fn take_from<'src>(
     }
 }
 
-/// The comments of the tokens in the span, where none starts before it.
+/// The comments of the tokens in the span, if none starts before it.
 fn take_until<'src>(
     alloc: Global,
     span: Span,
@@ -357,7 +357,7 @@ fn take_all<'src>(
     Ok(comments)
 }
 
-// The same as `get_comment_at_start`, with steps that nobody reads.
+// The same as `get_comment_at_start`, discarding the step count.
 fn comment_at_start_afresh<'src, L: Ledger>(
     span: Span,
     tokens: &mut [WrappedToken<'src>],
@@ -374,7 +374,7 @@ fn comment_at_start_afresh<'src, L: Ledger>(
     get_comment_at_start_counted(span, tokens, &mut steps)
 }
 
-// The same as `get_leading_comment_at_start`, with steps that nobody reads.
+// The same as `get_leading_comment_at_start`, discarding the step count.
 fn leading_comment_at_start_afresh<'src, L: Ledger>(
     span: Span,
     tokens: &mut [WrappedToken<'src>],
@@ -391,7 +391,7 @@ fn leading_comment_at_start_afresh<'src, L: Ledger>(
     get_leading_comment_at_start_counted(span, tokens, &mut steps)
 }
 
-// The same as `get_comment_at_end`, with steps that nobody reads.
+// The same as `get_comment_at_end`, discarding the step count.
 fn comment_at_end_afresh<'src, L: Ledger>(
     span: Span,
     tokens: &mut [WrappedToken<'src>],
@@ -408,7 +408,7 @@ fn comment_at_end_afresh<'src, L: Ledger>(
     get_comment_at_end_counted(span, tokens, &mut steps)
 }
 
-// The same as `get_comment_after_end`, with steps that nobody reads.
+// The same as `get_comment_after_end`, discarding the step count.
 fn comment_after_end_afresh<'src, L: Ledger>(
     span: Span,
     tokens: &mut [WrappedToken<'src>],
@@ -425,7 +425,7 @@ fn comment_after_end_afresh<'src, L: Ledger>(
     get_comment_after_end_counted(span, tokens, &mut steps)
 }
 
-// The same as `get_comment_in_range`, with steps that nobody reads.
+// The same as `get_comment_in_range`, discarding the step count.
 fn comment_in_range_afresh<'src, L: Ledger>(
     alloc: Global,
     span: Span,

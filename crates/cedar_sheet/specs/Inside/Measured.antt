@@ -1,10 +1,10 @@
--- The measuring pass, from the last mark to the first. It stands in no public contract.
+-- The measuring pass, from the last mark to the first. No public contract uses it.
 use Rattle.std.specs.Prelude.{ℕ, ◌+◌, ◌^◌, List, [], ◌∷◌, reverse}
 use Rattle.cedar_layout.specs.Layout.{columns}
 use Rattle.cedar_sheet.specs.declared.layout.measure.Known.{Known}
 use Rattle.cedar_sheet.specs.Marks.{Sign, text_mark, line_mark, line_or_nil_mark, hard_mark, nest_mark, group_mark, end_mark}
 
--- what is known at a mark of the marks from there on: the next end, and the next note, come first
+-- what is known at a mark about the marks from there on: the next end, and the next note, come first
 pub record Facts : Type 0 where
   pub columns : ℕ
   pub stop : ℕ
@@ -19,7 +19,7 @@ abbrev pub others : List ℕ → List ℕ
 others [] = []
 others (n ∷ ns) = ns
 
--- a break that takes so many columns where it is laid flat
+-- a break that takes this many columns where it is laid out flat
 abbrev pub before_break : ℕ → Facts → Facts
 before_break n k = record { columns = n + k.columns; stop = n + k.columns; ends = k.ends; notes = k.columns ∷ k.notes }
 

@@ -1,4 +1,4 @@
--- The printing pass, from the first mark to the last. It stands in no public contract.
+-- The printing pass, from the first mark to the last. No public contract uses it.
 use Rattle.std.specs.Prelude.{ℕ, ◌+◌, ◌-◌, false, ◌||◌, nat_le, if◌then◌else◌, List, [], ◌∷◌, ◌++◌, reverse}
 use Rattle.cedar_layout.specs.Layout.{Piece, flat_space, flat_nothing, broken, indented}
 use Rattle.cedar_layout.specs.Layout as layout
@@ -8,7 +8,7 @@ use Rattle.cedar_sheet.specs.declared.layout.print.Place.{Place}
 use Rattle.cedar_sheet.specs.Marks.{Sign, text_mark, line_mark, line_or_nil_mark, hard_mark, nest_mark, group_mark, end_mark}
 use Rattle.cedar_sheet.specs.Inside.Measured.{Facts, first_of, others}
 
--- where printing stands: the nearest frame, and the next note, come first
+-- the state of printing: the nearest frame, and the next note, come first
 pub record State : Type 0 where
   pub here : Frame
   pub outer : List Frame
@@ -42,7 +42,7 @@ after_line p = record { here = p.here; outer = p.outer; notes = others p.notes; 
 abbrev pub inside : Frame → State → State
 inside f p = record { here = f; outer = p.here ∷ p.outer; notes = p.notes; start = p.start }
 
--- where printing stands after a mark
+-- the state of printing after a mark
 abbrev pub after : ℕ → Sign → State → State
 after w (text_mark s) p = p
 after w line_mark p = after_line p
@@ -65,6 +65,6 @@ printed w (m ∷ ms) p = pieces_of m p.here ++ printed w ms (after w m p)
 abbrev pub state_of : Place → State
 state_of p = record { here = p.here; outer = reverse p.outer.items; notes = reverse p.known.notes.items; start = p.start }
 
--- where printing stands at the first mark
+-- the state of printing at the first mark
 abbrev pub at_first : Facts → State
 at_first k = record { here = record { flat = false; indent = 0 }; outer = []; notes = k.notes; start = k.columns }

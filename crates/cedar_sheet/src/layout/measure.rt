@@ -1,4 +1,4 @@
-//! The first pass over a sheet, from its last mark to its first: what the second one has to know of groups and breaks.
+//! The first pass over a sheet, from its last mark to its first. It finds what the second one needs about groups and breaks.
 ghost use Rattle.std.specs.Prelude.{◌≡◌, ◌+◌, ◌^◌, ◌<◌, ◌≤◌, [], OnOk};
 ghost use Rattle.cedar_sheet.specs.Signs.{sign_of, signs_of};
 ghost use Rattle.cedar_sheet.specs.Inside.Measured.{before, before_break, facts, facts_of};
@@ -7,19 +7,19 @@ use crate::sheet::Mark;
 use cedar_layout::layout::columns::columns_of;
 use std::alloc::{AllocError, Global};
 
-/// The columns of a hard break in a group that is laid flat: more than every width, so that the group is broken.
+/// The columns of a hard break in a group that is laid out flat: more than any width, so that the group is broken.
 const TOO_WIDE: u128 = 1 << 64;
 
-/// What is known at a mark of the marks from there on.
+/// What is known at a mark about the marks from there on.
 #[derive(Drop)]
 pub(crate) struct Known {
-    /// Their columns, all laid flat.
+    /// Their columns, all laid out flat.
     pub columns: u128,
     /// The columns of those from the next break on.
     pub stop: u128,
-    /// For each end of a group or a nest that begins before: the columns from the next break after that end on.
+    /// For each end of a group or a nest that began earlier: the columns from the next break after that end on.
     pub ends: Vec<u128>,
-    /// Of each break the columns after it, and of each group the columns from the next break after its end on. The last
+    /// For each break the columns after it, and for each group the columns from the next break after its end on. The last
     /// one is that of the first mark.
     pub notes: Vec<u128>,
 }
@@ -80,7 +80,7 @@ impl Known {
         Ok(())
     }
 
-    /// Goes on to what is known before a break that takes so many columns where it is laid flat.
+    /// Goes on to what is known before a break that takes this many columns where it is laid out flat.
     fn break_before(&mut self, columns: u128) -> Result<(), AllocError>
         requires { self.old.columns + columns < 2 ^ 128 }
         ensures facts { OnOk result (facts_of self.new ≡ before_break columns (facts_of self.old)) }

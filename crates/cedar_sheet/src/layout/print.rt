@@ -1,4 +1,4 @@
-//! The second pass over a sheet: it prints, from the first mark to the last, by what the first pass knows.
+//! The second pass over a sheet. It prints from the first mark to the last, using what the first pass found.
 ghost use Rattle.std.specs.Prelude.{◌≡◌, ◌+◌, ◌-◌, ◌^◌, ◌≤◌, ◌||◌, nat_le, ◌++◌, length, take, reverse, string_bytes, if◌then◌else◌, OnOk};
 ghost use Rattle.std.specs.List.{flat_map};
 ghost use Rattle.cedar_layout.specs.Layout.{broken, print};
@@ -11,10 +11,10 @@ use crate::sheet::Mark;
 use cedar_layout::layout::breaks::write_break;
 use std::alloc::{AllocError, Global};
 
-/// The nest or the group in which a mark stands.
+/// The nest or the group that a mark is in.
 #[derive(Clone, Copy)]
 pub(crate) struct Frame {
-    /// Whether it stands in a flat group.
+    /// Whether it is in a flat group.
     pub flat: bool,
     /// The indentation of its breaks.
     pub indent: usize,
@@ -26,7 +26,7 @@ const FIRST: Frame = Frame {
     indent: 0,
 };
 
-/// Where printing stands, and what the first pass knows there.
+/// The state of printing, and what the first pass found there.
 #[derive(Drop)]
 pub(crate) struct Place {
     pub here: Frame,
@@ -49,7 +49,7 @@ impl Place {
         }
     }
 
-    /// Appends the layout of marks at a width. Where memory is refused, a part of it may have been appended.
+    /// Appends the layout of marks at a width. If memory runs out, a part of it may have been appended.
     pub(crate) fn print_all(
         &mut self,
         marks: &[Mark<'_>],
@@ -68,7 +68,7 @@ impl Place {
         Ok(())
     }
 
-    /// Goes to the first mark, of which all is known.
+    /// Goes to the first mark, about which everything is known.
     fn go_to_the_first(&mut self)
         ensures state { state_of self.new ≡ at_first (facts_of self.old.known) }
     {
@@ -112,7 +112,7 @@ impl Place {
         }
     }
 
-    /// Prints a break that is this text where it is laid flat.
+    /// Prints a break that is this text where it is laid out flat.
     fn print_line(&mut self, flat: &str, out: &mut String) -> Result<(), AllocError>
         ensures place { OnOk result (state_of self.new ≡ after_line (state_of self.old)) }
         ensures bytes { OnOk result (string_bytes out.new ≡ string_bytes out.old ++ (if self.old.here.flat then flat.now else print (broken self.old.here.indent))) }
@@ -136,7 +136,7 @@ impl Place {
         write_break(out, self.here.indent)
     }
 
-    /// Whether the group that begins here is laid flat: it stands in a flat one, or it fits with its tail.
+    /// Whether the group that begins here is laid out flat: it is in a flat one, or it fits with its tail.
     fn next_is_flat(&mut self, width: usize) -> bool
         ensures value { result ≡ (self.old.here.flat || nat_le (self.old.start - first_of (reverse self.old.known.notes.items)) width) }
         ensures notes { reverse self.new.known.notes.items ≡ others (reverse self.old.known.notes.items) }
@@ -148,7 +148,7 @@ impl Place {
         self.here.flat || self.start.saturating_sub(stop) <= width as u128
     }
 
-    /// Takes the next note; 0 where there is none.
+    /// Takes the next note; 0 if there is none.
     fn next_note(&mut self) -> u128
         ensures value { result ≡ first_of (reverse self.old.known.notes.items) }
         ensures notes { reverse self.new.known.notes.items ≡ others (reverse self.old.known.notes.items) }
@@ -168,7 +168,7 @@ impl Place {
         Ok(())
     }
 
-    /// Goes back to what stands around the nest or the group that ends here.
+    /// Goes back to what is around the nest or the group that ends here.
     fn end(&mut self)
         ensures here { self.new.here ≡ nearest self.old.here (reverse self.old.outer.items) }
         ensures outer { reverse self.new.outer.items ≡ farther (reverse self.old.outer.items) }

@@ -5,7 +5,7 @@ use Rattle.cedar_tokens.specs.Inside.Gaps.{IsGap}
 use Rattle.cedar_tokens.specs.Inside.Newlines.{before_newline, after_newline}
 use Rattle.cedar_tokens.specs.declared.readers.FirstToken.{FirstToken}
 
--- the text begins with this token; the gap of n bytes behind it is parted at its first line feed, and then comes the rest
+-- the text begins with this token; the gap of n bytes after it is split at its first line feed, and the rest follows
 pub record IsFirstToken (text : List ℕ) (t : FirstToken) : Type 0 where
   pub unit : IsFirstUnit text t.text.now
   pub token : IsToken t.text.now

@@ -5,7 +5,7 @@ use Rattle.std.specs.Str.{IsCharBoundary}
 use Rattle.cedar_tokens.specs.Units.{is_token, IsToken, IsUnit, BeginsWith, IsFirstUnit}
 use Rattle.cedar_tokens.specs.Split.{Scans}
 
--- the first n bytes of the text are units that are no tokens, and a unit that begins behind them is a token
+-- the first n bytes of the text are units that aren't tokens, and a unit that begins after them is a token
 pub record IsGap (text : List ℕ) (n : ℕ) : Type 0 where
   pub inside : n ≤ length text
   pub units : List (List ℕ)

@@ -58,7 +58,7 @@ Follows before after = (x : List (List ℕ)) × (before ≡ x ∷ after)
 abbrev pub lines_of : Vec (Bor (List ℕ)) → List (List ℕ)
 lines_of v = map (λ l. l.now) v.items
 
--- the lines that are still to be handed out
+-- the lines that are still to be assigned
 abbrev pub lines_left : IntoIter (Vec (Bor (List ℕ))) Global → List (List (List ℕ))
 lines_left it = map lines_of (into_iter_items it)
 

@@ -8,7 +8,7 @@ IsSlot u = is_one_of slots u ≡ true
 abbrev pub IsPunctuator : List ℕ → Type 0
 IsPunctuator u = is_one_of punctuators u ≡ true
 
--- no punctuator of two bytes stands at the start of a ∷ bs
+-- no punctuator of two bytes is at the start of a ∷ bs
 abbrev pub NoPair : ℕ → List ℕ → Type 0
 NoPair a bs = (b : ℕ) (rest : List ℕ) → bs ≡ b ∷ rest → ¬ (IsPunctuator (a ∷ b ∷ []))
 
@@ -16,7 +16,7 @@ NoPair a bs = (b : ℕ) (rest : List ℕ) → bs ≡ b ∷ rest → ¬ (IsPunctu
 abbrev pub IsStringRest : List ℕ → Type 0
 IsStringRest u = is_string_rest u ≡ true
 
--- the text is no keyword, no slot and no punctuator
+-- the text isn't a keyword, a slot or a punctuator
 abbrev pub IsNotFixed : List ℕ → Type 0
 IsNotFixed text = (is_one_of keywords text ≡ false) × (is_one_of slots text ≡ false) × (is_one_of punctuators text ≡ false)
 

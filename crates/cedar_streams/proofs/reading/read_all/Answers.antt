@@ -6,7 +6,7 @@ use Rattle.std.specs.Io.KnownBytes.{Consumes}
 use Rattle.std.proofs.KnownBytes.{Consumes-trans}
 use Rattle.cedar_streams.proofs.reading.read_all.Goals as goal
 
--- what was read into ys behind its first f bytes, which are those of xs, stands after them
+-- what was read into ys after its first f bytes, which are those of xs, comes after them
 read_on : (a b c : Option (List ℕ)) (xs room ys : List ℕ) (f n : ℕ) → take f room ≡ take f xs → take f ys ≡ take f room → Consumes a b (take f xs) → Consumes b c (take n (drop f ys)) → Consumes a c (take (f + n) ys)
 read_on a b c xs room ys f n roomy front before read =
     subst (Consumes a c) (ap (λ l. l ++ take n (drop f ys)) (sym (front ∙ roomy)) ∙ sym (take-add f n ys)) (Consumes-trans a b c _ _ before read)

@@ -13,7 +13,7 @@ use Rattle.cedar_layout.proofs.Printing.{nest_step, group_notes, group_pieces, g
 use Rattle.cedar_layout.proofs.Values.{doc_of_nil, doc_of_text, doc_of_line, doc_of_line_or_nil, doc_of_hard, doc_of_nest, doc_of_group}
 use Rattle.cedar_layout.proofs.layout.print.take_up.Goals as goal
 
--- ---- documents that hold no others
+-- ---- documents that contain no others
 
 nil_printed : (c : goal.In-Nil) → PrintsAs (todo c.args.next) []
 nil_printed c = prints_nil (todo c.args.next) (ap doc_of c.in-Nil.is ∙ doc_of_nil)

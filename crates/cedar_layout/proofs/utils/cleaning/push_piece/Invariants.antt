@@ -4,7 +4,7 @@ use denote.Shadow.{shadow}
 use Rattle.cedar_layout.specs.Cleaning.{clean_piece, piece_lines, without_blank_lines}
 use Rattle.cedar_layout.proofs.utils.cleaning.push_piece.Given as goal
 
--- what was appended, and what is left of the rest, is the piece without its blank lines
+-- what was appended, followed by what is left of the rest, is the piece without its blank lines
 abbrev pub invariant-loop-rest : goal.invariant-loop-rest
 invariant-loop-rest l = shadow (Utf8 l.rest) × (string_bytes l.out ++ without_blank_lines (piece_lines l.rest) ≡ string_bytes l.fn.out ++ clean_piece l.piece)
 

@@ -3,7 +3,7 @@ use Rattle.std.specs.Str.{IsCharBoundary}
 use Rattle.cedar_layout.specs.Cleaning.{Cut}
 use Rattle.cedar_layout.proofs.utils.cleaning.remove_empty_lines.Given as goal
 
--- the text without blank lines is what was joined so far and the rest without blank lines
+-- the text without blank lines is what was joined so far followed by the rest without blank lines
 abbrev pub invariant-loop-kept : goal.invariant-loop-kept
 invariant-loop-kept l = record {
   boundary : IsCharBoundary l.text l.at;

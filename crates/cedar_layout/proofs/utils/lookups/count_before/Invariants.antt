@@ -3,7 +3,7 @@ use Rattle.cedar_tokens.specs.declared.token.WrappedToken.{WrappedToken}
 use Rattle.cedar_layout.specs.Inside.Halving.{edge_of}
 use Rattle.cedar_layout.proofs.utils.lookups.count_before.Given as goal
 
--- the sought place is between low and high
+-- the place looked for is between low and high
 abbrev pub invariant-loop-low : goal.invariant-loop-low
 invariant-loop-low g l = record {
   ordered : l.low ≤ l.high;

@@ -3,7 +3,7 @@ use Rattle.cedar_sheet.specs.Signs.{signs_of}
 use Rattle.cedar_sheet.specs.Inside.Measured.{facts, facts_of}
 use Rattle.cedar_sheet.proofs.layout.measure.Known.measure.Given as goal
 
--- what is known is that of the marks from here on, of which each has at most 2 ^ 64 columns
+-- what is known is that of the marks from here on, each of at most 2 ^ 64 columns
 abbrev pub invariant-loop-i : goal.invariant-loop-i
 invariant-loop-i l = record {
   facts : facts_of l.self ≡ facts (signs_of (drop l.i l.marks));
