@@ -1,4 +1,4 @@
--- An operand without any operator.
+-- An operand without operators.
 use Rattle.std.specs.Prelude.{◌≡◌, List, [], Result, Ok, Err, MatchResult, box_value}
 use Rattle.std.proofs.Common.{ap, subst, ◌∙◌}
 use Rattle.cedar_grammar.specs.Trees.{Label, none}
@@ -15,7 +15,7 @@ use Rattle.cedar_parser_steps.specs.declared.reading.Refusal.TheVariants.{OutOfM
 use Rattle.cedar_parser_expressions.specs.ReadingItems.{Boxed}
 use Rattle.cedar_parser_expressions.specs.ReadingExprs.{IsLoneRelationOf, IsAndOf, IsOrOf}
 
--- the operators between no operands
+-- no operators between no operands
 none_more : (o : Boxed Add.Add) (r : Boxed Relation.Relation) (a : Boxed And.And) (n : Boxed Or.Or) → IsLoneRelationOf o r → IsAndOf r [] a → IsOrOf a [] n → IsLoneOrOf (box_value o) (box_value n)
 none_more o r a n i j k =
     let s : (box_value a).span ≡ (box_value o).span = j.1 ∙ i.1 in (

@@ -1,4 +1,4 @@
--- What the parser gives on the lexemes of a part of a text, their places moved to those of the text.
+-- What the parser gives on the lexemes of a part of a text, with their places moved to those of the text.
 use Rattle.std.specs.Prelude.{◌≡◌, ◌≤◌, ◌<◌, ℕ, zero, suc, ◌+◌, ◌-◌, Bool, true, false, List, [], ◌∷◌, ◌++◌, length, map, take, drop, Ok, Err, if◌then◌else◌}
 use Rattle.std.specs.List.{slice_get, sum_by, AllByRecursion}
 use Rattle.std.proofs.Common.{get_or, refl, sym, ap, ◌∙◌, arith, inl, inr, subst, append-nil}
@@ -31,7 +31,7 @@ use Rattle.cedar_cst.specs.Inside.Parts.{moved_span, moved_lexeme, place_before,
 use Rattle.cedar_cst.specs.Inside.ReadingSet.{GivesSet}
 use Rattle.cedar_cst.proofs.Whole.{are_right, whole_grammar, whole_deep}
 
--- a part is refused within it or at its end
+-- a part is refused inside it or at its end
 refused_within : (part : List ℕ) (p : ℕ) (deep : Bool) → LeavesGrammar part p deep → p ≤ length part
 refused_within part p deep h = omega (arith, h.place, units_length (h.before ++ h.after) part h.split, sum_by-append length h.before h.after)
 
@@ -145,7 +145,7 @@ module _ (n : ℕ) where
 
 -- ---- bounds
 
--- a lexeme ends at or before this byte, and doesn't start behind its end
+-- a lexeme ends at or before this byte, and doesn't start after its end
 abbrev EndsBy : ℕ → Lexeme → Type 0
 EndsBy end l = (l.span.start ≤ l.span.end) × (l.span.end ≤ end)
 
@@ -166,7 +166,7 @@ ends_by from end (u ∷ us) ls e i k d h = go (is_token u) ls e k h (λ ms f j m
         let stop : l.span.end ≡ from + length u = ap (λ (s : Span). s.end) span in
         (omega (arith, start, stop), omega (arith, stop, i, sum_by-cons length u us))
 
--- the lexemes of a part end within it
+-- the lexemes of a part end inside it
 pub lexeme_inside : (part : List ℕ) (ls : List Lexeme) → AreLexemes part ls → (k : ℕ) (d : Lexeme) → k < length ls → ((get_or ls k d).span.start ≤ (get_or ls k d).span.end) × ((get_or ls k d).span.end ≤ length part)
 lexeme_inside part ls are k d h = ends_by 0 (length part) are.units ls are.places (units_length are.units part are.split ∙ omega arith) k d h
 

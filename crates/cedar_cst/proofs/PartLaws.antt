@@ -1,4 +1,4 @@
--- Policies of two parts of a text, one after the other; and how many policies a part has.
+-- Policies of two consecutive parts of a text, and how many policies a part has.
 use Rattle.std.specs.Prelude.{◌≡◌, ℕ, ◌+◌, ◌||◌, Bool, true, false, List, [], ◌∷◌, ◌++◌, length, take, drop, codes, Option, Some, if◌then◌else◌}
 use Rattle.std.specs.List.{list_any, sum_by}
 use Rattle.std.proofs.Common.{refl, sym, ap, ◌∙◌, arith, inl, inr, subst, append-nil, append_assoc}
@@ -61,7 +61,7 @@ places_join [] us (s ∷ ss) rs e = absurd (omega (arith, e))
 places_join (t ∷ ts) us [] rs e = absurd (omega (arith, e))
 places_join (t ∷ ts) us (s ∷ ss) rs e = ap (λ z. record { text = t; span = s } ∷ z) (places_join ts us ss rs (omega (arith, e)))
 
--- the tokens of units, and then those of the units behind them
+-- the tokens of units, then those of the units after them
 placed_join : (from : ℕ) (us vs : List (List ℕ)) → placed_from from (us ++ vs) ≡ placed_from from us ++ placed_from (from + sum_by length us) vs
 placed_join from us vs =
     ap (λ z. with_places z (token_spans from (us ++ vs))) (filter-append is_token us vs) ∙ (ap (with_places (only_tokens us ++ only_tokens vs)) (spans_join from us vs)
@@ -97,7 +97,7 @@ trees_join (p ∷ ps) qs = ap (join (policy_trees (p ∷ []))) (trees_join ps qs
 
 -- ---- policies of parts
 
--- the policies of a part and those of the part behind it are those of both
+-- the policies of a part followed by those of the next part are those of both
 pub parts_join : (from : ℕ) (x y z : List ℕ) (ps qs : List (Node Tree.Policy)) (a : HasPoliciesFrom from x ps) (b : HasPoliciesFrom (from + length x) y qs) → SplitsInto z (a.units ++ b.units) → HasPoliciesFrom from z (ps ++ qs)
 parts_join from x y z ps qs a b s = record {
   units = a.units ++ b.units;
@@ -110,7 +110,7 @@ parts_join from x y z ps qs a b s = record {
   nodes = trees_join ps qs ∙ (ap (λ w. join w (policy_trees qs)) a.nodes ∙ (ap (join (row_nodes a.row)) b.nodes ∙ sym (nodes_join a.row b.row a.among)));
 }
 
--- a text has the policies of its part that is all of it
+-- a text has the policies of the part that is all of it
 pub from_start : (text : List ℕ) (ps : List (Node Tree.Policy)) → HasPoliciesFrom 0 text ps → HasPolicies text ps
 from_start text ps h = record {
   units = h.units;

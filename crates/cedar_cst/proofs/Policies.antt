@@ -41,7 +41,7 @@ module _ {X : Type 0} (l : Label) (parts : X → Erased) (k : Kind) (P : Reader 
   many_followed_done (Ok x) y g c = (g.0, c.1, x.1.now, g.1, both_done P (one kind k) ts g.0 x.1.now (leaf c.1 none) y.1.now g.1 c.2, c.3, rw c.0 g.2, c.4)
   many_followed_done (Err f) y g c = absurd c
 
--- No closing bracket begins a row of nodes.
+-- A row of nodes does not begin with a closing bracket.
 opens_turn : (t : List Lexeme → Bool) (l : Label) (P : Reader Lexeme) (n : ℕ) (ts : List Lexeme) (f : Forest Label Lexeme) (r : List Lexeme) → (b : Bool) → t ts ≡ b → (a : Answer Lexeme) → P ts ≡ a
     → ((s : List Lexeme) → (x : Answer Lexeme) × (many t (tree l P) n s ≡ x)) → many t (tree l P) (suc n) ts ≡ done f r → closes_next kind f ≡ false
 opens_turn t l P n ts f r false h a i w e = let q = many_end t (tree l P) (suc n) ts h in let same : f ≡ none = cc in rw same refl
@@ -161,7 +161,7 @@ cond_row : (ns : List (Node Cond)) (z : Erased) → cond_trees ns z ≡ join (no
 cond_row [] z = refl
 cond_row (n ∷ ns) z = ap (branch (Label.condition, Some n.span) (cond_parts n.inner)) (cond_row ns z)
 
--- a row of nodes, perhaps of none, before another row
+-- a row of nodes, possibly empty, before another row
 many_row : (u : Span) (p q : Erased) (f g : Forest Label Lexeme) → closes_next kind g ≡ false → StandsMany p f → Stands u q g → (s : Span) × (s.end ≡ u.end) × Stands s (join p q) (join f g)
 many_row u p q f g h a b = go a.place
   where

@@ -1,4 +1,4 @@
--- What a reader of policies has read, and what the next part of the text adds to it.
+-- What a reader of policies has read, and what the next part of the text adds.
 use Rattle.std.proofs.Common.{◌≡◌, ◌≤◌, ◌<◌, ◌+◌, ◌-◌, ℕ, Bool, true, false, get_or, Some, List, [], ◌∷◌, ◌++◌, length, take, drop, refl, ap, sym, ◌∙◌, subst, arith, inl, inr, append-nil}
 use Rattle.std.specs.Prelude.{Option, slice_range}
 use Rattle.std.specs.List.{list_any}
@@ -29,7 +29,7 @@ use Rattle.cedar_cst.proofs.PartLaws.{parts_join, from_start, to_start, none_fro
 
 -- ---- two parts of a text
 
--- what is read lies within the text
+-- what is read lies inside the text
 pub ends_inside : (text : List ℕ) (at : ℕ) → EndsPiece text at → at ≤ length text
 ends_inside text at (inl e) = omega (arith, e)
 ends_inside text at (inr p) = piece_inside text at p
@@ -59,7 +59,7 @@ ends_more : (text : List ℕ) (at n : ℕ) → EndsPiece text at → IsPiece (dr
 ends_more text at n (inl e) q = inr (subst (λ k. IsPiece text k) (omega (arith, e)) (subst (λ k. IsPiece (drop k text) n) e q))
 ends_more text at n (inr p) q = inr (piece_more text at n p q)
 
--- what is read stands at the start of the text that ends with the next piece
+-- what is read is at the start of the text that ends with the next piece
 ends_within : (text : List ℕ) (at n : ℕ) → EndsPiece text at → IsPiece (drop at text) n → EndsPiece (through text at n) at × (take at (through text at n) ≡ take at text)
 ends_within text at n (inl e) q = (inl e, subst (λ k. take k (through text k n) ≡ take k text) (sym e) refl)
 ends_within text at n (inr p) q = (inr (piece_within text at n p q), piece_before text at n p q)
@@ -83,11 +83,11 @@ reader_begins text t b = record { tokens = t; inside = omega arith; boundary = b
 pub read_none : (text : List ℕ) → HasRead (record { text = text; at = 0 }) text []
 read_none text = record { of_text = refl; ends = inl refl; read = from_start [] [] (none_from 0 [] [] refl refl refl) }
 
--- the next piece lies within the text
+-- the next piece lies inside the text
 pub next_inside : (text : List ℕ) (at : ℕ) (piece : List ℕ) → at ≤ length text → IsNext (record { text = text; at = at }) piece → at + length piece ≤ length text
 next_inside text at piece b x = omega (arith, piece_inside (drop at text) (length piece) x.first.piece, length-drop at text, b)
 
--- the reader goes on by the next piece, which has a policy
+-- the reader continues with the next piece, which has a policy
 pub reader_goes_on : (text : List ℕ) (at by : ℕ) (piece : List ℕ) (q : Node Policy) → IsBehindPolicies text at → IsNext (record { text = text; at = at }) piece → IsPolicyFrom by piece q → IsBehindPolicies text (at + length piece)
 reader_goes_on text at by piece q b x (p, h, e) = record {
   tokens = b.tokens;
@@ -97,7 +97,7 @@ reader_goes_on text at by piece q b x (p, h, e) = record {
   accepted = accepted_more text at (length piece) b.ends x.first.piece b.accepted (subst Accepted x.bytes (part_accepted by piece p.policies.items h));
 }
 
--- what the reader of a text has read, in that text
+-- what a reader has read of its text
 ends_of : (text : List ℕ) (at : ℕ) (ps : List (Node Policy)) (all : List ℕ) → HasRead (record { text = text; at = at }) all ps → EndsPiece text at
 ends_of text at ps all r = subst (λ x. EndsPiece x at) (sym r.of_text) r.ends
 
@@ -115,7 +115,7 @@ read_more text at piece ps q all r x (p, h, e) =
       read = subst (λ z. HasPolicies (take (at + n) z) (ps ++ q ∷ [])) r.of_text (subst (λ z. HasPolicies (take (at + n) text) (ps ++ z)) e (from_start (take (at + n) text) (ps ++ p.policies.items) all_read));
     }
 
--- where nothing more is read, the policies are those of the text
+-- if nothing more is read, the policies are those of the text
 pub read_all : (text : List ℕ) (at : ℕ) (ps : List (Node Policy)) (all : List ℕ) → HasRead (record { text = text; at = at }) all ps → HasEnded (record { text = text; at = at }) → HasPolicies all ps
 read_all text at ps all r x =
     let left = rest_is_empty (drop at text) x.none x.rest in
@@ -123,7 +123,7 @@ read_all text at ps all r x =
     subst (λ z. HasPolicies z ps) r.of_text
     (subst (HasPolicies text) (append-nil ps) (from_start text (ps ++ []) (reads_join text at ps [] (ends_of text at ps all r) (reads_of text at ps all r) none)))
 
--- where no piece follows and the rest is accepted, the reader has ended
+-- if no piece follows and the rest is accepted, the reader has ended
 pub reader_ends : (text : List ℕ) (at by : ℕ) (qs : List (Node Policy)) → IsBehindPolicies text at → HasNoPiece (drop at text) → HasPoliciesFrom by (drop at text) qs → HasEnded (record { text = text; at = at })
 reader_ends text at by qs b n h =
     let rest = part_accepted by (drop at text) qs h in
@@ -137,14 +137,14 @@ read_nothing reader text r = go r.ends
     go (inl e) = e
     go (inr p) = absurd (has_some text reader.at p (to_start (take reader.at text) [] r.read))
 
--- a reader that goes on has less left
+-- a reader that continues has less left
 pub goes_further : (old new : Position) (piece : List ℕ) → GoesOn old new piece → length new.text - new.at < length old.text - old.at
 goes_further old new piece g =
     omega (arith, ap length g.of_text, g.further, piece_positive (drop old.at old.text) (length piece) g.first.piece, piece_inside (drop old.at old.text) (length piece) g.first.piece, length-drop old.at old.text)
 
 -- ---- refusals
 
--- where the part's tokens can be parsed, only the grammar refuses it
+-- if the part's tokens can be parsed, only the grammar refuses it
 only_grammar : (from : ℕ) (part text : List ℕ) (vs : List (List ℕ)) → SplitsInto part vs → list_any is_too_large vs ≡ false → ((p : ℕ) (deep : Bool) → LeavesGrammar part p deep → LeavesGrammar text (from + p) deep)
     → (e : FormatError) → RefusesFrom from part e → OutOfMemoryOr (Refuses text) e
 only_grammar from part text vs s f h (UnknownCharacter p) r = absurd (fault_prevents part p r.0 (vs, s))
@@ -177,11 +177,11 @@ module _ (text : List ℕ) (at : ℕ) (b : IsBehindPolicies text at) where
   pub rest_tokens : HasTokens (drop at text)
   rest_tokens = let f = rest_fits b.ends in record { units = f.0; split = f.1; fitting = f.2 }
 
-  -- a refusal of the rest is one of the text
+  -- a refusal of the rest is a refusal of the text
   pub rest_refuses : (e : FormatError) → RefusesFrom at (drop at text) e → OutOfMemoryOr (Refuses text) e
   rest_refuses e r = let f = rest_fits b.ends in only_grammar at (drop at text) text f.0 f.1 f.2 (rest_moves b.ends) e r
 
-  -- a refusal of the next piece is one of the text
+  -- a refusal of the next piece is a refusal of the text
   pub piece_refuses : (n : ℕ) → IsPiece (drop at text) n → (e : FormatError) → RefusesFrom at (take n (drop at text)) e → OutOfMemoryOr (Refuses text) e
   piece_refuses n q e r =
       let f = rest_fits b.ends in

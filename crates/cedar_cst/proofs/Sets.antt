@@ -23,7 +23,7 @@ use Rattle.cedar_cst.proofs.Policies.{policies_row}
 abbrev pub starts : List Lexeme → Bool
 starts ts = begins kind (λ x. is K.At x || is_effect x) ts
 
--- a refusal of the reader's
+-- a refusal by the reader
 pub set_fails : (e : Refusal) (a : Answer Lexeme) → Fails e a → GivesSet (Err e) a
 set_fails (Grammar left) a h = (h.0, inl h.1, h.2)
 set_fails (TooDeep left) a h = (h.0, h.1, h.2)

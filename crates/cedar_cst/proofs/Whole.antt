@@ -1,4 +1,4 @@
--- What the parser of policies gives where its loop gives what the reader gives: the tree of the text, or the exact place of its refusal.
+-- What the parser of policies gives if its loop gives what the reader gives: the tree of the text, or the exact place of its refusal.
 use Rattle.std.specs.Prelude.{◌≡◌, ℕ, suc, ◌-◌, Bool, true, false, List, [], ◌∷◌, ◌++◌, ◌⊎◌, length, map, Some, Err, if◌then◌else◌}
 use Rattle.std.specs.List.{filter, slice_get, AllByRecursion}
 use Rattle.std.proofs.Common.{refl, sym, ap, ◌∙◌, arith, inl, inr, subst, length-append}
@@ -20,7 +20,7 @@ use Rattle.cedar_parser_steps.specs.Reading.{kind, IsRight, AreRight, start_or, 
 use Rattle.cedar_cst.specs.Inside.ReadingSet.{GivesSet}
 use Rattle.cedar_parser_steps.proofs.Parsing.{parsed}
 
--- Lexemes of a text are right.
+-- The lexemes of a text are correct.
 all_tokens : (us : List (List ℕ)) (xs : List Lexeme) → map (λ (l : Lexeme). l.text.now) xs ≡ filter is_token us → AllByRecursion (λ (l : Lexeme). is_token l.text.now ≡ true) xs
 all_tokens [] [] e = tt
 all_tokens [] (x ∷ xs) e = absurd cc
@@ -59,7 +59,7 @@ place_end : (text : List ℕ) (ls : List Lexeme) → place_of text ls 0 ≡ leng
 place_end text ls = ap (start_or (length text)) (slice_get_past ls (length ls - 0) (omega arith))
 
 module _ (text : List ℕ) (ls : List Lexeme) (are : AreLexemes text ls) where
-  -- a tree of the text's lexemes has right leaves
+  -- a tree of the text's lexemes has correct leaves
   pub are_right : (f : Forest Label Lexeme) (r : List Lexeme) → set_to kind greatest_depth ls ≡ done f r → AreRight f
   are_right f r e =
       let all = all_right ls are.kinds (all_tokens are.units ls are.texts) in

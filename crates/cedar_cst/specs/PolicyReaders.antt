@@ -1,4 +1,4 @@
--- How far a reader of policies has come, and the policies and the pieces of its text that it has answered.
+-- How far a reader of policies has come, and which policies and pieces of its text it has answered.
 use Rattle.std.specs.Prelude.{◌≡◌, ◌≤◌, ◌+◌, ℕ, false, List, [], ◌∷◌, ◌⊎◌, ◌↔◌, length, map, take, drop}
 use Rattle.std.specs.List.{list_any, AllByRecursion}
 use Rattle.std.specs.Str.{IsCharBoundary}
@@ -26,11 +26,11 @@ pub record Position : Type 0 where
   pub text : List ℕ
   pub at : ℕ
 
--- the text's first bytes, as many as that, are none or a piece
+-- the first so many bytes of the text are none, or a piece
 abbrev pub EndsPiece : List ℕ → ℕ → Type 0
 EndsPiece text at = (at ≡ 0) ⊎ IsPiece text at
 
--- policies may be read from here on: the text's tokens can be parsed, and what stands before is accepted
+-- policies may be read from here on: the text's tokens can be parsed, and what comes before is accepted
 pub record IsBehindPolicies (text : List ℕ) (at : ℕ) : Type 0 where
   pub tokens : HasTokens text
   pub inside : at ≤ length text
@@ -47,7 +47,7 @@ pub record HasPolicies (text : List ℕ) (policies : List (Node Policy)) : Type 
   pub grammar : IsSyntaxTree (λ t. t.text) greatest_depth tree (placed units)
   pub nodes : variant Label.policies (policy_trees policies) none ≡ spanned (λ t. t.text) (λ t. t.span) (plain_trees (λ t. t.text) tree)
 
--- the reader is one of this text, and has answered these policies: those of the bytes that it has read
+-- the reader is one for this text, and has answered these policies: those of the bytes that it has read
 pub record HasRead (reader : Position) (text : List ℕ) (policies : List (Node Policy)) : Type 0 where
   pub of_text : reader.text ≡ text
   pub ends : EndsPiece text reader.at
@@ -64,7 +64,7 @@ pub record AreTokensOf (text : List ℕ) (tokens : List WrappedToken) : Type 0 w
   pub spans : AreTokenSpans text (map (λ t. t.span) tokens)
   pub slices : AllByRecursion (StandsIn text) tokens
 
--- the reader goes on over these bytes: the first piece of what was left of its text
+-- the reader continues past these bytes: the first piece of what was left of its text
 pub record GoesOn (old new : Position) (piece : List ℕ) : Type 0 where
   pub of_text : new.text ≡ old.text
   pub further : new.at ≡ old.at + length piece

@@ -18,13 +18,13 @@ pub use cedar_tree::tree::{
 };
 use std::alloc::Global;
 
-/// The policies of a text, node by node: the tree that the grammar gives the text's tokens, without trailing commas, and each node
-/// with its place. A text is refused only where it is not in the grammar with at most 128 nested brackets and `if`s, or where memory
-/// is wanting. The refusal says why and where, by the first of these that fits:
-/// the text does not split into blanks, comments and tokens, at the first place where none begins;
-/// its first number above 18446744073709551615;
-/// the first token such that no policies begin with the tokens through it, as too deep where only the nesting is at fault;
-/// a token is missing, at the text's length.
+/// The policies of a text, node by node: the tree that the grammar gives the text's tokens, without trailing commas, with
+/// the place of each node. A text is refused only if it is not in the grammar with at most 128 nested brackets and `if`s,
+/// or if out of memory. The refusal says why and where, by the first of these that applies:
+/// the text does not split into blanks, comments and tokens: the first place where none begins;
+/// a number is above 18446744073709551615: the first such number;
+/// no policies begin with the tokens through some token: the first such token, as too deep if only the nesting is at fault;
+/// a token is missing: the length of the text.
 pub fn parse_policies<'src>(alloc: Global, text: &'src str) -> Result<Policies<'src>, FormatError>
     ensures tree { IfOk result (λ p. IsTreeOf text.now p) }
     ensures refusal { IfErr result (OutOfMemoryOr (Refuses text.now)) }

@@ -6,7 +6,7 @@ pub use cedar_tree::laws::{
     text_is_judged, tree_is_of_accepted, tree_of_nodes_is_unique,
 };
 
-/// What a reader has answered are the first policies of the tree of its text. A law: its body does nothing.
+/// What a reader has answered are the first policies of its text's tree. A law: its body does nothing.
 pub fn answered_come_first()
     ensures { AnsweredComeFirst }
 {}

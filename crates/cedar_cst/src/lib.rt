@@ -1,4 +1,4 @@
-//! The parser of policies, and the reader of one policy after the other.
+//! The parser of policies, and the reader that gives them one by one.
 #![tactic(auto)]
 
 pub mod cst;

@@ -71,7 +71,7 @@ yield_first (call_empty l r m) = refl
 yield_first (call l a r m) = ap (λ z. l ∷ z) (sym (append_assoc (tree_yield a) (r ∷ []) (tree_yield m)))
 yield_first (index l x r m) = refl
 
--- ---- the breaks between
+-- ---- the breaks between them
 
 field_breaks : (m : Tree Shown accesses) → break_after_field (tree_map as_leaf m) ≡ break_if (breaks (Some dotted) (form_in m))
 field_breaks no_access = refl
@@ -112,7 +112,7 @@ document_first i (index l x r m) = three (table.printed (as_leaf l)) (table.prin
 
 -- ---- the form of a node's access
 
--- the trees behind a token
+-- the trees after a token
 behind : Erased → Erased
 behind none = none
 behind (leaf a f) = f
@@ -171,7 +171,7 @@ unfolding form_at form_inside form_by behind
 call_form span [] t e = sym (form_in_nodes t) ∙ ap form_at (sym e)
 call_form span (n ∷ ns) t e = sym (form_in_nodes t) ∙ ap form_at (sym e)
 
--- whether there is a node behind the first token of the first access
+-- whether there is a node after the first token of the first access
 has_node : Erased → Bool
 has_node none = false
 has_node (leaf a f) = false
@@ -288,13 +288,13 @@ module _ {U V W E F G : Type 0} {u : U} {w : V} {r : Result W G} {old mid next n
 pub call_needs : (ps : List Span) (v : Vec (Node Expr.Expr) Global) → has_its_tokens ps (access_parts (MemAccess.Call v)) ≡ has_its_tokens ps (item_trees Label.expr expr_parts v.items)
 call_needs ps v = ap (has_its_tokens ps) (view_call v) ∙ has_closed ps (codes ")") (item_trees Label.expr expr_parts v.items)
 
--- the access at an index, and those behind it
+-- the access at an index, and those after it
 pub access_at : (nodes : List (Node MemAccess.MemAccess)) (k : ℕ) (n : Node MemAccess.MemAccess) → k < length nodes → n ≡ get_or nodes k n → drop k nodes ≡ n ∷ drop (k + 1) nodes
 access_at nodes k n l is = at_drop_more (λ z. z) nodes k n l ∙ ap (λ z. z ∷ drop (k + 1) nodes) (sym is)
 
 -- ---- all accesses
 
--- Among the accesses of a whole, those that have been passed and those that are left, whose nodes these are: what the
+-- Among the accesses of a whole, those already passed and those left, with these nodes: what the
 -- tokens are now, and what is written so far.
 pub record Walked (i : ℤ) (whole : Tree Shown accesses) (start : List Sign) (previous : Option Access) (nodes : List (Node MemAccess.MemAccess)) (sheet : List Sign) (tokens : List WrappedToken) (before after : List Shown) : Type 0 where
   pub passed : List Shown

@@ -1,4 +1,4 @@
--- Chains of operands: what of a chain is written, and what is left.
+-- Chains of operands: what is written of a chain, and what is left.
 use Rattle.std.proofs.Common.{◌≡◌, ℕ, ℤ, List, [], ◌∷◌, ◌++◌, ◌<◌, ◌≤◌, ◌+◌, Bool, map, length, get_or, drop, true, false, Some, refl, sym, ap, ◌∙◌, subst}
 use Rattle.std.specs.Prelude.{◌&&◌, ⊤, Result, Ok}
 use Rattle.std.proofs.lemmas.List.{append_assoc, map-append, append-nil, at_drop_more, drop_all}
@@ -26,7 +26,7 @@ use Rattle.cedar_document_rows.proofs.InTurn.{done, in_turn, rewritten}
 use Rattle.cedar_document_rows.proofs.Keeping.{◌∘◌}
 use Rattle.cedar_document_rows.proofs.Opened.{ends_here, opened_token, opened_tree}
 
--- signs, each with the operand behind it
+-- signs, each with the operand after it
 abbrev pub Rest : NodeKind → Type 0
 Rest k = List (Shown × Tree Shown k)
 
@@ -50,7 +50,7 @@ pub record IsChain (k : NodeKind) (l : Label) (sign : Shown → Doc) (i : ℤ) (
   pub nodes : f ≡ branch l (parts kind_of_shown first) (rest_parts l rest)
   pub doc : whole ≡ document i first · rest_document sign i rest
 
--- nodes of a kind that are chains of operands of another kind, with the document between the marks of their group, if they have one
+-- nodes of a kind that are chains of operands of another kind, with the document inside their group, if they have one
 pub record Form (m k : NodeKind) : Type 0 where
   pub label : Label
   pub is : is_node label ≡ true
@@ -80,7 +80,7 @@ longer k l sign i x o ts f d e h c = record {
   doc = h ∙ ap (λ z. document i x · sign o · z) c.doc;
 }
 
--- a space before the sign, and a break behind it
+-- a space before the sign, and a break after it
 spaced : (a l d : Doc) → a · space · l · line · d ≡ a · (space · l · line) · d
 spaced a l d = ap (λ z. a · space · z) (sym (dot_assoc l line d))
 
@@ -124,7 +124,7 @@ add_form = record { label = Label.mult; is = refl; sign = sign_and_line; inside 
 abbrev pub mult_form : Form mult unary
 mult_form = record { label = Label.unary; is = refl; sign = sign_and_line; inside = inside_mult; chain = mult_chain }
 
--- with the group round them
+-- with the group around them
 pub add_group : (i : ℤ) (t : Tree Shown add) → group (inside_add i t) ≡ document i t
 add_group i (add_of s) = refl
 
@@ -133,7 +133,7 @@ mult_group i (mult_of p) = refl
 
 -- ---- the loop over the operands
 
--- Of the tokens ts of a chain some are written as the document `made`, the last of them at `last`; the trees that are left are those of the rest.
+-- Some of the tokens ts of a chain are written as the document `made`, ending with the one at `last`; the trees that are left are those of the rest.
 pub record Part (k : NodeKind) (l : Label) (sign : Shown → Doc) (i : ℤ) (ts : List Shown) (whole : Doc) (old : List WrappedToken) (start : List Sign) (last : Span) (sheet : List Sign) (now : List WrappedToken) (left : Erased) : Type 0 where
   pub those : List Shown
   pub made : Doc
@@ -144,7 +144,7 @@ pub record Part (k : NodeKind) (l : Label) (sign : Shown → Doc) (i : ℤ) (ts 
   pub ends : (b : List Shown) → end_of_tokens (b ++ map emptied those) ≡ last.end
   pub writes : Writes {U = ⊤} {E = ⊤} (Ok tt) old now start sheet those made
 
--- the same of every tree that a node with these parts is, and which tokens are found
+-- the same for every tree that a node with these parts is, and which tokens are found
 pub record SoFar {m k : NodeKind} (f : Form m k) (i : ℤ) (whole : Erased) (old : List WrappedToken) (start : List Sign) (last : Span) (sheet : List Sign) (now : List WrappedToken) (left : Erased) : Type 0 where
   pub kept : KeepsTokens old now
   pub found : has_its_tokens (places old) whole ≡ has_its_tokens (places old) left
@@ -188,7 +188,7 @@ module _ {m k : NodeKind} (f : Form m k) {i : ℤ} {whole : Erased} {old : List 
     }
 
   module _ {last : Span} {sheet : List Sign} {now : List WrappedToken} {left : Erased} (h : SoFar f i whole old start last sheet now left) where
-    -- a sign and an operand more
+    -- one more sign and operand
     module _ {place : Span} {text : List ℕ} {p others : Erased} (e : left ≡ leaf text (branch (f.label, Some place) p others)) {mid : List WrappedToken} (kept : KeepsTokens now mid) where
       next_has : (b : Bool) → operand_has f.label place p (places mid) ≡ b → operand_has f.label place p (places old) ≡ b
       next_has b q = as_before (operand_has f.label place p) b old mid (kept ∘ h.kept) q

@@ -24,7 +24,7 @@ use Rattle.cedar_document_rows.specs.NodeDocuments.{IsAt, IsNodeOf, Writes, Writ
 use Rattle.cedar_document_rows.proofs.InTurn.{always_ok, and_then}
 use Rattle.cedar_document_rows.proofs.Opened.{opened_tree, opened_token, ends_here}
 
--- commas, each with the item behind it: their nodes, their tokens and their documents
+-- commas, each with the item after it: their nodes, their tokens and their documents
 abbrev pub row_parts : {k : NodeKind} → Label → List (Shown × Tree Shown k) → Forest Label Shown
 row_parts l [] = none
 row_parts l (x ∷ xs) = leaf x.0 (branch l (parts kind_of_shown x.1) (row_parts l xs))
@@ -37,7 +37,7 @@ abbrev pub row_document : {k : NodeKind} → ℤ → List (Shown × Tree Shown k
 row_document i [] = nil
 row_document i (x ∷ xs) = table.printed (as_leaf x.0) · line · document i x.1 · row_document i xs
 
--- The items up to a place are done: their tokens have no comments, the last one ends at s, and what is written is followed by the items that are left.
+-- The items up to a place are done: their tokens have no comments, the last one ends at s, and the items that are left come after what is written.
 pub record Stage (X : Type 0) (k : NodeKind) (l : Label) (inside : X → Erased) (i : ℤ) (start : List Sign) (s : Span) (left : List (Node X)) (sheet : List Sign) (now : List WrappedToken) (f : Tree Shown k) (row : List (Shown × Tree Shown k)) (b a : List Shown) : Type 0 where
   pub finished : List Shown
   pub rest : List (Shown × Tree Shown k)
@@ -47,14 +47,14 @@ pub record Stage (X : Type 0) (k : NodeKind) (l : Label) (inside : X → Erased)
   pub shown_now : map shown now ≡ (b ++ map emptied finished) ++ (row_yield rest ++ a)
   pub writes : written sheet (row_document i rest) ≡ written start (document i f · row_document i row)
 
--- Where no item stands before, nothing is done; else it is so far done for each tree of the whole.
+-- If there is no item before, nothing is done; else this much is done for each tree of the whole.
 abbrev pub Progress : (X : Type 0) (k : NodeKind) → Label → (X → Erased) → ℤ → List (Node X) → List Sign → Option Span → List (Node X) → List Sign → List WrappedToken → List WrappedToken → Type 0
 Progress X k l inside i whole start None left sheet old now = (left ≡ whole) × (sheet ≡ start) × (now ≡ old)
 Progress X k l inside i whole start (Some s) left sheet old now = (whole ≡ [] → ⊥) × ((f : Tree Shown k) (row : List (Shown × Tree Shown k)) → item_trees l inside whole ≡ nodes_of (branch l (parts kind_of_shown f) (row_parts l row))
     → (b a : List Shown) → map shown old ≡ b ++ ((tree_yield f ++ row_yield row) ++ a) → Stage X k l inside i start s left sheet now f row b a)
 
 module _ (X : Type 0) (k : NodeKind) (l : Label) (inside : X → Erased) (i : ℤ) (is : is_node l ≡ true) where
-  -- what is written of an item, and of a comma
+  -- what is written for an item, and for a comma
   abbrev IsItem : {U E : Type 0} → Result U E → Node X → List WrappedToken → List WrappedToken → List Sign → List Sign → Type 0
   IsItem r n old new sheet more = (f : Tree Shown k) → IsAt n.span (tree_yield f) → IsNodeOf (inside n.inner) f → Writes r old new sheet more (tree_yield f) (document i f)
 
@@ -104,7 +104,7 @@ module _ (X : Type 0) (k : NodeKind) (l : Label) (inside : X → Erased) (i : �
               ∙ m;
         }
 
-    -- one item more
+    -- one more item
     pub next_item : {U E : Type 0} {u : U} (whole : List (Node X)) (before : Option Span) (n : Node X) (left ns : List (Node X)) (start sheet marks more : List Sign) (old now mid new : List WrappedToken) → left ≡ n ∷ ns → (whole ≡ [] → ⊥)
         → Progress X k l inside i whole start before left sheet old now
         → (before ≡ None → (marks ≡ sheet) × (mid ≡ now))
@@ -152,7 +152,7 @@ module _ (X : Type 0) (k : NodeKind) (l : Label) (inside : X → Erased) (i : �
         go None q b a st = (q.1, ap (map shown) q.2 ∙ st ∙ ap (λ z. z ++ a) (sym (append-nil b)))
         go (Some s) q b a st = absurd (q.0 e)
 
--- the item at an index, and those behind it
+-- the item at an index, and those after it
 pub from_index : {X : Type 0} (xs : List X) (j : ℕ) (x : X) → j < length xs → x ≡ get_or xs j x → drop j xs ≡ x ∷ drop (j + 1) xs
 from_index xs j x h e = at_drop_more (λ ys. ys) xs j x h ∙ ap (λ y. y ∷ drop (j + 1) xs) (sym e)
 
@@ -163,7 +163,7 @@ pub some_at : {X : Type 0} (xs : List X) (j : ℕ) → j < length xs → xs ≡ 
 some_at [] j h e = absurd (omega arith)
 some_at (x ∷ xs) j h e = cc
 
--- the items from an index on have their tokens where the item there has, and those behind it have
+-- the items from an index on have their tokens if the item there and those after it have theirs
 pub item_and_more : {X : Type 0} (places : List Span) (l : Label) → ((s : Span) (f : Erased) → has_own places l (Some s) f ≡ true) → (inside : X → Erased) (xs : List (Node X)) (j : ℕ) (n : Node X) → drop j xs ≡ n ∷ drop (j + 1) xs
     → has_its_tokens places (item_trees l inside (drop j xs)) ≡ (has_its_tokens places (inside n.inner) && has_its_tokens places (item_trees l inside (drop (j + 1) xs)))
 item_and_more {X = X} places l own inside xs j n e = ap (λ z. has_its_tokens places (item_trees l inside z)) e ∙ ap (λ b. b && (has_its_tokens places (inside n.inner) && has_its_tokens places (more_trees l inside (drop (j + 1) xs)))) (own n.span (inside n.inner))

@@ -1,4 +1,4 @@
--- An `if`, and an expression that is none: what their nodes tell of their parts.
+-- An `if`, and an expression without one: what their nodes say about their parts.
 use Rattle.std.proofs.Common.{◌≡◌, List, sym, ap, ◌∙◌, rules}
 use Rattle.std.specs.Prelude.{◌&&◌, codes}
 use Rattle.std.specs.declared.alloc.Global.{Global}
@@ -22,7 +22,7 @@ view_if : (a b c : Box (Node Expr.Expr) Global) → expr_parts (Expr.If a b c)
     ≡ leaf (codes "if") (node Label.expr a.value.span (expr_parts a.value.inner) (leaf (codes "then") (node Label.expr b.value.span (expr_parts b.value.inner) (leaf (codes "else") (node Label.expr c.value.span (expr_parts c.value.inner) none)))))
 view_if a b c = search (rules, Or.the_lemmas)
 
--- the parts of an `if`, where its boxes hold these nodes
+-- the parts of an `if` whose boxes hold these nodes
 pub seen_if : (x : Expr.Expr) (a b c : Box (Node Expr.Expr) Global) (l m n : Node Expr.Expr) → x ≡ Expr.If a b c → l ≡ a.value → m ≡ b.value → n ≡ c.value
     → leaf (codes "if") (node Label.expr l.span (expr_parts l.inner) (leaf (codes "then") (node Label.expr m.span (expr_parts m.inner) (leaf (codes "else") (node Label.expr n.span (expr_parts n.inner) none))))) ≡ expr_parts x
 seen_if x a b c l m n h p q r = rw (p, q, r) (sym (view_if a b c) ∙ sym (ap expr_parts h))

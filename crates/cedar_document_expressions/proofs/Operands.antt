@@ -1,4 +1,4 @@
--- Nodes of operands, seen as a first operand and a list of signs and operands.
+-- Nodes of operands, viewed as a first operand and a list of signs and operands.
 use Rattle.std.proofs.Common.{◌≡◌, refl, sym, ap, ◌∙◌}
 use Rattle.cedar_grammar.specs.Trees.{Label}
 use Rattle.cedar_tree.specs.Erased.{node, add_parts, mult_parts, or_parts, or_rest, relation_parts, unary_parts}

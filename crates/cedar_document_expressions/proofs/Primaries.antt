@@ -1,4 +1,4 @@
--- Primaries: what their nodes tell of their parts.
+-- Primaries: what their nodes say about their parts.
 use Rattle.std.proofs.Common.{◌≡◌, ◌==◌, ℕ, suc, List, [], ◌∷◌, length, Option, Some, None, Bool, true, false, refl, sym, ap, ◌∙◌, subst, arith, rules}
 use Rattle.std.specs.Prelude.{⊤, codes, Vec, if◌then◌else◌, Result}
 use Rattle.std.specs.declared.alloc.Global.{Global}
@@ -48,7 +48,7 @@ is_zero = grind (arith, nat_tests)
 not_zero : (n : ℕ) → (suc n == 0) ≡ false
 not_zero n = grind (arith, nat_tests)
 
--- what a test tells
+-- what a test says
 pub tests_empty : {X : Type 0} (xs : List X) (b : Bool) → b ≡ (length xs == 0) → b ≡ true → xs ≡ []
 tests_empty [] b e h = refl
 tests_empty (x ∷ xs) b e h = absurd (false≢true (sym (not_zero (length xs)) ∙ sym e ∙ h))
@@ -194,7 +194,7 @@ module _ (p : Primary.Primary) (t : Tree Shown primary) (e : primary_parts p ≡
   pub seen_record : (v : Vec (Node RecInit.RecInit) Global) (ns : List (Node RecInit.RecInit)) → p ≡ Primary.RInits v → ns ≡ v.items → variant Label.fields (leaf (codes "{") (join (item_trees Label.rec_init init_parts ns) (leaf (codes "}") none))) none ≡ nodes_of (parts kind_of_shown t)
   seen_record v ns h k = ap (λ ms. variant Label.fields (leaf (codes "{") (join (item_trees Label.rec_init init_parts ms) (leaf (codes "}") none))) none) k ∙ sym (view_record v) ∙ sym (ap primary_parts h) ∙ e
 
--- what is found of items between brackets is found of the items
+-- what is found for items between brackets is found for the items
 pub list_found : {D : Type 0} (r : Result D NoDocument) (places : List Span) (p : Primary.Primary) (v : Vec (Node Expr.Expr) Global) (ns : List (Node Expr.Expr)) → p ≡ Primary.EList v → ns ≡ v.items → Finds r (has_its_tokens places (item_trees Label.expr expr_parts ns)) → Finds r (has_its_tokens places (primary_parts p))
 list_found r places p v ns h k f =
     let e : has_its_tokens places (primary_parts p) ≡ has_its_tokens places (item_trees Label.expr expr_parts ns) = ap (λ q. has_its_tokens places (primary_parts q)) h ∙ ap (λ X. has_its_tokens places X) (view_list v) ∙ and_one _

@@ -46,7 +46,7 @@ pub view_is_in : (a : Node Add.Add) (n : Node Name) (b : Node Add.Add)
     → relation_parts (Relation.IsIn a n (Some b)) ≡ node Label.add a.span (add_parts a.inner) (variant Label.is_type (leaf (codes "is") (name_tree n (leaf (codes "in") (node Label.add b.span (add_parts b.inner) none)))) none)
 view_is_in a n b = search (rules, Or.the_lemmas)
 
--- the label of a variant behind an operand
+-- the label of a variant after an operand
 label_behind : (l m : Label) (s : Span) (p q r : Erased) (a : Tree Shown add) (f : Forest Label Shown) → branch (Label.add, Some s) p (branch (l, None) q r) ≡ nodes_of (branch Label.add (parts kind_of_shown a) (branch m f none)) → l ≡ m
 label_behind l m s p q r a f e =
     let o = opened_tree Label.add s p (branch (l, None) q r) a (branch m f none) refl e in

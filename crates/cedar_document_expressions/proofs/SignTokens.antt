@@ -106,7 +106,7 @@ module _ (s : Span) where
           none_emptied b (x ∷ (ss ++ (m ∷ a))) outside_before ∙ ap (λ z. b ++ z) (all_emptied (x ∷ ss) (m ∷ a) inside ∙ ap (λ z. map emptied (x ∷ ss) ++ z) r.1) ∙ sym (append_assoc b (map emptied (x ∷ ss)) (m ∷ a)),
         )
 
--- the comments of the tokens between two others are handed out, and no others
+-- the comments of the tokens between two others are taken, and no others
 pub taken_between : (s : Span) (ts : List WrappedToken) → AreInOrder ts → (b ss a : List Shown) (x m : Shown) → x.span.start ≡ s.start → m.span.start ≡ s.end → map shown ts ≡ b ++ ((x ∷ ss) ++ (m ∷ a))
     → (comments_in s (map shown ts) ≡ map (λ t. t.comment) (x ∷ ss)) × (emptied_in s (map shown ts) ≡ (b ++ map emptied (x ∷ ss)) ++ (m ∷ a))
 taken_between s ts order b ss a x m first last e =
@@ -114,7 +114,7 @@ taken_between s ts order b ss a x m first last e =
     let r = those_between s b ss a x m first last o in
     (ap (comments_in s) e ∙ ap (map (λ (t : Shown). t.comment)) r.0, ap (emptied_in s) e ∙ r.1)
 
--- ---- how many they are
+-- ---- how many there are
 
 one_more : {X Y : Type 0} (b : Bool) (x : X) (xs : List X) (y : Y) (ys : List Y) → length xs ≡ length ys → length (if b then x ∷ xs else xs) ≡ length (if b then y ∷ ys else ys)
 one_more true x xs y ys h = ap suc h
@@ -124,11 +124,11 @@ counted : (s : Span) (ts : List WrappedToken) → length (filter (stands_in s) (
 counted s [] = refl
 counted s (t ∷ ts) = one_more (stands_in s (shown t)) (shown t) _ t.span _ (counted s ts)
 
--- as many comments are handed out as tokens stand there
+-- as many comments are taken as there are tokens
 pub comments_counted : (s : Span) (ts : List WrappedToken) (cs : List Comment) → map comment_parts cs ≡ comments_in s (map shown ts) → length cs ≡ count_between s.start s.end (found.places ts)
 comments_counted s ts cs e = sym (length-map cs comment_parts) ∙ ap length e ∙ length-map (filter (stands_in s) (map shown ts)) (λ (t : Shown). t.comment) ∙ counted s ts
 
--- so many signs as there are, or another number
+-- as many signs as there are, or another number
 pub as_many : (n count len between : ℕ) → count ≡ n → len ≡ between → len ≡ count → (n == 0 || between == n) ≡ true
 as_many n count len between e f g = let h : (between == n) ≡ true = grind (arith, nat_tests) in ap (λ z. n == 0 || z) h ∙ or-true (n == 0)
 
@@ -159,7 +159,7 @@ times_need : (ps : List Span) (n : ℕ) (sign : List ℕ) (s : Span) (p : Erased
 times_need ps zero sign s p = and-true (has_its_tokens ps p)
 times_need ps (suc n) sign s p = times_need ps n sign s p
 
--- beside them only the member needs tokens
+-- besides them, only the member needs tokens
 signs_or_rest : (ps : List Span) (l : Label) (n : ℕ) (sign : List ℕ) (s : Span) (p : Erased) → has_own ps l None none ≡ true → has_its_tokens ps (signs_or l n sign (node Label.member s p none)) ≡ has_its_tokens ps p
 signs_or_rest ps l zero sign s p e = ap (λ z. z && (has_its_tokens ps p && true)) e ∙ and-true (has_its_tokens ps p)
 signs_or_rest ps l (suc n) sign s p e = times_need ps n sign s p
@@ -171,7 +171,7 @@ member_needs ps (Some (NegOp.Dash n)) s p = signs_or_rest ps Label.dash n (codes
 
 -- ---- the documents
 
--- a sign more
+-- one more sign
 pub sign_step : (sign : List ℕ) (whole sheet more : List Sign) (comments : List Comment) (i : ℕ) (c : Comment) → i < length comments → c ≡ get_or comments i c → more ≡ written sheet (lead_of (comment_parts c).leading · text sign · trail_of (comment_parts c).trailing nil)
     → written sheet (signs_of sign (map comment_parts (drop i comments))) ≡ whole → written more (signs_of sign (map comment_parts (drop (i + 1) comments))) ≡ whole
 sign_step sign whole sheet more comments i c l e f h =
@@ -186,7 +186,7 @@ yield_in : (u : Tree Shown unary) → tree_yield u ≡ signs_in u ++ tree_yield 
 yield_in (unsigned m) = refl
 yield_in (signed s u) = ap (λ z. s ∷ z) (yield_in u)
 
--- what the nodes of signs tell
+-- what the nodes of signs say
 pub record AreSigns (n : ℕ) (sign : List ℕ) (s : Span) (p : Erased) (u : Tree Shown unary) : Type 0 where
   pub texts : AllByRecursion (λ t. sign ≡ token_value (text_of t)) (signs_in u)
   pub count : n ≡ length (signs_in u)
@@ -233,7 +233,7 @@ pub no_signs : (i : ℤ) (u : Tree Shown unary) (s : Span) (p : Erased) (sheet :
 no_signs i (unsigned m) s p sheet e tokens before after h = (refl, h ∙ ap (λ z. z ++ (tree_yield m ++ after)) (sym (append-nil before)))
 no_signs i (signed x u) s p sheet e tokens before after h = absurd cc
 
--- signs whose comments are handed out together
+-- signs whose comments are taken together
 pub some_signs : {U E : Type 0} (r : Result U E) (op : NegOp) (span member : Span) (sheet more : List Sign) (old new : List Shown)
     → ((s : Shown) (ss : List Shown) (x : Shown) (before after : List Shown) → 0 < sign_count op → s.span.start ≡ span.start → x.span.start ≡ member.start → old ≡ before ++ ((s ∷ ss) ++ (x ∷ after))
     → OnOk r ((more ≡ written sheet (signs_of (sign_text op) (map (λ t. t.comment) (s ∷ ss)))) × (new ≡ (before ++ map emptied (s ∷ ss)) ++ (x ∷ after))))
@@ -257,7 +257,7 @@ some_signs r op span member sheet more old new h i u inner at e before after st 
           q.1 ∙ ap (λ z. (before ++ map emptied z) ++ (x ∷ (ms ++ after))) se ∙ ap (λ z. (before ++ map emptied (signs_in u)) ++ (z ++ after)) me,
         ))
 
--- a unary seen as its signs and its member
+-- a unary viewed as its signs and its member
 pub view_of_unary : (u : Unary.Unary) → unary_parts u ≡ sign_leaves (out-Unary u).op (node Label.member (out-Unary u).item.span (member_parts (out-Unary u).item.inner) none)
 unfolding out-Unary denote.Hole.Carrier.out
 view_of_unary (Unary.Unary' op p s v row t) =
@@ -271,7 +271,7 @@ unary_needs ps span u =
     let f = sign_leaves v.op (node Label.member v.item.span (member_parts v.item.inner) none) in
     ap (λ z. has_own ps Label.unary (Some span) z && has_its_tokens ps z) (view_of_unary u) ∙ ap (λ z. has_own ps Label.unary (Some span) f && z) (member_needs ps v.op v.item.span (member_parts v.item.inner))
 
--- signs and then their member
+-- signs, then their member
 pub unary_written : {U E : Type 0} {r : Result U E} {old mid new : List WrappedToken} {s m t : List Sign} (i : ℤ) (u : Tree Shown unary)
     → ((before after : List Shown) → map shown old ≡ before ++ (tree_yield u ++ after) → (written m (document i (member_in u)) ≡ written s (document i u)) × (map shown mid ≡ (before ++ map emptied (signs_in u)) ++ (tree_yield (member_in u) ++ after)))
     → Writes r mid new m t (tree_yield (member_in u)) (document i (member_in u)) → Writes r old new s t (tree_yield u) (document i u)

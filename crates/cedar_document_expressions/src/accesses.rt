@@ -36,7 +36,7 @@ pub(crate) fn write_break<'src>(
     Ok(())
 }
 
-// Whether there is a place to break between the access before, if there is one, and this one.
+// Whether there is a place to break between the access before, if any, and this one.
 fn breaks_between(before: Option<&MemAccess<'_>>, access: &MemAccess<'_>) -> bool
     ensures { result ≡ breaks (form_before before.entry) (Some (form_of access.now)) }
 {

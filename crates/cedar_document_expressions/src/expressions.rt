@@ -1,5 +1,5 @@
-//! Expressions, in the order of the table. Above each function stands its row: a dot puts documents one after the other,
-//! `i` is the indentation of a level, `C(t)` a token between its comments.
+//! Expressions, in the order of the table. The row of each function is above it: a dot puts documents one after the other,
+//! `i` is the indentation of a level, and `C(t)` is a token between its comments.
 #![tactic(auto, using(cedar_document_rows::proofs::Keeping::keeping))]
 
 ghost use Rattle.std.specs.Prelude.{◌≡◌, ◌∷◌, ◌&&◌, [], Some, codes};
@@ -167,7 +167,7 @@ pub fn write_relation<'src>(
             write_keyword(sheet, target.span, "like", pattern, indent, tokens)?;
             Ok(sheet.end()?)
         }
-        // group(a . space . C("is") . space . nest(i, type)), or with line . C("in") . space . nest(i, b) in it
+        // group(a . space . C("is") . space . nest(i, type)), or with line . C("in") . space . nest(i, b) inside
         Relation::IsIn {
             target,
             entity_type,
@@ -369,7 +369,7 @@ pub fn write_member<'src>(
     Ok(sheet.end()?)
 }
 
-// The accesses; `line_` stands before each but the first and but a call after a field.
+// The accesses; `line_` comes before each except the first and except a call after a field.
 #[cycle(documents)]
 fn write_accesses<'src>(
     sheet: &mut Sheet<'src>,
@@ -438,7 +438,7 @@ fn write_call<'src>(
     Ok(token_at_end(sheet, ")", span, Next::Nothing, tokens)?)
 }
 
-/// A literal, an entity, a name, a slot, or what stands between brackets.
+/// A literal, an entity, a name, a slot, or what is between brackets.
 #[cycle(documents)]
 pub fn write_primary<'src>(
     sheet: &mut Sheet<'src>,
@@ -510,7 +510,7 @@ fn write_list<'src>(
     Ok(token_at_end(sheet, "]", span, Next::Nothing, tokens)?)
 }
 
-// C("{") . nest(i, group(line . inits . line)) . C("}"), and of no inits C("{") . C("}")
+// C("{") . nest(i, group(line . inits . line)) . C("}"), and without inits C("{") . C("}")
 #[cycle(documents)]
 fn write_record<'src>(
     sheet: &mut Sheet<'src>,

@@ -1,4 +1,4 @@
-//! Rows of the table for expressions, which write on a sheet.
+//! Rows of the table for expressions, which write to a sheet.
 #![tactic(auto)]
 
 mod accesses;

@@ -1,4 +1,4 @@
-//! The signs before a member: `C(sign)` for each, as many as stand between the start of the signs and that of the member.
+//! The signs before a member: `C(sign)` for each, as many as are between the start of the signs and that of the member.
 #![tactic(auto, using(cedar_document_rows::proofs::Keeping::keeping, cedar_sheet::proofs::Written::written_laws))]
 
 ghost use Rattle.std.specs.Prelude.{◌≡◌, ◌==◌, ℤ, ◌<◌, ◌∷◌, ◌++◌, ◌||◌, List, map, Some, OnOk};
@@ -22,7 +22,7 @@ use cedar_tokens::token::{Comment, Span, WrappedToken};
 use cedar_tree::tree::NegOp;
 use std::alloc::AllocError;
 
-// The signs before their member, if there are any; `span` is that of the signs and the member.
+// The signs before their member, if any; `span` is that of the signs and the member.
 pub(crate) fn write_signs<'src>(
     sheet: &mut Sheet<'src>,
     op: Option<NegOp>,
@@ -43,7 +43,7 @@ pub(crate) fn write_signs<'src>(
     }
 }
 
-// The signs between the start of `span` and that of their member; none where they aren't so many.
+// The signs between the start of `span` and that of their member; none if the number differs.
 fn write_counted<'src>(
     sheet: &mut Sheet<'src>,
     op: NegOp,
@@ -73,7 +73,7 @@ fn write_counted<'src>(
     Ok(write_each(sheet, text, &comments)?)
 }
 
-// The text of signs, and how many they are.
+// The text of signs, and how many there are.
 fn sign_parts(op: NegOp) -> (&'static str, u8)
     ensures text { result.0.now ≡ sign_text op }
     ensures count { result.1 ≡ sign_count op }

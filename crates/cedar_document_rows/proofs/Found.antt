@@ -1,4 +1,4 @@
--- Which tokens are found, and what a part's document has to do with those of the parts inside it.
+-- Which tokens are found, and how a part's document relates to those of the parts inside it.
 use Rattle.std.proofs.Common.{◌≡◌, ℕ, suc, Bool, true, false, List, [], ◌∷◌, ◌++◌, map, Option, Some, None, Result, Ok, Err, ◌||◌, refl, sym, ap, ◌∙◌, subst, arith}
 use Rattle.std.specs.Prelude.{IsTrue, IsFalse, IsErrAnd, MatchOption, is_some, ◌==◌, ◌&&◌}
 use Rattle.std.specs.List.{All, list_any}
@@ -32,7 +32,7 @@ none_starts : (p : ℕ) (ts : List Shown) → All (λ t. IsFalse (starts_at p t)
 none_starts p [] h = refl
 none_starts p (t ∷ ts) h = ap (λ b. b || list_any (starts_at p) ts) (h 0 t (omega arith)) ∙ none_starts p ts (λ k d n. h (suc k) d (omega (arith, n)))
 
--- a lookup finds a comment exactly where a token starts
+-- a lookup finds a comment exactly if a token starts there
 pub found_at_start : {X : Type 0} (p : ℕ) (old : List WrappedToken) (new : List Shown) (answer : X → Parts) (r : Option X) → MatchOption r (Unmatched (starts_at p) (map shown old) new) (λ c. HandedOut (starts_at p) (map shown old) new (answer c))
     → starts p (places old) ≡ is_some r
 found_at_start p old new answer None h = sym (starts_shown p old) ∙ none_starts p (map shown old) h.none
@@ -53,15 +53,15 @@ places_kept old new k = sym (bared new) ∙ (ap (map (λ b. b.1)) (kept_bare old
 pub as_before : (has : List Span → Bool) (b : Bool) (old mid : List WrappedToken) → KeepsTokens old mid → has (places mid) ≡ b → has (places old) ≡ b
 as_before has b old mid e h = ap has (sym (places_kept old mid e)) ∙ h
 
--- the same of an answer
+-- the same for an answer
 pub finds_before : {D : Type 0} (has : List Span → Bool) (r : Result D NoDocument) (old mid : List WrappedToken) → KeepsTokens old mid → Finds r (has (places mid)) → Finds r (has (places old))
 finds_before has r old mid e h = subst (λ z. Finds r (has z)) (places_kept old mid e) h
 
--- the same of the whole, which has its tokens where the last part has
+-- the same for the whole, which has its tokens if the last part has
 pub finds_last : {D : Type 0} (has : List Span → Bool) (r : Result D NoDocument) (old mid : List WrappedToken) (c : Bool) → KeepsTokens old mid → c ≡ has (places old) → Finds r (has (places mid)) → Finds r c
 finds_last has r old mid c k e h = subst (λ z. Finds r z) (sym e) (finds_before has r old mid k h)
 
--- a token that a part inside misses is missed by the whole
+-- a token missing from a part is missing from the whole
 pub missed : {E : Type 0} (q : Result E NoDocument) (e : NoDocument) (b c : Bool) → IsErrAnd q (λ r. r ≡ e) → Misses e b → (b ≡ false → c ≡ false) → Finds q c
 missed (Ok d) e b c i h f = absurd i
 missed (Err NoToken) e b c i h f = f (subst (λ z. Misses z b) (sym i) h)
@@ -81,7 +81,7 @@ and_one false = refl
 pub and_true : (b c : Bool) → b ≡ true → (b && c) ≡ c
 and_true b c h = ap (λ z. z && c) h
 
--- a token behind a row asks for nothing
+-- a token after a row needs nothing
 pub has_closed : (ps : List Span) (w : List ℕ) (f : Erased) → has_its_tokens ps (join f (leaf w none)) ≡ has_its_tokens ps f
 has_closed ps w none = refl
 has_closed ps w (leaf t f) = has_closed ps w f

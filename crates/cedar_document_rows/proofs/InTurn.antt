@@ -9,7 +9,7 @@ use Rattle.cedar_sheet.specs.Marks.{Sign, then_mark, written, nest_mark, group_m
 use Rattle.cedar_sheet.proofs.Written.{written-dot}
 use Rattle.cedar_document_rows.specs.NodeDocuments.{Anywhere, WritesWhere}
 
--- what follows from a fact of an answer
+-- what follows from a fact about an answer
 pub on_ok : {U E A B : Type 0} (r : Result U E) → OnOk r A → (A → B) → OnOk r B
 on_ok (Ok u) h f = f h
 on_ok (Err e) h f = tt
@@ -19,7 +19,7 @@ always_ok (Ok u) h = h
 always_ok (Err e) h = tt
 
 module _ {U E : Type 0} where
-  -- the same of another answer
+  -- the same for another answer
   pub done : {V F : Type 0} {u : V} {P : List Shown → Type 0} {old new : List WrappedToken} {s m : List Sign} {ts : List Shown} {d : Doc} (r : Result U E) → WritesWhere {U = V} {E = F} P (Ok u) old new s m ts d → WritesWhere P r old new s m ts d
   done r h = record { among = λ before after p st. always_ok r (h.among before after p st) }
 
@@ -35,18 +35,18 @@ module _ {U E : Type 0} where
         ));
   }
 
-  -- tokens, and then others that may stand anywhere
+  -- tokens, and then others that may be anywhere
   pub and_then : {V F : Type 0} {u : V} {r : Result U E} {P : List Shown → Type 0} {old mid new : List WrappedToken} {s m t : List Sign} {xs ys : List Shown} {d e : Doc} → WritesWhere {U = V} {E = F} P (Ok u) old mid s m xs d
       → WritesWhere Anywhere r mid new m t ys e → WritesWhere P r old new s t (xs ++ ys) (d · e)
   and_then h k = in_turn h (λ b p. tt) k
 
-  -- what is of no token, and then tokens
+  -- something without tokens, then tokens
   pub first : {r : Result U E} {P : List Shown → Type 0} {old new : List WrappedToken} {s m t : List Sign} {ts : List Shown} {e : Doc} (d : Doc) → m ≡ written s d → WritesWhere P r old new m t ts e → WritesWhere P r old new s t ts (d · e)
   first {r = r} {s = s} {e = e} d f h = record {
     among = λ before after p st. on_ok r (h.among before after p st) (λ b. (b.0 ∙ ap (λ z. written z e) f ∙ sym (written-dot s d e), b.1));
   }
 
-  -- tokens, and then what is of no token
+  -- tokens, then something without tokens
   pub last : {r : Result U E} {P : List Shown → Type 0} {old new : List WrappedToken} {s m t : List Sign} {ts : List Shown} {d : Doc} (e : Doc) → WritesWhere P r old new s m ts d → t ≡ written m e → WritesWhere P r old new s t ts (d · e)
   last {r = r} {s = s} {d = d} e h f = record {
     among = λ before after p st. on_ok r (h.among before after p st) (λ b. (f ∙ ap (λ z. written z e) b.0 ∙ sym (written-dot s d e), b.1));
@@ -63,7 +63,7 @@ module _ {U E : Type 0} where
     among = λ before after p st. on_ok r (h.among before after p st) (λ q. (e ∙ ap (λ z. then_mark z end_mark) (q.0 ∙ ap (λ z. written z d) b), q.1));
   }
 
-  -- no token at all
+  -- no tokens at all
   pub nothing : {r : Result U E} {P : List Shown → Type 0} {old : List WrappedToken} {s m : List Sign} (d : Doc) → m ≡ written s d → WritesWhere P r old old s m [] d
   nothing {r = r} d e = record { among = λ before after p st. always_ok r (e, st ∙ ap (λ z. z ++ after) (sym (append-nil before))) }
 

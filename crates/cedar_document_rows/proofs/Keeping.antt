@@ -1,4 +1,4 @@
--- Tokens that keep their texts and places, whatever comments are taken from them.
+-- Tokens that keep their texts and places, whichever comments are taken from them.
 use Rattle.std.proofs.Common.{◌≡◌, ℕ, List, [], ◌∷◌, ◌++◌, map, take, drop, length, Option, Some, None, refl, sym, ap, subst, ◌∙◌, inl, inr, Bool, true, false}
 use Rattle.std.specs.Prelude.{MatchOption, if◌then◌else◌, Result, Ok, Err, IfOk, OnErr}
 use Rattle.std.specs.List.{AllZip}
@@ -76,12 +76,12 @@ all_kept ts = record { each = each_untouched (map shown ts) }
 pub kept_on : (old mid new : List WrappedToken) → KeepsTokens mid new → KeepsTokens old mid → KeepsTokens old new
 kept_on old mid new k h = record { each = each_on (map shown old) (map shown mid) (map shown new) k.each h.each }
 
--- what is kept by the later call and the earlier one
+-- what is kept by the later and the earlier call
 infixr 60 ◌∘◌
 pub ◌∘◌ : {old mid new : List WrappedToken} → KeepsTokens mid new → KeepsTokens old mid → KeepsTokens old new
 ◌∘◌ {old = old} {mid = mid} {new = new} k h = kept_on old mid new k h
 
--- they are the same but for comments
+-- they are the same except for comments
 each_bare : (old new : List WrappedToken) → AllZip TakenFrom (map shown old) (map shown new) → map bare new ≡ map bare old
 each_bare [] [] h = refl
 each_bare [] (n ∷ new) h = absurd h

@@ -17,7 +17,7 @@ head P x xs h = h 0 x (omega arith)
 tail : {X : Type 0} (P : X → Type 0) (x : X) (xs : List X) → All P (x ∷ xs) → All P xs
 tail P x xs h k d n = h (suc k) d (omega (arith, n))
 
--- of two ways to cut a list at its first item that passes, both are the same
+-- two ways to cut a list at its first passing item give the same
 first_is_one : {X : Type 0} (p : X → Bool) (b c : List X) (x y : X) (a d : List X) → AllByRecursion (λ t. IsFalse (p t)) b → IsTrue (p x) → All (λ t. IsFalse (p t)) c → IsTrue (p y)
     → b ++ (x ∷ a) ≡ c ++ (y ∷ d) → (b ≡ c) × (x ≡ y) × (a ≡ d)
 first_is_one p [] [] x y a d hb hx hc hy e = (refl, cc, cc)
@@ -43,7 +43,7 @@ there : {X : Type 0} (p : X → Bool) (b : List X) (x : X) (a : List X) → IsTr
 there p [] x a h n = let f = head (λ t. IsFalse (p t)) x a n in absurd cc
 there p (y ∷ b) x a h n = there p b x a h (tail (λ t. IsFalse (p t)) y (b ++ (x ∷ a)) n)
 
--- the comment of the token x is handed out
+-- the comment of the token x is taken
 pub taken : (named : Shown → Bool) (b : List Shown) (x : Shown) (a : List Shown) → AllByRecursion (λ t. IsFalse (named t)) b → IsTrue (named x) → (old new : List Shown) (r : Option Comment)
     → old ≡ b ++ (x ∷ a) → MatchOption r (Unmatched named old new) (λ c. HandedOut named old new (comment_parts c)) → IsSomeAnd r (λ c. (comment_parts c ≡ x.comment) × (new ≡ (b ++ (emptied x ∷ [])) ++ a))
 taken named b x a none is old new None e h = absurd (there named b x a is (subst (λ z. All (λ t. IsFalse (named t)) z) e h.none))
@@ -87,7 +87,7 @@ none_ends : (b : List Shown) (x : Shown) → x.span.start < x.span.end → AllBy
 none_ends [] x n h = tt
 none_ends (y ∷ b) x n h = let i = h.0.0 in let j = h.0.1 in (grind (arith, nat_tests), none_ends b x n h.1)
 
--- every token of these starts before the place where the last one ends
+-- each of these tokens starts before the last one ends
 abbrev StartsBefore : ℕ → Shown → Type 0
 StartsBefore q y = y.span.start < q
 

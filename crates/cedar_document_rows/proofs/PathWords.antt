@@ -21,7 +21,7 @@ use Rattle.cedar_sheet.proofs.Written.{written-dot}
 use Rattle.cedar_document_rows.proofs.InTurn.{in_turn, on_ok}
 use Rattle.cedar_document_rows.proofs.Opened.{opened_leaf, opened_token, ends_here}
 
--- what is written so far, and the words that are left, with the tokens that are theirs
+-- what is written so far, and the words that are left, with their tokens
 pub record NameSoFar (i : ℤ) (whole : Tree Shown kind.name) (start : List Sign) (before after : List Shown) (last : Node Ident) (rest : List (Node Ident)) (sheet : List Sign) (now : List WrappedToken) : Type 0 where
   pub done : List Shown
   pub left : Tree Shown kind.name
@@ -34,7 +34,7 @@ module _ (i : ℤ) (whole : Tree Shown kind.name) (start : List Sign) (before af
   pub name_begun : (path : List (Node Ident)) (old : List WrappedToken) → IsNodeOf (path_parts path last) whole → map shown old ≡ before ++ (tree_yield whole ++ after) → NameSoFar i whole start before after last path start old
   name_begun path old n s = record { done = []; left = whole; nodes = n; tokens = refl; state = s ∙ ap (λ z. z ++ (tree_yield whole ++ after)) (sym (append-nil before)); writes = refl }
 
-  -- a word and the `::` behind it
+  -- a word and the `::` after it
   pub name_goes_on : {U V E F : Type 0} {u : U} {v : V} (word : Node Ident) (rest : List (Node Ident)) (sheet named more : List Sign) (old mid new : List WrappedToken) → NameSoFar i whole start before after last (word ∷ rest) sheet old
       → ((x : Shown) → x.span.start ≡ word.span.start → word.inner.0.now ≡ token_value (text_of x) → Writes {U = U} {E = E} (Ok u) old mid sheet named (x ∷ []) (table.printed (as_leaf x)))
       → ((c : Shown) → codes "::" ≡ token_value (text_of c) → WritesBehind {U = V} {E = F} word.span.end (Ok v) mid new named more (c ∷ []) (table.printed (as_leaf c)))

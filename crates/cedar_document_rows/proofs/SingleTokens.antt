@@ -11,7 +11,7 @@ use Rattle.cedar_sheet.specs.Marks.{Sign, written}
 use Rattle.cedar_document_rows.specs.NodeDocuments.{as_leaf, text_of}
 use Rattle.cedar_laws.specs.Table.{C}
 
--- a token is written whose comment was handed out
+-- a token is written after its comment was taken
 pub token_written : {U E : Type 0} (r : Option Comment) (m : Result U E) (sheet more : List Sign) (mid expected : List Shown) (t : Shown) (txt : List ℕ) (next : Doc) → txt ≡ token_value (text_of t) → IsSomeAnd r (λ c. (comment_parts c ≡ t.comment) × (mid ≡ expected))
     → ((parts : Parts) → IsSomeAnd r (λ c. comment_parts c ≡ parts) → OnOk m (more ≡ written sheet (lead_of parts.leading · layout.text txt · trail_of parts.trailing next))) → OnOk m ((more ≡ written sheet (C (as_leaf t) next)) × (mid ≡ expected))
 token_written None m sheet more mid expected t txt next f h k = absurd h

@@ -48,15 +48,15 @@ end_of_tokens (t ∷ (u ∷ us)) = end_of_tokens (u ∷ us)
 abbrev pub IsAt : Span → List Shown → Type 0
 IsAt span ts = span_of text_of (λ t. t.span) ts ≡ Some span
 
--- anywhere; right behind this place, where the tokens before end
+-- anywhere; directly after this place, where the tokens before end
 abbrev pub Anywhere : List Shown → Type 0
 Anywhere before = ⊤
 
 abbrev pub Behind : ℕ → List Shown → Type 0
 Behind place before = end_of_tokens before ≡ place
 
--- Where the tokens ts stand among the others, behind tokens of which P holds, they are written as this document after what stands on the sheet, if they are
--- written; then they have no comments, and nothing else has changed.
+-- If the tokens ts are consecutive among the others, after tokens that satisfy P, they are written as this document after the sheet's contents, if they are
+-- written at all; then they have no comments, and nothing else has changed.
 pub record WritesWhere {U E : Type 0} (P : List Shown → Type 0) (result : Result U E) (old new : List WrappedToken) (sheet more : List Sign) (ts : List Shown) (doc : Doc) : Type 0 where
   pub among : (before after : List Shown) → P before → map shown old ≡ before ++ (ts ++ after)
       → OnOk result ((more ≡ written sheet doc) × (map shown new ≡ (before ++ map emptied ts) ++ after))

@@ -1,4 +1,4 @@
-//! Rows of the table that write tokens, words, paths and entities on a sheet.
+//! Rows of the table that write tokens, words, paths and entities to a sheet.
 #![tactic(auto)]
 
 pub mod names;

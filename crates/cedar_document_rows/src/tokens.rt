@@ -1,4 +1,4 @@
-//! Single tokens: the leading lines, the token, and its trailing text or what stands in its place.
+//! Single tokens: the leading lines, the token, and its trailing text or what replaces it.
 #![tactic(auto, using(crate::proofs::Keeping::keeping, cedar_sheet::proofs::Written::written_laws))]
 
 ghost use Rattle.std.specs.Prelude.{◌≡◌, ◌∷◌, ◌++◌, [], List, map, Some, None, codes, IfOk, OnOk, IsSomeAnd};
@@ -39,7 +39,7 @@ pub fn comment_at_start<'src>(
     }
 }
 
-// The token `text` between its comments; `next` follows where it has no trailing text.
+// The token `text` between its comments; `next` follows if it has no trailing text.
 fn commented<'src>(
     sheet: &mut Sheet<'src>,
     text: &'src str,
@@ -133,7 +133,7 @@ pub fn sign_and_line<'src>(
     sheet.line()
 }
 
-/// `C(",") . line` of the comma after the item with this span; nothing where no item stands before.
+/// `C(",") . line` for the comma after the item with this span; nothing if there is no item before.
 pub fn comma<'src>(
     sheet: &mut Sheet<'src>,
     before: Option<Span>,

@@ -1,4 +1,4 @@
-//! What writing a part gives: nothing, or why it was not written.
+//! The result of writing a part: nothing, or why it was not written.
 ghost use Rattle.std.specs.Prelude.{◌≡◌};
 ghost use Rattle.cedar_document_rows.specs.declared.written.NoDocument.TheVariants.{OutOfMemory};
 
@@ -7,9 +7,9 @@ use std::alloc::AllocError;
 /// Why a part has no document.
 #[derive(Clone, Copy, Debug)]
 pub enum NoDocument {
-    /// A token that has to be there isn't.
+    /// A required token is missing.
     NoToken,
-    /// A growth was refused.
+    /// An allocation was refused.
     OutOfMemory,
 }
 
@@ -21,5 +21,5 @@ impl From<AllocError> for NoDocument {
     }
 }
 
-/// A part is written, or it has no document. In the second case a part of it may have been written.
+/// A part is written, or it has no document. In the latter case some of it may have been written.
 pub type Written = Result<(), NoDocument>;

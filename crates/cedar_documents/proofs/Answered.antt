@@ -1,4 +1,4 @@
--- From what private functions write to what `to_doc` answers.
+-- What `to_doc` answers, from what the private functions write.
 use Rattle.std.proofs.Common.{◌≡◌, ℕ, ℤ, Bool, true, false, List, [], ◌∷◌, ◌++◌, map, take, drop, length, Option, Some, None, Result, Ok, Err, refl, sym, ap, ◌∙◌, subst}
 use Rattle.std.specs.Prelude.{⊤, IfOk, IsOk, IsSomeAnd, OnOk, is_some, if◌then◌else◌}
 use Rattle.std.specs.declared.alloc.AllocError.{AllocError}
@@ -31,7 +31,7 @@ use Rattle.cedar_document_rows.proofs.Found.{and_one}
 use Rattle.cedar_document_rows.proofs.Keeping.{order_stays, refilled}
 use Rattle.cedar_documents.proofs.OwnTokens.{AreSigned, Within, first_starts, own, signed_part, signed_tree}
 
--- A part that a function wrote, with the tokens of a context, from an empty sheet on, and what is answered then: the slice is that of the n tokens
+-- A part that a function wrote on an empty sheet with the tokens of a context, and the answer that follows: the slice is that of the n tokens
 -- before, `left` is what is left of it, and the nodes have their tokens where `has` says so.
 pub record Called (wrote : Result ⊤ NoDocument) (result : Result (Option Document) AllocError) (nodes : Erased) (has : List Span → Bool) (n : ℕ) (start signs : List Sign) (old slice left : List WrappedToken) : Type 0 where
   pub len : n ≡ length old
@@ -44,25 +44,25 @@ pub record Called (wrote : Result ⊤ NoDocument) (result : Result (Option Docum
   pub told : (b : Bool) → Finds wrote b → IfOk result (λ d. is_some d ≡ b)
   pub answered : (d : Doc) → IsOk wrote → signs ≡ written [] d → IfOk result (λ r. IsSomeAnd r (λ x. doc_of x ≡ d))
 
--- a literal is found where a token starts where it does
+-- a literal is found if a token starts where it does
 pub literal_found : (P : List Span) (v : Literal) (s : Span) → has_its_tokens P (branch (variant_label v, Some s) (leaf (literal_text v) none) none) ≡ starts s.start P
 literal_found P Literal.True s = and_one (starts s.start P)
 literal_found P Literal.False s = and_one (starts s.start P)
 literal_found P (Literal.Num t) s = and_one (starts s.start P)
 literal_found P (Literal.Str t) s = and_one (starts s.start P)
 
--- what holds of an answer that is some, and what holds beside it
+-- what holds of an answer that is some, and what holds besides
 beside : {A : Type 0} (P : Document → Type 0) (r : Result (Option Document) AllocError) → IfOk r (λ z. IsSomeAnd z P) → A → IfOk r (λ z. IsSomeAnd z (λ d. P d × A))
 beside P (Ok None) h a = absurd h
 beside P (Ok (Some d)) h a = (h, a)
 beside P (Err e) h a = tt
 
--- no answer both is some and is none
+-- no answer is both some and none
 refused : (P : Option Document → Type 0) (r : Result (Option Document) AllocError) → IfOk r (λ d. is_some d ≡ true) → IfOk r (λ d. is_some d ≡ false) → IfOk r P
 refused P (Ok d) h k = absurd (false≢true (sym k ∙ h))
 refused P (Err e) h k = tt
 
--- where the tokens are there, what is said of what was written is said of an answer
+-- if the tokens are there, what holds of what was written holds of an answer
 both_answered : {A : Type 0} (B : Type 0) (P : Document → Type 0) (wrote : Result ⊤ NoDocument) (r : Result (Option Document) AllocError) (has : Bool) → Finds wrote has → has ≡ true → ((b : Bool) → Finds wrote b → IfOk r (λ d. is_some d ≡ b))
     → OnOk wrote (A × B) → (IsOk wrote → A → IfOk r (λ z. IsSomeAnd z P)) → IfOk r (λ z. IsSomeAnd z (λ d. P d × B))
 both_answered B P (Ok u) r has f t k h g = beside P r (g refl h.0) h.1
@@ -107,7 +107,7 @@ module _ {wrote : Result ⊤ NoDocument} {result : Result (Option Document) Allo
       (subst (λ z. IfOk result (λ r. IsSomeAnd r (λ d. (doc_of d ≡ e) × (map shown left ≡ (before ++ map emptied z) ++ after)))) (sym q)
       (subst (λ z. IfOk result (λ r. IsSomeAnd r (λ d. (doc_of d ≡ z) × (map shown left ≡ (before ++ map emptied ts) ++ after)))) (sym p) k))
 
--- the nodes of a typed tree have their tokens, where these stand side by side
+-- the nodes of a typed tree have their tokens if these are consecutive
 node_own : {k : NodeKind} {P : List Span} (l : Label) (span : Span) (inner : Erased) (t : Tree Shown k) → is_node l ≡ true → AreSigned (branch l (parts kind_of_shown t) none) → IsAt span (tree_yield t) → IsNodeOf inner t → Within P (tree_yield t) → has_its_tokens P (branch (l, Some span) inner none) ≡ true
 node_own {P = P} l span inner t is s at n w =
     let f = parts kind_of_shown t in
@@ -130,7 +130,7 @@ clause_own {P = P} l span inner t is s at n w =
     ∙ ap (λ o. has_its_tokens P (branch (l, o) (nodes_of f) none)) place
     ∙ own (branch l f none) s (subst (λ z. Within P z) (sym leaves) w)
 
--- a policy has its tokens, where these are all tokens
+-- a policy has its tokens if these are all the tokens
 pub policy_own : (old : List WrappedToken) (span : Span) (inner : Erased) (p : Clause Shown policy) → AreInOrder old → IsAt span (part_yield p) → IsPartOf inner p → map shown old ≡ part_yield p → has_its_tokens (places old) inner ≡ true
 policy_own old span inner p order at n st =
     let alone : map shown old ≡ [] ++ (part_yield p ++ []) = st ∙ sym (append-nil (part_yield p)) in

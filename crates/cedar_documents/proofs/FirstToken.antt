@@ -16,15 +16,15 @@ use Rattle.cedar_document_rows.specs.NodeDocuments.{IsNodeOf, as_leaf, kind_of_s
 use Rattle.cedar_laws.specs.Table.{bare_token}
 use Rattle.cedar_laws.proofs.Relabelled.{parts_map}
 
--- the table says the same of it
+-- the table says the same about it
 pub unled_leaves : {k : NodeKind} (t : Tree Shown k) → map_first bare_token (tree_map as_leaf t) ≡ tree_map as_leaf (map_first unled t)
 unled_leaves t = map_first_map unled bare_token as_leaf (λ a. refl) t
 
--- the first of its tokens has no leading lines, and the others are as before
+-- its first token has no leading lines, and the others are as before
 pub unled_tokens : {k : NodeKind} (t : Tree Shown k) (x : Shown) (xs : List Shown) → tree_yield t ≡ x ∷ xs → tree_yield (map_first unled t) ≡ unled x ∷ xs
 unled_tokens t x xs e = map_first_yield unled t ∙ ap (change_first unled) e
 
--- ---- its nodes
+-- ---- the nodes
 
 same_end : (s : Span) (ts : List Shown) → end_of text_of (λ t. t.span) s (map emptied ts) ≡ end_of text_of (λ t. t.span) s ts
 same_end s [] = refl
@@ -39,7 +39,7 @@ emptied_yield none = refl
 emptied_yield (leaf a f) = ap (λ z. emptied a ∷ z) (emptied_yield f)
 emptied_yield (branch l f g) = ap (λ z. z ++ forest.yield (relabel emptied g)) (emptied_yield f) ∙ ap (λ z. map emptied (forest.yield f) ++ z) (emptied_yield g) ∙ sym (map-append emptied (forest.yield f) (forest.yield g))
 
--- nodes don't look at comments
+-- nodes ignore comments
 same_nodes : (f : Forest Label Shown) → nodes_of (relabel emptied f) ≡ nodes_of f
 same_nodes none = refl
 same_nodes (leaf a f) = ap (leaf (token_value (text_of a))) (same_nodes f)
@@ -51,6 +51,6 @@ same_nodes (branch l f g) =
 tree_nodes : {k : NodeKind} (t : Tree Shown k) → nodes_of (parts kind_of_shown (tree_map emptied t)) ≡ nodes_of (parts kind_of_shown t)
 tree_nodes t = ap nodes_of (sym (parts_map emptied kind_of_shown kind_of_shown (λ a. refl) t)) ∙ same_nodes (parts kind_of_shown t)
 
--- a node that stands for a tree stands for the tree without these lines
+-- a node that stands for a tree also stands for the tree without these lines
 pub unled_nodes : {k : NodeKind} (p : Erased) (t : Tree Shown k) → IsNodeOf p t → IsNodeOf p (map_first unled t)
 unled_nodes p t e = e ∙ sym (tree_nodes t) ∙ ap (λ z. nodes_of (parts kind_of_shown z)) (sym (map_first_unseen unled emptied (λ a. refl) t)) ∙ tree_nodes (map_first unled t)

@@ -1,4 +1,4 @@
--- Each node of an accepted text is made of tokens that stand side by side.
+-- Each node of an accepted text is made of consecutive tokens.
 use Rattle.std.proofs.Common.{◌≡◌, ℕ, ℤ, zero, suc, List, [], ◌∷◌, ◌++◌, map, length, Option, Some, None, refl, sym, ap, ◌∙◌, subst, arith, append_assoc, append-nil, ◌<◌, inl, inr}
 use Rattle.std.specs.Prelude.{if◌then◌else◌, slice_index_or}
 use Rattle.cedar_tokens.specs.Listing.{Listing, token_value}
@@ -24,7 +24,7 @@ use Rattle.cedar_documents.specs.OwnTokens.{Holds, IsTokenWith, MeetsItsTokens, 
 use Rattle.cedar_documents.proofs.StreamTrees.{nodes_over}
 use Rattle.cedar_documents.proofs.TypedNodes.{AreTyped, IsTyped, OfPart, OfToken, OfTree, typed_policies}
 
--- where the tokens of a node stand, if it has any
+-- where the tokens of a node are, if it has any
 abbrev span_in : Forest Label Shown → Option Span
 span_in f = span_of text_of (λ t. t.span) (yield f)
 
@@ -35,7 +35,7 @@ module _ (tokens : List WrappedToken) where
   back : (xs ys : List Shown) → StandTogether tokens (xs ++ ys) → StandTogether tokens ys
   back xs ys (b, a, e) = (b ++ xs, a, e ∙ ap (λ z. b ++ z) (append_assoc xs ys a) ∙ sym (append_assoc b xs (ys ++ a)))
 
-  -- what is made of these tokens, at every indentation, and where they stand
+  -- what is made of these tokens at every indentation, and where they are
   abbrev Met : (ℤ → List Shown → Doc → Type 0) → Type 0
   Met is_shown = (i : ℤ) → (ts : List Shown) × (doc : Doc) × is_shown i ts doc × StandTogether tokens ts
 
@@ -87,7 +87,7 @@ module _ (tokens : List WrappedToken) where
   met Label.slot f s t at w = token_met f s t at w
   met l f s t at w = absurd cc
 
-  -- every node that typed trees hold
+  -- every node that typed trees contain
   held : (f : Forest Label Shown) → AreTyped f → StandTogether tokens (yield f) → (l : Label) (s : Span) (inner : Erased) → Holds (nodes_of f) l s inner → MeetsItsTokens tokens l s inner
   held none t w l s inner h = absurd h
   held (leaf x f) t w l s inner h = held f t (back (x ∷ []) (yield f) w) l s inner h

@@ -1,4 +1,4 @@
--- A part whose own tokens stand side by side has its tokens.
+-- A part whose own tokens are consecutive has its tokens.
 use Rattle.std.proofs.Common.{◌≡◌, ℕ, suc, cond, Bool, true, false, List, [], ◌∷◌, ◌++◌, map, length, Option, Some, None, ◌==◌, ◌||◌, refl, sym, ap, ◌∙◌, subst, arith}
 use Rattle.std.specs.Prelude.{⊤, ◌&&◌, nat_le, if◌then◌else◌}
 use Rattle.std.specs.List.{filter}
@@ -17,7 +17,7 @@ use Rattle.cedar_document_expressions.proofs.SignTokens.{those_between}
 use Rattle.cedar_documents.proofs.TypedNodes.{AreTyped, IsTyped, typed_part, typed_tree}
 use Rattle.cedar_document_rows.specs.NodeDocuments.{kind_of_shown, nodes_of, text_of}
 
--- the tokens ts stand side by side among others, which stand at these places
+-- the tokens ts are consecutive among others, which are at these places
 pub record Within (P : List Span) (ts : List Shown) : Type 0 where
   pub before : List Shown
   pub after : List Shown
@@ -55,7 +55,7 @@ first_starts x ts w = ap (starts x.span.start) w.all ∙ starts_among x w.before
 abbrev SomeToken : Forest Label Shown → Type 0
 SomeToken f = (x : Shown) × (ts : List Shown) × (yield f ≡ x ∷ ts)
 
--- some tokens, and then a member with tokens of its own
+-- some tokens, then a member with tokens of its own
 abbrev IsSigned : Forest Label Shown → Type 0
 IsSigned none = ⊥
 IsSigned (leaf x f) = IsSigned f
@@ -65,13 +65,13 @@ abbrev Own : Label → Forest Label Shown → Type 0
 Own Label.unary f = IsSigned f
 Own l f = ⊤
 
--- each unary of these trees is signs and a member
+-- each unary of these trees consists of signs and a member
 abbrev pub AreSigned : Forest Label Shown → Type 0
 AreSigned none = ⊤
 AreSigned (leaf x f) = AreSigned f
 AreSigned (branch l f g) = Own l f × AreSigned f × AreSigned g
 
--- the tokens before the member, and the member's first
+-- the tokens before the member, and the first token of the member
 record Parted (f : Forest Label Shown) : Type 0 where
   signs : List Shown
   first : Shown
@@ -92,7 +92,7 @@ parted (branch l f g) (m, n, w) = record {
   start = ap (λ k. start_of_node (branch (k, if is_node k then span_of text_of (λ (t : Shown). t.span) (yield f) else None) (nodes_of f) (nodes_of g))) m ∙ ap (λ z. start_of_node (branch (Label.member, span_of text_of (λ (t : Shown). t.span) z) (nodes_of f) (nodes_of g))) w.2;
 }
 
--- how many of the tokens stand in a span
+-- how many of the tokens are in a span
 counted : (s : Span) (ts : List Shown) → count_between s.start s.end (map (λ t. t.span) ts) ≡ length (filter (stands_in s) ts)
 counted s [] = refl
 counted s (t ∷ ts) = go (stands_in s t) (counted s ts)
@@ -102,7 +102,7 @@ counted s (t ∷ ts) = go (stands_in s t) (counted s ts)
     go true e = ap suc e
     go false e = e
 
--- as many tokens stand between the start of signs and their member as there are signs
+-- there are as many tokens between the start of the signs and their member as there are signs
 signs_between : {P : List Span} (x : Shown) (ss : List Shown) (m : Shown) (ms : List Shown) → Within P ((x ∷ ss) ++ (m ∷ ms)) → count_between x.span.start m.span.start P ≡ length (x ∷ ss)
 signs_between {P = P} x ss m ms w =
     let s : Span = record { start = x.span.start; end = m.span.start } in
@@ -149,7 +149,7 @@ owned {P = P} Label.slot f o w = one_token Label.slot (yield f) w f (λ s. has_o
 owned Label.unary f o w = signs_are_there f o w
 owned l f o w = refl
 
--- trees whose tokens stand side by side have their tokens
+-- trees whose tokens are consecutive have their tokens
 pub own : {P : List Span} (f : Forest Label Shown) → AreSigned f → Within P (yield f) → has_its_tokens P (nodes_of f) ≡ true
 own none s w = refl
 own (leaf x f) s w = own f s (back (x ∷ []) (yield f) w)

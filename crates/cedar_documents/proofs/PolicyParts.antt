@@ -1,4 +1,4 @@
--- What the parts of policies tell of their tokens.
+-- What the parts of policies say about their tokens.
 use Rattle.std.proofs.Common.{◌≡◌, ℕ, List, [], ◌∷◌, ◌++◌, map, Option, Some, None, sym, ◌∙◌}
 use Rattle.std.specs.Prelude.{IsSomeAnd}
 use Rattle.cedar_grammar.specs.Trees.{Label, Forest, leaf, branch}
@@ -7,13 +7,13 @@ use Rattle.cedar_layout.specs.Lookups.{Shown, emptied}
 use Rattle.cedar_tree.specs.Erased.{Erased}
 use Rattle.cedar_document_rows.specs.NodeDocuments.{end_of_tokens, nodes_of}
 
--- behind one token, with its comments or without them
+-- after one token, with or without its comments
 pub behind_token : (p : ℕ) (x : Shown) → x.span.end ≡ p → (b : List Shown) → end_of_tokens (b ++ map emptied (x ∷ [])) ≡ p
 behind_token p x e [] = e
 behind_token p x e (y ∷ []) = e
 behind_token p x e (y ∷ (z ∷ b)) = behind_token p x e (z ∷ b)
 
--- no token is no part
+-- no part is without tokens
 pub no_token : (x : Shown) (g : Forest Label Shown) → ◌≡◌ {A = Erased} forest.none (nodes_of (leaf x g)) → ⊥
 no_token x g e = absurd cc
 
@@ -24,7 +24,7 @@ no_part s r e = absurd cc
 pub not_both : {V : Type 0} {q : Option V} {v : V} → q ≡ None → q ≡ Some v → ⊥
 not_both {V = V} {v = v} h k = let f : ◌≡◌ {A = Option V} None (Some v) = sym h ∙ k in absurd cc
 
--- what holds of an answer, and what holds beside it
+-- what holds of an answer, and what holds besides
 pub apart : {V : Type 0} (P : V → Type 0) (Q : Type 0) (r : Option V) → IsSomeAnd r (λ v. P v × Q) → IsSomeAnd r P × Q
 apart P Q None h = absurd h
 apart P Q (Some v) h = h

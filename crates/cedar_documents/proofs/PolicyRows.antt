@@ -18,13 +18,13 @@ use Rattle.cedar_document_rows.specs.NodeDocuments.{IsAt, Writes, as_leaf, kind_
 use Rattle.cedar_document_rows.proofs.Opened.{opened, part_at}
 use Rattle.cedar_documents.specs.PartDocuments.{IsPartOf, part_document}
 
--- the tokens with the comments of some more taken
+-- the tokens after the comments of some more were taken
 taken_more : (before done ts : List Shown) (rest : List Shown) → ((before ++ map emptied done) ++ map emptied ts) ++ rest ≡ (before ++ map emptied (done ++ ts)) ++ rest
 taken_more before done ts rest = ap (λ z. z ++ rest) (append_assoc before (map emptied done) (map emptied ts) ∙ ap (λ z. before ++ z) (sym (map-append emptied done ts)))
 
 -- ---- annotations
 
--- the first annotations are written, and their tokens have no comments; the rest are still to come
+-- the first annotations are written, and their tokens have no comments; the rest is still to come
 pub record Annotated (i : ℤ) (whole : Clause Shown annotations) (start : List Sign) (before after : List Shown) (rest : List (Node Annotation)) (sheet : List Sign) (now : List WrappedToken) : Type 0 where
   pub left : Clause Shown annotations
   pub done : List Shown
@@ -38,7 +38,7 @@ module _ (i : ℤ) (whole : Clause Shown annotations) (start : List Sign) (befor
   pub none_annotated : (rest : List (Node Annotation)) (old : List WrappedToken) → IsPartOf (annotation_trees rest none) whole → map shown old ≡ before ++ (part_yield whole ++ after) → Annotated i whole start before after rest start old
   none_annotated rest old e s = record { left = whole; done = []; trees = e; tokens = refl; state = s ∙ ap (λ z. z ++ (part_yield whole ++ after)) (sym (append-nil before)); writes = refl }
 
-  -- one annotation more
+  -- one more annotation
   pub one_annotated : {U E : Type 0} {u : U} (n : Node Annotation) (rest : List (Node Annotation)) (sheet more : List Sign) (old new : List WrappedToken) → Annotated i whole start before after (n ∷ rest) sheet old
       → ((a : Clause Shown annotation) → IsAt n.span (part_yield a) → IsPartOf (annotation_parts n.inner) a → Writes {U = U} {E = E} (Ok u) old new sheet more (part_yield a) (part_document i a)) → Annotated i whole start before after rest more new
   one_annotated n rest sheet more old new h f = go h.left h.trees h.tokens h.state h.writes
@@ -58,7 +58,7 @@ module _ (i : ℤ) (whole : Clause Shown annotations) (start : List Sign) (befor
             writes = ap (λ z. written z (part_document i m)) r.0 ∙ sym (written-dot sheet (part_document i a) (part_document i m)) ∙ k;
           }
 
-  -- behind the last annotation
+  -- after the last annotation
   pub all_annotated : (sheet : List Sign) (now : List WrappedToken) → Annotated i whole start before after [] sheet now → (sheet ≡ written start (part_document i whole)) × (map shown now ≡ (before ++ map emptied (part_yield whole)) ++ after)
   all_annotated sheet now h = go h.left h.trees h.tokens h.state h.writes
     where
@@ -69,7 +69,7 @@ module _ (i : ℤ) (whole : Clause Shown annotations) (start : List Sign) (befor
 
 -- ---- conditions
 
--- the conditions that are still to come: behind others a break stands in front of them
+-- the conditions still to come: after others, they start with a break
 abbrev still : ℤ → Bool → Clause Shown conds → Doc
 still i true m = part_document i m
 still i false m = between_conds (part_map as_leaf m) · part_document i m
@@ -95,7 +95,7 @@ nothing_still : (i : ℤ) (is_first : Bool) → still i is_first no_cond ≡ nil
 nothing_still i true = refl
 nothing_still i false = refl
 
--- the first conditions are written, and their tokens have no comments; the rest are still to come
+-- the first conditions are written, and their tokens have no comments; the rest is still to come
 pub record Conditioned (i : ℤ) (whole : Clause Shown conds) (start : List Sign) (before after : List Shown) (rest : List (Node Cond)) (is_first : Bool) (sheet : List Sign) (now : List WrappedToken) : Type 0 where
   pub left : Clause Shown conds
   pub done : List Shown
@@ -109,7 +109,7 @@ module _ (i : ℤ) (whole : Clause Shown conds) (start : List Sign) (before afte
   pub none_conditioned : (rest : List (Node Cond)) (old : List WrappedToken) → IsPartOf (cond_trees rest none) whole → map shown old ≡ before ++ (part_yield whole ++ after) → Conditioned i whole start before after rest true start old
   none_conditioned rest old e s = record { left = whole; done = []; trees = e; tokens = refl; state = s ∙ ap (λ z. z ++ (part_yield whole ++ after)) (sym (append-nil before)); writes = refl }
 
-  -- one condition more
+  -- one more condition
   pub one_conditioned : {U E : Type 0} {u : U} (n : Node Cond) (rest : List (Node Cond)) (is_first : Bool) (sheet mid more : List Sign) (old new : List WrappedToken) → Conditioned i whole start before after (n ∷ rest) is_first sheet old → mid ≡ broken is_first sheet
       → ((a : Clause Shown cond) → IsAt n.span (part_yield a) → IsPartOf (cond_parts n.inner) a → Writes {U = U} {E = E} (Ok u) old new mid more (part_yield a) (part_document i a)) → Conditioned i whole start before after rest false more new
   one_conditioned n rest is_first sheet mid more old new h b f = go h.left h.trees h.tokens h.state h.writes
@@ -129,7 +129,7 @@ module _ (i : ℤ) (whole : Clause Shown conds) (start : List Sign) (before afte
             writes = ap (λ z. written z (still i false m)) r.0 ∙ ap (λ z. written (written z (part_document i a)) (still i false m)) b ∙ sym (written-dot (broken is_first sheet) (part_document i a) (still i false m)) ∙ sym (still_more i is_first sheet a m) ∙ k;
           }
 
-  -- behind the last condition
+  -- after the last condition
   pub all_conditioned : (is_first : Bool) (sheet : List Sign) (now : List WrappedToken) → Conditioned i whole start before after [] is_first sheet now → (sheet ≡ written start (part_document i whole)) × (map shown now ≡ (before ++ map emptied (part_yield whole)) ++ after)
   all_conditioned is_first sheet now h = go h.left h.trees h.tokens h.state h.writes
     where

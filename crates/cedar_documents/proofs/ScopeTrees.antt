@@ -1,4 +1,4 @@
--- What the trees of a scope tell of its variables, and their documents.
+-- What the trees of a scope say about its variables, and the documents of these.
 use Rattle.std.proofs.Common.{◌≡◌, Bool, true, false, List, [], ◌∷◌, ◌++◌, map, ℕ, Option, Some, None, refl, sym, ap, subst, ◌∙◌, append_assoc, arith}
 use Rattle.std.proofs.lemmas.Bool.Decides.{nat_tests}
 use Rattle.std.specs.Prelude.{codes, not, is_some, ◌||◌, ◌&&◌, if◌then◌else◌, ◌==◌, length, suc}
@@ -34,7 +34,7 @@ first none = None
 first (leaf s r) = None
 first (branch l p r) = Some l.0
 
--- nothing behind the variable
+-- nothing after the variable
 pub record IsUnbound (n : Option (Node Name)) (q : Option Operator) : Type 0 where
   pub no_type : n ≡ None
   pub no_operator : q ≡ None
@@ -48,7 +48,7 @@ pub no_operator : (q : Option Operator) → operator_parts q ≡ none → q ≡ 
 no_operator None e = refl
 no_operator (Some x) e = absurd cc
 
--- a type, and what is behind it
+-- a type, and what follows it
 pub record IsTyped (n : Option (Node Name)) (q : Option Operator) (w : Shown) (t : Tree Shown kind.name) (g : Forest Label Shown) : Type 0 where
   pub name : Node Name
   pub is : n ≡ Some name
@@ -68,7 +68,7 @@ typed (Some m) q w t g e =
     let p = opened_tree Label.name m.span _ _ t g refl o.1 in
     record { name = m; is = refl; word = o.0; path = p.0; place = p.1; behind = p.2 }
 
--- an operator, and what it compares with
+-- an operator, and its operand
 pub record IsCompared (q : Option Operator) (o : Shown) (t : Tree Shown kind.add) : Type 0 where
   pub operator : Operator
   pub is : q ≡ Some operator
@@ -103,9 +103,9 @@ is_bound v (variable_is_op x w n p a) e =
     let o = opened_leaf Label.ident _ _ _ x (leaf w (branch Label.name (parts kind_of_shown n) (leaf p (branch Label.add (parts kind_of_shown a) none)))) refl e in
     rw ((typed v.entity_type v.ineq w n (leaf p (branch Label.add (parts kind_of_shown a) none)) o.3).is) refl
 
--- ---- what is found of a variable
+-- ---- what is found for a variable
 
--- a type has its tokens apart from what is behind it
+-- a type has its tokens, apart from what follows it
 pub typed_found : (ps : List Span) (n : Option (Node Name)) (f : Erased) → has_its_tokens ps (type_parts n f) ≡ (has_its_tokens ps (type_parts n none) && has_its_tokens ps f)
 typed_found ps None f = refl
 typed_found ps (Some n) f = with_true (has_its_tokens ps (path_parts n.inner.path.items n.inner.name)) (has_its_tokens ps f)
@@ -116,20 +116,20 @@ typed_found ps (Some n) f = with_true (has_its_tokens ps (path_parts n.inner.pat
 
 -- ---- tokens in a row
 
--- behind tokens with this span, and one token before them
+-- after tokens with this span, and one token before them
 pub ends_later : (s : Span) (x : Shown) (ts : List Shown) → IsAt s ts → (b : List Shown) → end_of_tokens (b ++ map emptied (x ∷ ts)) ≡ s.end
 ends_later s x ts h b = subst (λ z. end_of_tokens z ≡ s.end) (append_assoc b (emptied x ∷ []) (map emptied ts)) (ends_here s ts h (b ++ (emptied x ∷ [])))
 
 -- ---- the document of a variable
 
--- a variable's word with its trailing text, and what is behind it
+-- a variable's word with its trailing text, and what follows it
 pub word_same : (k : Doc → Doc) (x : Shown) (txt : List ℕ) (p : Parts) → txt ≡ token_value (text_of x) → p ≡ x.comment → text txt · k (trail_of p.trailing nil) ≡ tok (as_leaf x) · k (trail (as_leaf x) nil)
 word_same k x txt p h w = ap (λ z. text z · k (trail_of p.trailing nil)) h ∙ ap (λ z. tok (as_leaf x) · k (trail_of z.trailing nil)) w
 
 pub document_is : (x : Decorated) (type : Doc) → lead x · tok x · (trail x nil · type) ≡ leaf_document x · type
 document_is x type = sym (dot_assoc (lead x) (tok x · trail x nil) type)
 
--- ---- the break behind a scope
+-- ---- the break after a scope
 
 pub break_before : (ns : List (Node Cond)) (t : Clause Shown kind.conds) → IsPartOf (cond_trees ns none) t → between_conds (part_map as_leaf t) ≡ if length ns == 0 then nil else hard
 break_before [] no_cond e = refl

@@ -1,4 +1,4 @@
--- The typed policies of a text over the tokens that its stream gives once trailing commas are dropped.
+-- The typed policies of a text, over the tokens its stream gives once trailing commas are dropped.
 use Rattle.std.proofs.Common.{◌≡◌, ℕ, None, List, [], ◌∷◌, ◌++◌, map, length, Bool, true, false, refl, sym, ap, ◌∙◌, subst}
 use Rattle.std.specs.Prelude.{if◌then◌else◌, ◌&&◌}
 use Rattle.std.specs.List.{flat_map}
@@ -69,7 +69,7 @@ stream_places text ws l units split is_list e spans =
     sym (map_map (λ (d : Decorated). d.text) decorated ws) ∙ ap (map (λ (d : Decorated). d.text)) (sym e) ∙ ap (λ (m : Listing). map (λ d. d.text) m.tokens) is_list.value ∙ listing_texts is_list.units ∙ ap only_tokens u in
     places_zipped ws ∙ ap (λ z. with_places z (map (λ w. w.span) ws)) texts ∙ ap (with_places (only_tokens units)) (spans.value ∙ ap (token_spans 0) v)
 
--- without its trailing commas a list of tokens has the places that are left
+-- without its trailing commas, a list of tokens has the remaining places
 kept_places : (ws : List WrappedToken) → map place_of (map shown (kept_tokens ws)) ≡ plain kind_of_placed (map place_of (map shown ws))
 kept_places [] = refl
 kept_places (c ∷ []) = go (is K.Comma (kind_of (token_text c.token)))

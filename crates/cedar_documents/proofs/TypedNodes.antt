@@ -1,4 +1,4 @@
--- Each node inside a typed tree is a typed tree of its own.
+-- Each node inside a typed tree is a typed tree itself.
 use Rattle.std.proofs.Common.{◌≡◌, List, [], ◌∷◌, refl}
 use Rattle.std.specs.Prelude.{⊤}
 use Rattle.cedar_grammar.specs.Trees.{Label, Forest, none, leaf, branch, join}
@@ -19,7 +19,7 @@ OfPart k f = (t : Clause Shown k) × (f ≡ part_parts kind_of_shown t)
 abbrev pub OfToken : Forest Label Shown → Type 0
 OfToken f = (x : Shown) × (f ≡ leaf x none)
 
--- which of these the parts of a node with this label are
+-- which of these are the parts of a node with this label
 abbrev pub IsTyped : Label → Forest Label Shown → Type 0
 IsTyped Label.policy f = OfPart kind.policy f
 IsTyped Label.annotation f = OfPart kind.annotation f
@@ -46,7 +46,7 @@ IsTyped Label.string f = OfToken f
 IsTyped Label.slot f = OfToken f
 IsTyped l f = ⊤
 
--- the same of every node of these trees
+-- the same for every node of these trees
 abbrev pub AreTyped : Forest Label Shown → Type 0
 AreTyped none = ⊤
 AreTyped (leaf x f) = AreTyped f

@@ -1,4 +1,4 @@
--- What the tree of a policy tells of its parts.
+-- What the tree of a policy says about its parts.
 use Rattle.std.proofs.Common.{◌≡◌, ℕ, Bool, true, false, List, [], ◌∷◌, ◌++◌, map, Option, refl, ap, sym, ◌∙◌}
 use Rattle.std.specs.Prelude.{◌&&◌, codes}
 use Rattle.std.proofs.lemmas.List.{append_assoc, map-append}
@@ -15,11 +15,11 @@ use Rattle.cedar_document_rows.specs.Found.{has_its_tokens, has_own, starts}
 use Rattle.cedar_document_rows.specs.NodeDocuments.{IsAt, end_of_tokens, kind_of_shown, nodes_of}
 use Rattle.cedar_documents.proofs.PolicyParts.{behind_token}
 
--- trees of two labels differ
+-- trees with different labels differ
 two_labels : (k l : Label) (s u : Option Span) (p q r o : Erased) → (k ≡ l → ⊥) → branch (k, s) p q ≡ branch (l, u) r o → ⊥
 two_labels k l s u p q r o n e = let h : ◌≡◌ {A = Label × Option Span} (k, s) (l, u) = cc in n (ap (λ z. z.0) h)
 
--- annotations before a tree of another label
+-- annotations before a tree with another label
 pub annotations_apart : (xs : List (Node Annotation)) (ns : Clause Shown annotations) (s : Option Span) (p o : Erased) (f g : Forest Label Shown) → annotation_trees xs (branch (Label.ident, s) p o) ≡ nodes_of (join (part_parts kind_of_shown ns) (branch Label.ident f g))
     → (annotation_trees xs none ≡ nodes_of (part_parts kind_of_shown ns)) × (branch (Label.ident, s) p o ≡ nodes_of (branch Label.ident f g))
 annotations_apart [] no_annotation s p o f g e = (refl, e)
@@ -35,11 +35,11 @@ conds_apart [] (conds_more a m) txt o x g e = absurd cc
 conds_apart (n ∷ xs) no_cond txt o x g e = absurd cc
 conds_apart (n ∷ xs) (conds_more a m) txt o x g e = let r = conds_apart xs m txt o x g cc in let h = r.0 in (cc, r.1)
 
--- the tokens end at the place, whatever stands before them
+-- the tokens end at the place, whatever comes before them
 abbrev pub EndAt : ℕ → List Shown → Type 0
 EndAt p ts = (b : List Shown) → end_of_tokens (b ++ map emptied ts) ≡ p
 
--- tokens in front of them change nothing
+-- tokens before them change nothing
 pub ends_after : (p : ℕ) (us ts : List Shown) → EndAt p ts → EndAt p (us ++ ts)
 ends_after p us ts h b = ap end_of_tokens (ap (λ z. b ++ z) (map-append emptied us ts) ∙ sym (append_assoc b (map emptied us) (map emptied ts))) ∙ h (b ++ map emptied us)
 
@@ -52,7 +52,7 @@ pub scope_ends : (p : ℕ) (xs ys zs : List Shown) (c d : Shown) → EndAt p zs 
 scope_ends p xs ys zs c d h =
     ends_after p xs (c ∷ (ys ++ (d ∷ zs))) (ends_after p (c ∷ []) (ys ++ (d ∷ zs)) (ends_after p ys (d ∷ zs) (ends_after p (d ∷ []) zs h)))
 
--- the tokens of a scope and those behind it
+-- the tokens of a scope and those after it
 pub scope_tokens : (xs ys zs us : List Shown) (c d : Shown) → (xs ++ (c ∷ (ys ++ (d ∷ zs)))) ++ us ≡ xs ++ (c ∷ (ys ++ (d ∷ (zs ++ us))))
 scope_tokens xs ys zs us c d = append_assoc xs (c ∷ (ys ++ (d ∷ zs))) us ∙ ap (λ z. xs ++ (c ∷ z)) (append_assoc ys (d ∷ zs) us)
 
@@ -91,7 +91,7 @@ joined_tokens p (branch l f h) g =
     ∙ ap (λ z. has_own p l.0 l.1 f && z) (and_and (has_its_tokens p f) (has_its_tokens p h) (has_its_tokens p g))
     ∙ and_and (has_own p l.0 l.1 f) (has_its_tokens p f && has_its_tokens p h) (has_its_tokens p g)
 
--- those of its annotations, of its effect, of its variables and of its conditions
+-- those of its annotations, its effect, its variables and its conditions
 pub policy_tokens : (p : List Span) (x : Policy)
     → has_its_tokens p (policy_parts x) ≡ (has_its_tokens p (annotation_trees x.annotations.items none) && (starts x.effect.span.start p && (has_its_tokens p (variable_items (scope_variables x)) && has_its_tokens p (cond_trees x.conds.items none))))
 policy_tokens p x =

@@ -1,4 +1,4 @@
--- The nodes of an accepted text, and their own tokens among the text's.
+-- The nodes of an accepted text, and their own tokens among those of the text.
 use Rattle.std.specs.Prelude.{◌≡◌, ◌⊎◌, ℕ, ℤ, List, ◌++◌, map, Some}
 use Rattle.std.specs.List.{Contains}
 use Rattle.cedar_tokens.specs.Listing.{IsListing}
@@ -18,7 +18,7 @@ use Rattle.cedar_tree.specs.declared.tree.Policies.{Policies}
 use Rattle.cedar_tree.specs.declared.tree.Policy.{Policy}
 use Rattle.cedar_documents.specs.ShownNodes.{IsLeafWith, IsNodeWith, IsPartWith, IsRowWith}
 
--- these trees hold a node with this label, span and parts: as one of them, or inside one
+-- these trees contain a node with this label, span and parts, as one of them or inside one
 abbrev pub Holds : Erased → Label → Span → Erased → Type 0
 Holds none l s parts = ⊥
 Holds (leaf text f) l s parts = Holds f l s parts
@@ -28,7 +28,7 @@ Holds (branch k f g) l s parts = ((k ≡ (l, Some s)) × (f ≡ parts)) ⊎ (Hol
 abbrev pub IsTokenWith : Span → Erased → List Shown → Doc → Type 0
 IsTokenWith s parts ts doc = (text : List ℕ) × (parts ≡ leaf text none) × IsLeafWith s text ts doc
 
--- a node with this label is made of these tokens, and this is its document at an indentation: what `is_shown` says of its type
+-- a node with this label is made of these tokens, and this is its document at an indentation: what `is_shown` says for its type
 abbrev pub IsShownAs : Label → Span → Erased → ℤ → List Shown → Doc → Type 0
 IsShownAs Label.policy s parts = IsPartWith kind.policy s parts
 IsShownAs Label.annotation s parts = IsPartWith kind.annotation s parts
@@ -53,18 +53,18 @@ IsShownAs Label.boolean s parts = λ i. IsTokenWith s parts
 IsShownAs Label.number s parts = λ i. IsTokenWith s parts
 IsShownAs Label.string s parts = λ i. IsTokenWith s parts
 IsShownAs Label.slot s parts = λ i. IsTokenWith s parts
--- the other labels are of no node that has a span
+-- no node with a span has one of the other labels
 IsShownAs l s parts = λ i ts doc. ⊥
 
--- these stand among the tokens, one right behind the other
+-- these are consecutive among the tokens
 abbrev pub StandTogether : List WrappedToken → List Shown → Type 0
 StandTogether tokens ts = (before : List Shown) × (after : List Shown) × (map shown tokens ≡ before ++ (ts ++ after))
 
--- at every indentation the node is made of some of these tokens, which stand side by side
+-- at every indentation, the node is made of some of these tokens, which are consecutive
 abbrev pub MeetsItsTokens : List WrappedToken → Label → Span → Erased → Type 0
 MeetsItsTokens tokens l s parts = (i : ℤ) → (ts : List Shown) × (doc : Doc) × IsShownAs l s parts i ts doc × StandTogether tokens ts
 
--- the tokens of the text's stream without trailing commas, whatever comments they have left
+-- the tokens of the text's stream without trailing commas, whichever comments they still have
 pub record AreTokensOf (text : List ℕ) (tokens : List WrappedToken) : Type 0 where
   pub stream : List WrappedToken
   pub closing : List (List ℕ)
@@ -72,10 +72,10 @@ pub record AreTokensOf (text : List ℕ) (tokens : List WrappedToken) : Type 0 w
   pub spans : AreTokenSpans text (map (λ w. w.span) stream)
   pub kept : map bare tokens ≡ map bare (kept_tokens stream)
 
--- each policy of an accepted text meets its tokens
+-- each policy of an accepted text finds its tokens
 abbrev pub PoliciesMeetTheirTokens : Type 0
 PoliciesMeetTheirTokens = (text : List ℕ) (p : Policies) (tokens : List WrappedToken) → IsTreeOf text p → AreTokensOf text tokens → (n : Node Policy) → Contains p.policies.items n → MeetsItsTokens tokens Label.policy n.span (policy_parts n.inner)
 
--- and so does every node of every type, however deep inside one
+-- and so does every node of every type, however deeply nested
 abbrev pub NodesMeetTheirTokens : Type 0
 NodesMeetTheirTokens = (text : List ℕ) (p : Policies) (tokens : List WrappedToken) → IsTreeOf text p → AreTokensOf text tokens → (l : Label) (s : Span) (parts : Erased) → Holds (policy_trees p.policies.items) l s parts → MeetsItsTokens tokens l s parts

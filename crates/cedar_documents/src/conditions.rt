@@ -1,4 +1,4 @@
-//! Conditions: the word, and an expression between braces. Above each function stands its row, in the words of `policies`.
+//! Conditions: the word, and an expression between braces. The row of each function is above it, as in `policies`.
 #![tactic(auto, using(cedar_document_rows::proofs::Keeping::keeping, cedar_sheet::proofs::Written::written_laws))]
 
 ghost use Rattle.std.specs.Prelude.{◌≡◌, ◌++◌, ◌∷◌, [], codes, OnOk, IsSomeAnd};
@@ -29,7 +29,7 @@ use cedar_tokens::token::{Comment, Span, WrappedToken};
 use cedar_tree::tree::{Cond, Expr, Node};
 use std::alloc::AllocError;
 
-// A break where there is a condition.
+// A break if there is a condition.
 pub(crate) fn break_before(conds: &[Node<Cond<'_>>]) -> Next
     ensures { (t : Clause Shown kind.conds) → IsPartOf (cond_trees conds.now none) t → next_document result ≡ table.between_conds (part_map as_leaf t) }
 {
@@ -40,7 +40,7 @@ pub(crate) fn break_before(conds: &[Node<Cond<'_>>]) -> Next
     }
 }
 
-// The conditions, split by hard
+// The conditions, separated by hard
 pub(crate) fn write_conds<'src>(
     sheet: &mut Sheet<'src>,
     conds: &[Node<Cond<'src>>],
@@ -109,7 +109,7 @@ fn write_block<'src>(
     Ok(sheet.end()?)
 }
 
-// lead("{") . "{" and the beginning of group(nest(i, trail("{", line) ..) ..)
+// lead("{") . "{" and the start of group(nest(i, trail("{", line) ..) ..)
 fn write_brace<'src>(
     sheet: &mut Sheet<'src>,
     comment: Option<Comment<'src>>,
@@ -128,7 +128,7 @@ fn write_brace<'src>(
     trailing_text(sheet, comment.trailing_comment(), Next::Line)
 }
 
-// lead(e1) . group(E), where e1 is the first token, and E the document as it is without the leading lines of e1
+// lead(e1) . group(E), where e1 is the first token, and E the document without the leading lines of e1
 fn write_body<'src>(
     sheet: &mut Sheet<'src>,
     expr: &Node<Expr<'src>>,

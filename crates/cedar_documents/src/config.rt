@@ -3,7 +3,7 @@ ghost use Rattle.std.specs.Prelude.{◌≡◌, pos};
 
 use cedar_tokens::token::WrappedToken;
 
-/// The width of a line and the indentation of a level, in columns. Every value of the types is taken: a negative
+/// The width of a line and the indentation of a level, in columns. Every value of these types is accepted: a negative
 /// indentation moves to the left, and stops at the margin.
 #[derive(Clone, Debug, Drop)]
 pub struct Config {
@@ -14,7 +14,7 @@ pub struct Config {
 impl Default for Config {
     ghost is_default = { λ c. (c.line_width ≡ 80) × (c.indent_width ≡ pos 2) };
 
-    /// 80 columns a line, and 2 a level.
+    /// 80 columns per line, and 2 per level.
     fn default() -> Config {
         Config {
             line_width: 80,

@@ -40,22 +40,22 @@ use std::alloc::{AllocError, Global};
 /// A part of a policy that has a document.
 ///
 /// The comments of its tokens move from the context's tokens into the document. The context's tokens are in order:
-/// `utils::in_order` tests it.
+/// `utils::in_order` checks it.
 pub trait Doc<'src> {
-    /// That this part is made of these tokens, and what its document is at an indentation.
+    /// Whether this part is made of these tokens, and what its document is at an indentation.
     ghost is_shown: { Self → ℤ → List Shown → layout.Doc → Type 0 };
 
-    /// The nodes that this part is.
+    /// The nodes of this part.
     ghost nodes: { Self → erased.Erased };
 
-    /// The document of this part: the one that the table has for it and its tokens, with the comments that the context
-    /// holds at entry. Afterwards these tokens have no comments, and every other token is as before. This is said of a part
-    /// whose own tokens stand side by side among the context's (`is_shown`), as those of a part of a text do.
+    /// The document of this part: the table's document for it and its tokens, with the comments that the context holds at
+    /// entry. Afterwards these tokens have no comments, and every other token is unchanged. This holds for a part whose own
+    /// tokens are consecutive among the context's (`is_shown`), as those of any part of a text are.
     ///
-    /// `None` exactly where an identifier, a string, a literal or a slot in it has no token that starts where it does, or
-    /// where the number of tokens between the start of signs and their member isn't the number of these signs. It is never
-    /// so where the part's own tokens stand side by side. After `None` or a refusal tokens and spans are as before, each
-    /// token's leading lines and its trailing text are as before or taken, and the context is of no more use.
+    /// Returns `None` exactly if no token starts where an identifier, a string, a literal or a slot in it does, or if
+    /// the number of tokens between the start of signs and their member isn't the number of these signs. This never
+    /// happens if the part's own tokens are consecutive. After `None` or a refusal, tokens and spans are unchanged, the
+    /// leading lines and trailing text of each token are unchanged or taken, and the context is of no further use.
     fn to_doc(
         &self,
         alloc: Global,
@@ -69,7 +69,7 @@ pub trait Doc<'src> {
         ensures shows { (ts : List Shown) (doc : layout.Doc) → is_shown self.now context.old.config.now.indent_width ts doc → ShowsPart result context.old.tokens.items context.new.tokens.items ts doc };
 }
 
-// What `to_doc` answers of a part that was written on an empty sheet, or was not for this reason.
+// What `to_doc` answers for a part that was written on an empty sheet, or failed for this reason.
 fn answer<'src>(
     alloc: Global,
     sheet: &Sheet<'src>,

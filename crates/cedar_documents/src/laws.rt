@@ -11,9 +11,9 @@ pub use cedar_laws::text_laws::{
     lists_join,
 };
 
-/// Among the tokens of an accepted text without trailing commas, whatever comments they have left, each policy of the text's
-/// tree and every node inside one is made of tokens that stand side by side: so `to_doc`'s clause `shows` speaks of each. A
-/// law: its body does nothing.
+/// Among the tokens of an accepted text without trailing commas, whichever comments they still have, each policy of the
+/// text's tree and every node inside one is made of consecutive tokens. So the clause `shows` of `to_doc` covers it.
+/// A law: its body does nothing.
 pub fn own_tokens_are_met()
     ensures policies { PoliciesMeetTheirTokens }
     ensures within { NodesMeetTheirTokens }

@@ -1,6 +1,6 @@
-//! Policies and annotations, in the order of the table. Above each function stands its row: a dot puts documents one after
-//! the other, `i` is the indentation of a level. Of a token `t` `lead(t)` is its leading lines, `trail(t, n)` its trailing
-//! text, or `n` where it has none, and `C(t, n) = lead(t) . t . trail(t, n)`.
+//! Policies and annotations, in the order of the table. The row of each function is above it: a dot puts documents one after
+//! the other, and `i` is the indentation of a level. For a token `t`, `lead(t)` is its leading lines, `trail(t, n)` its
+//! trailing text, or `n` if it has none, and `C(t, n) = lead(t) . t . trail(t, n)`.
 #![tactic(auto, using(cedar_document_rows::proofs::Keeping::keeping))]
 
 ghost use Rattle.std.specs.Prelude.{◌≡◌, ◌∷◌, [], Some, codes, ℤ};
@@ -28,7 +28,7 @@ use cedar_tokens::token::{Span, WrappedToken};
 use cedar_tree::tree::{Annotation, Ident, Node, Policy};
 
 /// Annotations in order . `lead(effect) . group(effect . trail(effect, nil) . line . C("("))` . the variables .
-/// `C(")", n)` . conditions split by `hard` . `C(";")`; `n` is `hard` where there is a condition, else `nil`.
+/// `C(")", n)` . conditions separated by `hard` . `C(";")`; `n` is `hard` if there is a condition, else `nil`.
 pub fn write_policy<'src>(
     sheet: &mut Sheet<'src>,
     policy: &Policy<'src>,

@@ -1,4 +1,4 @@
-//! A scope: its variables, their types, and what they are compared with. Above each function stands its row, in the words of
+//! A scope: its variables, their types, and their operands. The row of each function is above it, as in
 //! `policies`.
 #![tactic(auto, using(cedar_document_rows::proofs::Keeping::keeping))]
 
@@ -29,7 +29,7 @@ use cedar_sheet::sheet::Sheet;
 use cedar_tokens::token::{Comment, Span, WrappedToken};
 use cedar_tree::tree::{Name, Node, Policy, VariableDef};
 
-// The three variables: `group(nest(i, variables))` where all are bare, else `nest(i, hard . variables) . hard`.
+// The three variables: `group(nest(i, variables))` if all are bare, else `nest(i, hard . variables) . hard`.
 pub(crate) fn write_scope<'src>(
     sheet: &mut Sheet<'src>,
     policy: &Policy<'src>,
@@ -85,7 +85,7 @@ fn write_variables<'src>(
     write_variable(sheet, &resource.inner, indent, tokens)
 }
 
-/// `C(v) . I`, where `I` is the type part, and with an operator
+/// `C(v) . I`, where `I` is the type part, or with an operator
 /// `lead(v) . group(group(v . trail(v, nil) . I . line . C(op)) . nest(i, line . rhs))`
 pub fn write_variable<'src>(
     sheet: &mut Sheet<'src>,
@@ -146,7 +146,7 @@ fn write_left<'src>(
     }
 }
 
-// What stands before the operator of a variable.
+// What comes before the operator of a variable.
 fn left_span(variable: &VariableDef<'_>) -> Span
     ensures { result ≡ span_before variable.now }
 {

@@ -37,7 +37,7 @@ empty_is : {X : Type 0} (xs : List X) → is_empty xs ≡ true → xs ≡ []
 empty_is [] h = refl
 empty_is (x ∷ xs) h = absurd cc
 
--- a dropped comma's comments trail the token before it
+-- the comments of a dropped comma become trailing comments of the token before it
 trailing_kept : (d c : Decorated) (rest : List (List ℕ)) → touches d c ≡ true → of_token (with_trailing_of d c) ++ rest ≡ of_token d ++ (of_token c ++ rest)
 trailing_kept d c rest h =
     let e = empty_is d.trailing (first_so (is_empty d.trailing) (is_empty c.leading) h) in
@@ -47,7 +47,7 @@ trailing_kept d c rest h =
     ∙ append_assoc d.leading [] (of_token c ++ rest)
     ∙ ap (λ z. d.leading ++ ((z ++ comments c.trailing) ++ rest)) f)
 
--- or they lead the bracket after it
+-- or leading comments of the bracket after it
 lines_kept : (b c : Decorated) (rest : List (List ℕ)) → of_token (with_lines_of b c) ++ rest ≡ of_token c ++ (of_token b ++ rest)
 lines_kept b c rest = simp append_assoc
 
@@ -84,7 +84,7 @@ pub output_keeps_comments : OutputHasTheList → (w : ℕ) (i : ℤ) (x y : List
 output_keeps_comments has w i x y m u o h =
     sym (values_keep m) ∙ ap comments_in (has w i x y m u o h).0 ∙ values_keep (plain_listing o.list) ∙ ap (λ z. z ++ o.list.closing) (plain_list_keeps o.list.tokens)
 
--- where a text has the comments of another, so does its key
+-- if a text has the comments of another, so does its key
 pub printed_keeps : OutputHasTheList → OutputIsAccepted → ListingIsUnique → (before after out : List ℕ) → IsUtf8 after → IsKeyOf after out → HaveEqualComments before after → HaveEqualComments before out
 printed_keeps has accepted unique before after out u o (l, m, f, g, e) =
     let t = accepted 80 (pos 2) after out u o in

@@ -1,4 +1,4 @@
--- What keys tell, from the laws of outputs.
+-- What keys say, from the laws of outputs.
 use Rattle.std.proofs.Common.{◌≡◌, ℕ, List, [], ◌∷◌, Bool, true, false, cond, map, pos, refl, sym, ap, ◌∙◌, subst, inl, inr}
 use Rattle.std.specs.Prelude.{◌↔◌, ◌⊎◌, ◌||◌, Contains, IsTrue, String, string_bytes}
 use Rattle.std.specs.List.{list_any}
@@ -21,7 +21,7 @@ one_key : KeysTellLists → (x j k : List ℕ) → IsUtf8 x → IsKeyOf x j → 
 one_key tell x j k u p q = (tell x x j k u u p q).1 (p.list, p.list, p.is_list, p.is_list, refl)
 
 module _ {Y : Type 0} where
-  -- a test of the keys is one of their bytes
+  -- a test of the keys is a test of their bytes
   any_key : (k : List ℕ) (keys : List (String Y)) → list_any (bytes_eq k) (map string_bytes keys) ≡ list_any (λ s. bytes_eq k (string_bytes s)) keys
   any_key k [] = refl
   any_key k (x ∷ xs) = ap (λ z. bytes_eq k (string_bytes x) || z) (any_key k xs)
@@ -39,7 +39,7 @@ module _ {Y : Type 0} where
       λ (j, c, q). e ∙ found_key k keys (subst (λ z. Contains (map string_bytes keys) z) (one_key tell x j k u q p) c),
     )
 
-    -- the keys after one was put in
+    -- the keys after one was added
     pub put_gains : AcceptedHasOutput → (old new : List (String Y)) (text k : List ℕ) → IsUtf8 text → IsKeyOf text k
         → ((q : List ℕ) → list_any (λ s. bytes_eq q (string_bytes s)) new ≡ cond (bytes_eq k q) true (list_any (λ s. bytes_eq q (string_bytes s)) old))
         → Gains (map string_bytes old) (map string_bytes new) text

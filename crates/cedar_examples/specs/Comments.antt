@@ -3,7 +3,7 @@ use Rattle.std.specs.Prelude.{◌≡◌, ◌++◌, ℕ, List}
 use Rattle.std.specs.List.{flat_map}
 use Rattle.cedar_tokens.specs.Listing.{IsListing, Listing, comments}
 
--- the comments of a list, in order: those before each token and behind it, and the closing ones
+-- the comments of a list, in order: those before and after each token, and the closing ones
 abbrev pub comments_in : Listing → List (List ℕ)
 comments_in l = flat_map (λ t. t.leading ++ comments t.trailing) l.tokens ++ l.closing
 

@@ -27,7 +27,7 @@ pub record IsDocumentIn (text : List ℕ) (indent : ℤ) (policy : Node Policy) 
   pub together : StandTogether tokens own
   pub shown : IsShownAs Label.policy policy.span (policy_parts policy.inner) indent own (doc_of document)
 
--- the document of the text's first policy, and none where it has no policy
+-- the document of the text's first policy, and none if it has no policy
 abbrev pub IsFirstDocument : ℤ → List ℕ → Option Document → Type 0
 IsFirstDocument indent text answer = (tree : Policies) × IsTreeOf text tree
     × MatchOption answer (tree.policies.items ≡ []) (λ d. (first : Node Policy) × (others : List (Node Policy)) × (tree.policies.items ≡ first ∷ others) × IsDocumentIn text indent first d)

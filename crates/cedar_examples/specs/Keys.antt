@@ -5,7 +5,7 @@ use Rattle.cedar_grammar.specs.Texts.{Accepted}
 use Rattle.cedar_laws.specs.Canonical.{IsOutputOf}
 use Rattle.cedar_policy_formatter.specs.Compared.{HaveEqualLists}
 
--- the text's key: its output at 80 columns a line and 2 a level
+-- the text's key: its output at 80 columns per line and 2 per level
 abbrev pub IsKeyOf : List ℕ → List ℕ → Type 0
 IsKeyOf text key = IsOutputOf 80 (pos 2) text key
 

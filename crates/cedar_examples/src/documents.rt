@@ -11,7 +11,7 @@ use cedar_policy_formatter::lexer::{drop_trailing_commas, split_token_stream};
 use cedar_policy_formatter::{Config, Context, FormatError};
 use std::alloc::Global;
 
-/// The document of a text's first policy, with its comments; `None` where an accepted text has no policy.
+/// The document of a text's first policy, with its comments; `None` if an accepted text has no policy.
 pub fn first_document<'src>(
     alloc: Global,
     text: &'src str,

@@ -7,7 +7,7 @@ ghost use Rattle.cedar_laws.specs.Canonical.{IsOutputOf};
 use cedar_policy_formatter::{Config, FormatError, policies_str_to_pretty};
 use std::alloc::Global;
 
-/// Lays out the policies of a buffer in place. A buffer that is refused stays as it was, and the error says why and where.
+/// Lays out the policies of a buffer in place. A buffer that is refused is unchanged, and the error says why and where.
 pub fn save(alloc: Global, buffer: &mut String, config: &Config) -> Result<(), FormatError>
     ensures accepted { OnOk result (Accepted (string_bytes buffer.old)) }
     ensures output { OnOk result (IsOutputOf config.now.line_width config.now.indent_width (string_bytes buffer.old) (string_bytes buffer.new)) }

@@ -18,7 +18,7 @@ use std::alloc::{AllocError, Global};
 /// Why a rewritten text isn't printed.
 #[derive(Clone, Copy, Debug, PartialEq, Eq)]
 pub enum LintError {
-    /// Its comments aren't those of the text before.
+    /// Its comments aren't those of the original text.
     OtherComments,
     /// The formatter refuses it.
     Format(FormatError),
@@ -32,7 +32,7 @@ impl From<FormatError> for LintError {
     }
 }
 
-/// Prints what a rewrite has made of the text `before`: the text `after`, laid out. A rewrite that loses, adds or changes a
+/// Prints the result `after` of rewriting the text `before`, laid out. A rewrite that loses, adds or changes a
 /// comment is refused.
 pub fn print_rewritten(alloc: Global, before: &str, after: &str) -> Result<String, LintError>
     ensures output { IfOk result (λ out. IsKeyOf after.now (string_bytes out)) }
@@ -63,7 +63,7 @@ fn have_equal_comments(alloc: Global, a: &str, b: &str) -> Result<bool, FormatEr
     Ok(first == second)
 }
 
-/// The comments of a text, in order, each without blanks at its ends; `None` where the text doesn't split into tokens.
+/// The comments of a text, in order, each trimmed of blanks; `None` if the text doesn't split into tokens.
 pub fn comments_of(alloc: Global, text: &str) -> Result<Option<Vec<&str>>, AllocError>
     ensures { IfOk result (λ r. MatchOption r (¬ (Splits text.now)) (λ found. AreCommentsOf text.now (map (λ c. c.now) found.items))) }
 {
@@ -79,7 +79,7 @@ pub fn comments_of(alloc: Global, text: &str) -> Result<Option<Vec<&str>>, Alloc
     Ok(Some(found))
 }
 
-// Puts the comments that are left behind those found.
+// Moves the comments that are left to the end of those found.
 fn push_comments<'src>(
     comments: Comments<'src>,
     found: &mut Vec<&'src str>,

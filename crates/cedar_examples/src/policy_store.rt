@@ -11,7 +11,7 @@ use std::alloc::Global;
 use std::collections::HashSet;
 use std::marker::Model;
 
-/// The key of a policy text: its layout at 80 columns a line and 2 a level.
+/// The key of a policy text: its layout at 80 columns per line and 2 per level.
 pub fn key(alloc: Global, text: &str) -> Result<String, FormatError>
     ensures answer { MatchResult result (λ _. Accepted text.now) (OutOfMemoryOr (Refuses text.now)) }
     ensures key { IfOk result (λ k. IsKeyOf text.now (string_bytes k)) }
@@ -43,7 +43,7 @@ impl Model for Store {
 }
 
 impl Store {
-    /// A store with no texts. It takes no memory.
+    /// A store without texts. It allocates no memory.
     pub fn new(alloc: Global) -> Store
         ensures { result ≡ [] }
     {
@@ -62,7 +62,7 @@ impl Store {
         Ok(self.keys.contains(key.as_str()))
     }
 
-    /// Adds a text. A text that is refused leaves the store as it was.
+    /// Adds a text. A text that is refused leaves the store unchanged.
     pub fn insert(&mut self, alloc: Global, text: &str) -> Result<(), FormatError>
         ensures answer { MatchResult result (λ _. Accepted text.now) (OutOfMemoryOr (Refuses text.now)) }
         ensures gains { OnOk result (Gains self.old self.new text.now) }

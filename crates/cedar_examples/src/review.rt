@@ -9,7 +9,7 @@ use cedar_policy_formatter::FormatError;
 use sha2::{Digest, Sha256};
 use std::alloc::Global;
 
-/// The SHA-256 digest of a policy text's key, so that a review that names it covers every text of the same layout.
+/// The SHA-256 digest of a policy text's key, so that a review that names it covers every text with the same layout.
 pub fn fingerprint(alloc: Global, text: &str) -> Result<[u8; 32], FormatError>
     ensures answer { MatchResult result (λ _. Accepted text.now) (OutOfMemoryOr (Refuses text.now)) }
     ensures digest { IfOk result (IsFingerprintOf text.now) }

@@ -1,4 +1,4 @@
--- What a refusal says of what the text's tokens begin.
+-- What a refusal says about what the text's tokens begin.
 use Rattle.std.specs.Prelude.{◌≡◌, ℕ, Bool, true, false, List, [], ◌∷◌, ◌++◌, length, drop}
 use Rattle.std.specs.List.{list_any, sum_by}
 use Rattle.std.proofs.Common.{refl, sym, ap, ◌∙◌, subst, arith, append_assoc, append-nil}
@@ -18,7 +18,7 @@ use Rattle.cedar_tree.specs.Refusals.{Refuses}
 use Rattle.cedar_expected.specs.Expectations.{IsList}
 use Rattle.cedar_expected.proofs.Splits.{cut, no_units, units_length}
 
--- a list that begins so begins with the first of these tokens
+-- a list that begins this way begins with the first of these tokens
 pub begins_front : (d : ℕ) (front more : List (List ℕ)) → Begins d (front ++ more) → Begins d front
 begins_front d front more b = record { rest = more ++ b.rest; tree = b.tree; grammar = subst (λ z. IsSyntaxTree (λ t. t) d b.tree z) (append_assoc front more b.rest) b.grammar }
 
@@ -26,14 +26,14 @@ begins_front d front more b = record { rest = more ++ b.rest; tree = b.tree; gra
 pub list_begins : (ts : List (List ℕ)) → IsList ts → Begins greatest_depth ts
 list_begins ts (f, g) = record { rest = []; tree = f; grammar = subst (λ z. IsSyntaxTree (λ t. t) greatest_depth f z) (sym (append-nil ts)) g }
 
--- an accepted text's tokens are a list
+-- the tokens of an accepted text are a list
 pub accepted_list : (text : List ℕ) (us : List (List ℕ)) → SplitsInto text us → Accepted text → IsList (only_tokens us)
 accepted_list text us s (f, a) = (f, subst (λ z. IsSyntaxTree (λ t. t) greatest_depth f (only_tokens z)) (split_unique text a.units us a.split s) a.grammar)
 
 pub list_accepted : (text : List ℕ) (us : List (List ℕ)) → SplitsInto text us → list_any is_too_large us ≡ false → IsList (only_tokens us) → Accepted text
 list_accepted text us s f (t, g) = (t, record { units = us; split = s; fitting = f; grammar = g })
 
--- where the next unit is a token that leaves the grammar, no list begins with all the text's tokens
+-- if the next unit is a token that leaves the grammar, no list begins with all the text's tokens
 next_stops : (front : List (List ℕ)) (u : List ℕ) (us : List (List ℕ)) (deep : Bool) → LeaveAfter (only_tokens front) (u ∷ us) deep → ¬ (Begins greatest_depth (only_tokens (front ++ (u ∷ us))))
 next_stops front u us deep l b = l.1 (begins_front greatest_depth (only_tokens front ++ (u ∷ [])) (only_tokens us) (subst (λ z. Begins greatest_depth z) same b))
   where
@@ -44,7 +44,7 @@ next_stops front u us deep l b = l.1 (begins_front greatest_depth (only_tokens f
     same = filter-append is_token front (u ∷ us) ∙ ap (λ z. only_tokens front ++ z) one ∙ sym (append_assoc (only_tokens front) (u ∷ []) (only_tokens us))
 
 module _ (text : List ℕ) (us : List (List ℕ)) (s : SplitsInto text us) where
-  -- where the text leaves the grammar at its end, a list begins with all its tokens
+  -- if the text leaves the grammar at its end, a list begins with all its tokens
   pub leaves_end : (at : ℕ) (deep : Bool) → LeavesGrammar text at deep → at ≡ length text → Begins greatest_depth (only_tokens us)
   leaves_end at deep l e =
       let c = cut text at l.before l.after l.split l.place in
@@ -63,14 +63,14 @@ module _ (text : List ℕ) (us : List (List ℕ)) (s : SplitsInto text us) where
   pub end_leaves : (at : ℕ) (deep : Bool) → LeavesGrammar text at deep → Begins greatest_depth (only_tokens us) → (at ≡ length text) × (deep ≡ false)
   end_leaves at deep l b = stays_inside l.before l.after at deep (split_unique text us (l.before ++ l.after) s l.split) l.place l.leaves b
 
-  -- a text that splits and whose numbers fit is not refused because of its tokens
+  -- a text that splits and whose numbers fit is not refused for its tokens
   fault_absent : (at : ℕ) → IsFirstFault text at → ⊥
   fault_absent at f = fault_prevents text at f (us, s)
 
   large_absent : list_any is_too_large us ≡ false → (at : ℕ) → IsFirstTooLarge text at → ⊥
   large_absent fit at l = fit_part l.before l.number l.after (ap (list_any is_too_large) (split_unique text (l.before ++ (l.number ∷ l.after)) us l.split s) ∙ fit) l.large
 
-  -- a list begins with all the tokens of a refused text only where it is refused at its end
+  -- a list begins with all the tokens of a refused text only if it is refused at its end
   pub refused_begins : list_any is_too_large us ≡ false → (e : FormatError) → Refuses text e → Begins greatest_depth (only_tokens us) → e ≡ Grammar (length text)
   refused_begins fit (UnknownCharacter at) r b = absurd (fault_absent at r.0)
   refused_begins fit (UnfinishedString at) r b = absurd (fault_absent at r.0)

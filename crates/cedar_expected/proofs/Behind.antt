@@ -1,4 +1,4 @@
--- Where a text leaves the grammar, behind the policies that a reader has answered.
+-- Where a text leaves the grammar, after the policies that a reader has answered.
 use Rattle.std.specs.Prelude.{◌≡◌, ◌↔◌, ◌≤◌, ◌-◌, ℕ, true, false, List, ◌∷◌, ◌++◌, IsTrue, length, take, drop, Option, Some, None, codes}
 use Rattle.std.specs.Option.{option_map}
 use Rattle.std.specs.Str.{IsUtf8, IsCharBoundary}
@@ -102,7 +102,7 @@ left_behind text rest reader ps h e at n p i r f =
     let l = leaving_place text e at n p i r in
     record { deep = l.0; leaves = l.1; from = reader.at; rest = f; ends = h.ends; accepted = policies_accepted (take reader.at text) ps h.read }
 
--- The text before the place, from the policies that are whole on, and the text from the place on.
+-- The text before the place, from the end of the whole policies on, and the text from the place on.
 module _ (text : List ℕ) (l : Leaving) (b : LeavesBehind text l) where
   inside : b.from ≤ length text
   inside = ends_inside text b.from b.ends
@@ -141,7 +141,7 @@ module _ (text : List ℕ) (l : Leaving) (b : LeavesBehind text l) where
   unfolding place_in
   at_boundary k = subst (λ n. IsCharBoundary l.rest.now n) (sym place_is) (subst (λ z. IsCharBoundary z (l.at - b.from)) (sym b.rest) (parted.boundary (subst (λ z. IsUtf8 z) b.rest k)))
 
-  -- what stands before the place, and behind it
+  -- what comes before the place, and after it
   front_split : SplitsInto (take (l.at - (length text - length l.rest.now)) l.rest.now) part.middle
   unfolding place_in
   front_split = subst (λ n. SplitsInto (take n l.rest.now) part.middle) (sym place_is) (subst (λ z. SplitsInto (take (l.at - b.from) z) part.middle) (sym b.rest) parted.front)

@@ -1,4 +1,4 @@
--- Whether a list of the grammar begins with some tokens is told by their kinds.
+-- Whether a list of the grammar begins with some tokens depends on their kinds alone.
 use Rattle.std.specs.Prelude.{◌≡◌, ◌↔◌, ℕ, Bool, true, false, List, [], ◌∷◌, ◌++◌, IsTrue}
 use Rattle.std.proofs.Common.{refl, sym, ap, ◌∙◌}
 use Rattle.cedar_tokens.specs.Units.{IsToken}
@@ -16,14 +16,14 @@ use Rattle.cedar_grammar.proofs.TextKinds.{samples}
 use Rattle.cedar_grammar.proofs.TextLaws.{whole_begins, not_hopeless}
 use Rattle.cedar_expected.specs.Expectations.{KindDecides}
 
--- nothing is left of the tokens
+-- no tokens are left
 abbrev at_end : {A : Type 0} → Answer A → Bool
 at_end (done f []) = true
 at_end (done f (a ∷ r)) = false
 at_end (stuck b []) = true
 at_end (stuck b (a ∷ r)) = false
 
--- the reader comes to the end of the tokens
+-- the reader reaches the end of the tokens
 pub can_begin : ℕ → List (List ℕ) → Bool
 can_begin d ts = at_end (set_to kind_of d ts)
 
@@ -38,7 +38,7 @@ module _ (d : ℕ) (ts : List (List ℕ)) where
   unfolding can_begin
   begins_by_kinds = says_begins (set_to kind_of d ts) (says kind_of samples d ts (set_to kind_of d ts) refl)
 
--- of tokens
+-- for tokens
 pub begins : (d : ℕ) (ts : List (List ℕ)) → AreTokens (λ t. t) ts → IsTrue (can_begin d ts) ↔ Begins d ts
 begins d ts a = let k = begins_by_kinds d ts in let b = beginnings_agree d ts a in (λ i. b.1 (k.0 i), λ x. k.1 (b.0 x))
 

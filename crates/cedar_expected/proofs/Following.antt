@@ -40,11 +40,11 @@ same_truth true b f g = sym (f refl)
 same_truth false true f g = g refl
 same_truth false false f g = refl
 
--- what is true exactly where a list begins so is `follows`
+-- what is true exactly if a list begins this way is `follows`
 pub is_follows : (units : List (List ℕ)) (k : Kind) (b : Bool) → (IsTrue b ↔ Begins greatest_depth (only_tokens units ++ sample k ∷ [])) → b ≡ follows units k
 is_follows units k b h = let f = follows_begins units k in same_truth b (follows units k) (λ i. f.1 (h.0 i)) (λ i. h.1 (f.0 i))
 
--- one more kind of a list
+-- one more kind in a list
 grown : (p : Kind → Bool) (xs items : List Kind) (i : ℕ) (b : Bool) → i < length xs → items ≡ filter p (take i xs) → b ≡ p (get_or xs i K.True) → items ++ cond b (get_or xs i K.True ∷ []) [] ≡ filter p (take (i + 1) xs)
 grown p xs items i b l e h =
     ap (λ z. z ++ cond b (get_or xs i K.True ∷ []) []) e ∙ ap (λ z. filter p (take i xs) ++ cond z (get_or xs i K.True ∷ []) []) h ∙ sym (filter_more p xs i K.True l)

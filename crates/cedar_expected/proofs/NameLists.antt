@@ -1,4 +1,4 @@
--- Names so far, one kind after the other.
+-- The names so far, one kind after another.
 use Rattle.std.specs.Prelude.{◌<◌, ◌≤◌, ◌+◌, ℕ, List, [], ◌∷◌, ◌++◌, IsTrue, All, Any, length, take}
 use Rattle.std.proofs.Common.{get_or}
 use Rattle.std.proofs.lemmas.List.{take_all}
@@ -13,7 +13,7 @@ use Rattle.cedar_expected.specs.Naming.{names, AreIn, AreNamed}
 abbrev pub Named : List Name → Kind → Type 0
 Named all k = Any (λ name. IsTrue (names name k)) all
 
--- the names name kinds of the list alone, and each of its first kinds
+-- the names name only kinds of the list, and each of its first kinds
 abbrev pub SoFar : List Kind → List Name → ℕ → Type 0
 SoFar kinds all i = All (AreIn kinds) all × All (Named all) (take i kinds)
 

@@ -1,4 +1,4 @@
--- What the parse of a text, and of one with a token behind it, says of the list that its tokens begin.
+-- What parsing a text, and the text followed by one more token, says about the list that its tokens begin.
 use Rattle.std.specs.Prelude.{◌≡◌, ◌↔◌, ℕ, Bool, true, false, List, [], ◌∷◌, ◌++◌, IsTrue, length, Option, Some, None, Result, Ok, Err, IfOk, ◌==◌}
 use Rattle.std.specs.List.{filter}
 use Rattle.std.proofs.Common.{sym, subst}
@@ -26,7 +26,7 @@ use Rattle.cedar_expected.proofs.Following.{follows, is_follows, all_after}
 pub of_units : (text : List ℕ) (us : List (List ℕ)) (P : List (List ℕ) → Type 0) → SplitsInto text us → OfTokens text P → P (only_tokens us)
 of_units text us P s (vs, r, x) = subst (λ z. P (only_tokens z)) (split_unique text vs us r s) x
 
--- a text with a line feed and a token behind it
+-- a text followed by a line feed and a token
 pub more_has : (text t : List ℕ) → HasTokens text → IsToken t → is_too_large t ≡ false → HasTokens (text ++ (10 ∷ t))
 more_has text t h i f = record { units = more_units h.units t; split = more_split text t h.units h.split i; fitting = more_fit h.units t h.fitting f }
 
@@ -46,7 +46,7 @@ has_accepted text h t = list_accepted text h.units h.split h.fitting (of_units t
 pub accepted_begins : (text : List ℕ) → HasTokens text → Accepted text → TokensBegin text
 accepted_begins text h a = (h.units, h.split, list_begins (only_tokens h.units) (accepted_list text h.units h.split a))
 
--- a refused text is not accepted, and its tokens begin a list exactly where its place is its end
+-- a refused text is not accepted, and its tokens begin a list exactly if its place is its end
 not_accepted : AcceptedIsNotRefused → (text : List ℕ) → HasTokens text → (e : FormatError) → Refuses text e → HasTree text → ⊥
 not_accepted law text h e r t = law text e (has_accepted text h t) r
 
@@ -110,7 +110,7 @@ sample_follows text us k b s h = is_follows us k b (
 pub kinds_follow : (text : List ℕ) (us : List (List ℕ)) (kinds : List Kind) → SplitsInto text us → kinds ≡ filter (follows us) all_kinds → KindsFollow text kinds
 kinds_follow text us ks s e = (us, s, subst (λ z. AreAllAfter (only_tokens us) z) (sym e) (all_after us))
 
--- a weaker fact of what succeeded
+-- a weaker fact about what succeeded
 pub if_ok : {T E : Type 0} (P Q : T → Type 0) → ((x : T) → P x → Q x) → (r : Result T E) → IfOk r P → IfOk r Q
 if_ok P Q f (Ok x) h = f x h
 if_ok P Q f (Err e) h = h

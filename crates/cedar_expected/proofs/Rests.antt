@@ -1,4 +1,4 @@
--- What can follow is told by the rest of a text behind policies that are accepted.
+-- What can follow depends on the rest of a text after accepted policies.
 use Rattle.std.specs.Prelude.{◌≡◌, ◌↔◌, ◌≤◌, ◌+◌, ◌-◌, ◌⊎◌, ℕ, Bool, false, List, [], ◌∷◌, ◌++◌, length, take, drop, codes}
 use Rattle.std.specs.List.{list_any, sum_by}
 use Rattle.std.proofs.Common.{refl, sym, ap, ◌∙◌, subst, arith, inl, inr, append_assoc}
@@ -75,7 +75,7 @@ module _ (front : List (List ℕ)) (tokens : AreTokens (λ t. t) (front ++ (code
       let q = lists_join kind_of greatest_depth whole.0 f all ts whole_kinds ((grammars_agree (λ t. t) greatest_depth ts f a).0 g) in
       (q.0, (grammars_agree (λ t. t) greatest_depth (all ++ ts) q.0 (tokens_both all ts tokens a)).1 q.1)
 
--- the same can follow these tokens as those, and with these there is a list exactly where there is with those
+-- the same can follow both lists of tokens, and one is a list exactly if the other is
 pub record GoOnAlike (front rest : List (List ℕ)) : Type 0 where
   pub begins : (ts : List (List ℕ)) → Begins greatest_depth (front ++ ts) ↔ Begins greatest_depth (rest ++ ts)
   pub list : IsList front ↔ IsList rest
@@ -102,7 +102,7 @@ same_after front rest kinds g a = record {
   ordered = a.ordered;
 }
 
--- one of two fronts of a list is a front of the other
+-- one of two prefixes of a list is a prefix of the other
 fronts : (a b c d : List (List ℕ)) → a ++ b ≡ c ++ d
     → ((e : List (List ℕ)) × (a ≡ c ++ e) × (d ≡ e ++ b)) ⊎ ((x : List ℕ) × (e : List (List ℕ)) × (c ≡ a ++ (x ∷ e)) × (b ≡ x ∷ (e ++ d)))
 fronts a b [] d h = inl (a, refl, sym h)
@@ -117,7 +117,7 @@ fronts (y ∷ a) b (x ∷ c) d h =
     go i (inl (e, h, k)) = inl (e, cc (i, h), k)
     go i (inr (z, e, h, k)) = inr (z, e, cc (i, h), k)
 
--- where a text leaves the grammar, by what stands behind the first n bytes, which are accepted
+-- where a text leaves the grammar, given what follows the first n bytes, which are accepted
 pub record Within (text : List ℕ) (n at : ℕ) (before after : List (List ℕ)) : Type 0 where
   pub middle : List (List ℕ)
   pub behind : n ≤ at

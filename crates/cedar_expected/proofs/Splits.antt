@@ -1,4 +1,4 @@
--- Texts that split, cut behind some units, and one more token behind them.
+-- Texts that split, cut after some units, and one more token after them.
 use Rattle.std.specs.Prelude.{◌≡◌, ◌≤◌, ◌+◌, ◌||◌, ℕ, Bool, false, List, [], ◌∷◌, ◌++◌, length, take, drop}
 use Rattle.std.specs.List.{concat, list_any, sum_by}
 use Rattle.std.specs.Str.{IsUtf8, IsCharBoundary}
@@ -25,7 +25,7 @@ pub concat_length : (us : List (List ℕ)) → length (concat us) ≡ sum_by len
 concat_length [] = refl
 concat_length (u ∷ us) = length-append u (concat us) ∙ (ap (λ z. length u + z) (concat_length us) ∙ sym (sum_by-cons length u us))
 
--- units scan as far as their first ones, and from there on
+-- units scan as far as their first ones, and on from there
 scans_parts : (us vs : List (List ℕ)) (text rest : List ℕ) → Scans (us ++ vs) text rest → (middle : List ℕ) × Scans us text middle × Scans vs middle rest
 scans_parts [] vs text rest s = (text, refl, s)
 scans_parts (u ∷ us) vs text rest s = let q = scans_parts us vs (drop (length u) text) rest s.1 in (q.0, (s.0, q.1), q.2)
@@ -34,7 +34,7 @@ pub rest_utf8 : (us : List (List ℕ)) (text rest : List ℕ) → IsUtf8 text �
 rest_utf8 [] text rest k s = subst (λ z. IsUtf8 z) s k
 rest_utf8 (u ∷ us) text rest k s = rest_utf8 us (drop (length u) text) rest (IsUtf8-drop text (length u) k (unit_boundary text u k s.0)) s.1
 
--- a text that splits, cut behind the first units
+-- a text that splits, cut after the first units
 pub record Cut (text : List ℕ) (at : ℕ) (before after : List (List ℕ)) : Type 0 where
   pub front : SplitsInto (take at text) before
   pub back : SplitsInto (drop at text) after
@@ -55,11 +55,11 @@ cut text at before after s e =
       boundary = λ k. subst (λ n. IsCharBoundary text n) (sym l) (IsCharBoundary-at_seam text (concat before) q.0 whole (rest_utf8 before text q.0 k q.1));
     }
 
--- all the bytes of a text that splits are those of its units
+-- all bytes of a text that splits are those of its units
 pub units_length : (us : List (List ℕ)) (text : List ℕ) → SplitsInto text us → length text ≡ sum_by length us
 units_length us text s = ap length (scans_concat us text [] s ∙ append-nil (concat us)) ∙ concat_length us
 
--- units with no byte are none
+-- units without bytes are none
 pub no_units : (us : List (List ℕ)) (text : List ℕ) → SplitsInto text us → length text ≡ 0 → us ≡ []
 no_units [] text s e = refl
 no_units (u ∷ us) text s e = absurd (omega (arith, unit_nonempty u s.0.kind, begins_fits text u s.0.begins, e))
@@ -68,7 +68,7 @@ no_units (u ∷ us) text s e = absurd (omega (arith, unit_nonempty u s.0.kind, b
 one_token : (t : List ℕ) → IsToken t → SplitsInto t (t ∷ [])
 one_token t h = (record { kind = U.token h; begins = ([], sym (append-nil t)); longest = λ v k g. begins_fits t v g }, drop_all (length t) t (omega arith))
 
--- a text with a line feed and a token behind it
+-- a text followed by a line feed and a token
 abbrev pub more_units : List (List ℕ) → List ℕ → List (List ℕ)
 more_units us t = us ++ ((10 ∷ []) ∷ (t ∷ []))
 
@@ -91,6 +91,6 @@ last_fit b e = rw e refl
 pub more_fit : (us : List (List ℕ)) (t : List ℕ) → list_any is_too_large us ≡ false → is_too_large t ≡ false → list_any is_too_large (more_units us t) ≡ false
 more_fit us t f h = list_any-append is_too_large us ((10 ∷ []) ∷ (t ∷ [])) ∙ ap (λ z. z || (is_too_large t || false)) f ∙ last_fit (is_too_large t) h
 
--- the numbers of the first units fit where all do
+-- the numbers of the first units fit if all do
 pub front_fit : (us vs : List (List ℕ)) → list_any is_too_large (us ++ vs) ≡ false → list_any is_too_large us ≡ false
 front_fit us vs f = or_left (list_any is_too_large us) (list_any is_too_large vs) (sym (list_any-append is_too_large us vs) ∙ f)

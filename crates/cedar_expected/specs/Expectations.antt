@@ -1,4 +1,4 @@
--- What could stand at the place where a text leaves the grammar.
+-- What could come at the place where a text leaves the grammar.
 use Rattle.std.specs.Prelude.{◌≡◌, ◌↔◌, ℕ, Bool, IsTrue, List, [], ◌∷◌, ◌++◌, length, map, Option, Some, None, Contains}
 use Rattle.std.specs.List.{sum_by}
 use Rattle.std.specs.List.Sorted.{IsStrictlyIncreasing}
@@ -37,7 +37,7 @@ first_of (u ∷ us) = Some u
 abbrev pub LeavesAt : List ℕ → ℕ → Type 0
 LeavesAt text at = (deep : Bool) × LeavesGrammar text at deep
 
--- the text leaves the grammar at this place, behind the units `before`; it has this token there, and could have these, or end
+-- the text leaves the grammar at this place, after the units `before`; it has this token there, and could have these, or end
 pub record IsExpected (text : List ℕ) (e : Expected) : Type 0 where
   pub before : List (List ℕ)
   pub after : List (List ℕ)
@@ -53,6 +53,6 @@ pub record IsExpected (text : List ℕ) (e : Expected) : Type 0 where
 abbrev pub NeverLeaves : List ℕ → Type 0
 NeverLeaves text = (at : ℕ) → ¬ (LeavesAt text at)
 
--- of two tokens of one kind either both can follow or none
+-- of two tokens of one kind, either both can follow or neither
 abbrev pub KindDecides : Type 0
 KindDecides = (d : ℕ) (front : List (List ℕ)) (t u : List ℕ) → IsToken t → IsToken u → kind_of t ≡ kind_of u → Begins d (front ++ t ∷ []) → Begins d (front ++ u ∷ [])

@@ -1,4 +1,4 @@
--- What only private contracts cite.
+-- Definitions used only by private contracts.
 pub mod Samples
 pub mod Beginnings
 pub mod Firsts

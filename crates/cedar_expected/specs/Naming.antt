@@ -1,4 +1,4 @@
--- What a message names: kinds of tokens that have a word together, or one kind.
+-- What a message names: kinds of tokens that share a word, or one kind.
 use Rattle.std.specs.Prelude.{Bool, ◌||◌, IsTrue, List, Contains, All, Any}
 use Rattle.cedar_tokens.specs.declared.kind.Kind.{Kind}
 use Rattle.cedar_tokens.specs.declared.kind.Kind.TheVariants as K
@@ -7,7 +7,7 @@ use Rattle.cedar_grammar.specs.Reader.Rules.{expr_first}
 use Rattle.cedar_expected.specs.declared.kinds.Name.{Name}
 use Rattle.cedar_expected.specs.declared.kinds.Name.TheVariants.{Policy, Condition, Word, Expression, Operand, FlatOperand, Identifier, Operator, ArithmeticOrLogical, Token}
 
--- what an operand without signs and brackets begins with
+-- the start of an operand without signs and brackets
 abbrev pub is_flat : Kind → Bool
 is_flat x = is_ident x || is_boolean x || is K.Number x || is K.Str x
 
@@ -23,7 +23,7 @@ is_arithmetic_or_logical x = is K.Add x || is K.Dash x || is K.Mul x || is K.And
 abbrev pub is_relational : Kind → Bool
 is_relational x = is_comparison x || is K.Has x || is K.Like x || is K.Is x
 
--- tokens of this kind are among those that are named
+-- tokens of this kind are among those named
 abbrev pub names : Name → Kind → Bool
 names Policy x = is K.At x || is_effect x
 names Condition x = is_cond_word x
@@ -36,11 +36,11 @@ names Operator x = is_arithmetic_or_logical x || is_relational x
 names ArithmeticOrLogical x = is_arithmetic_or_logical x
 names (Token k) x = is k x
 
--- all kinds that are named are in the list
+-- all the named kinds are in the list
 abbrev pub AreIn : List Kind → Name → Type 0
 AreIn kinds name = (k : Kind) → IsTrue (names name k) → Contains kinds k
 
--- each name names kinds of the list alone, and each kind of the list has a name
+-- each name names only kinds of the list, and each kind of the list has a name
 pub record AreNamed (kinds : List Kind) (all : List Name) : Type 0 where
   pub within : All (AreIn kinds) all
   pub named : (k : Kind) → Contains kinds k → Any (λ name. IsTrue (names name k)) all

@@ -1,4 +1,4 @@
--- What is said of a refusal without its text.
+-- What is said about a refusal without its text.
 use Rattle.std.specs.Prelude.{◌≡◌, ℕ, List, codes, ⊤}
 use Rattle.cedar_tree.specs.declared.error.FormatError.{FormatError}
 use Rattle.cedar_tree.specs.declared.error.FormatError.TheVariants.{UnknownCharacter, UnfinishedString, NumberTooLarge, Grammar, TooDeep, NoDocument, Unsound, OutOfMemory}
@@ -13,7 +13,7 @@ sentence NoDocument = codes "a policy has no document"
 sentence Unsound = codes "formatting changed the policies"
 sentence OutOfMemory = codes "out of memory"
 
--- the sentence of the refusal; where the text leaves the grammar, any words
+-- the sentence for the refusal; any words if the text leaves the grammar
 abbrev pub IsSaid : FormatError → List ℕ → Type 0
 IsSaid (Grammar at) said = ⊤
 IsSaid error said = said ≡ sentence error

@@ -1,19 +1,19 @@
-//! What a text has at the place where it leaves the grammar, and what could stand there.
+//! What a text has at the place where it leaves the grammar, and what could come there.
 use crate::kinds::{Kinds, Name};
 
-/// What a text has at the place where it leaves the grammar, and what could stand there. Its `Display` says so to people.
+/// What a text has at the place where it leaves the grammar, and what could come there. Its `Display` is for people.
 #[derive(Debug, Drop)]
 pub struct Expected<'src> {
-    /// The place, in bytes from the text's start: where the token begins that can't stand there, or the text's length.
+    /// The place, in bytes from the start of the text: the start of the token that can't come there, or the text's length.
     pub at: usize,
-    /// The text of the token that stands there; `None` at the end of the text.
+    /// The text of the token at that place; `None` at the end of the text.
     pub found: Option<&'src str>,
-    /// The kinds of the tokens that could stand there: of all with which some accepted list of tokens begins, after the tokens
+    /// The kinds of the tokens that could come there: all that come next in some accepted list beginning with the tokens
     /// before the place.
     pub kinds: Kinds,
     /// The names of these kinds in a message.
     pub names: Vec<Name>,
-    /// Whether the text could end there: whether the tokens before the place are an accepted list. Never, where nothing stands
+    /// Whether the text could end there: whether the tokens before the place are an accepted list. Never true if no token is
     /// there.
     pub end: bool,
 }

@@ -1,4 +1,4 @@
-//! What could stand at the place where a text leaves the grammar.
+//! What could come at the place where a text leaves the grammar.
 ghost use Rattle.std.specs.Prelude.{IfOk, MatchOption};
 ghost use Rattle.cedar_expected.specs.Inside.Firsts.{BeginsWithFirst};
 ghost use Rattle.cedar_expected.specs.Inside.Leaving.{LeavesBehind};
@@ -12,8 +12,8 @@ use cedar_tokens::units::Units;
 use cedar_tree::laws::{accepted_is_not_refused, refusal_is_unique};
 use std::alloc::{AllocError, Global};
 
-/// What could stand at the place where `text` leaves the grammar: where `parse_policies` refuses it as `Grammar` or `TooDeep`.
-/// `None` for an accepted text, and for one that is refused because of its tokens.
+/// What could come where `text` leaves the grammar, that is, where `parse_policies` refuses it as `Grammar` or `TooDeep`.
+/// `None` for an accepted text, and for one that is refused for its tokens.
 pub fn expected<'src>(alloc: Global, text: &'src str) -> Result<Option<Expected<'src>>, AllocError>
     ensures { IfOk result (λ expected. MatchOption expected (NeverLeaves text.now) (IsExpected text.now)) }
 {
@@ -37,9 +37,9 @@ pub fn expected<'src>(alloc: Global, text: &'src str) -> Result<Option<Expected<
 // Where a text leaves the grammar.
 #[derive(Drop)]
 struct Leaving<'src> {
-    // In bytes from the text's start.
+    // In bytes from the start of the text.
     at: usize,
-    // What stands behind the policies that are whole before the place.
+    // What follows the whole policies before the place.
     rest: &'src str,
 }
 

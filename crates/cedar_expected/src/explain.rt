@@ -6,8 +6,8 @@ use crate::expected::expected;
 use cedar_tree::error::FormatError;
 use std::alloc::{AllocError, Global};
 
-/// A sentence for people about the refusal `error` of `text`, without the place. Where the text leaves the grammar, it says what
-/// was expected there.
+/// A sentence for people about the refusal `error` of `text`, without the place. If the text leaves the grammar, it says
+/// what was expected there.
 pub fn explain(alloc: Global, text: &str, error: FormatError) -> Result<String, AllocError>
     ensures { IfOk result (λ said. IsSaid error (string_bytes said)) }
 {
@@ -19,7 +19,7 @@ pub fn explain(alloc: Global, text: &str, error: FormatError) -> Result<String, 
     String::from_str(alloc, sentence(error))
 }
 
-// What is said of a refusal without the text.
+// What is said about a refusal without the text.
 fn sentence(error: FormatError) -> &'static str
     ensures { result.now ≡ sentence error }
 {

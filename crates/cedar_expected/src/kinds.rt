@@ -1,4 +1,4 @@
-//! Sets of kinds of tokens, and what a message names in them.
+//! Sets of kinds of tokens, and how a message names them.
 ghost use Rattle.std.specs.Prelude.{◌≡◌, ◌↔◌, Contains, Any, IsTrue, IfOk};
 ghost use Rattle.cedar_expected.specs.Naming.{names, AreIn, AreNamed, is_flat, is_opening, is_arithmetic_or_logical, is_relational};
 
@@ -14,7 +14,7 @@ pub struct Kinds {
     pub items: Vec<Kind>,
 }
 
-/// What a message names: kinds of tokens that have a word together, or one kind.
+/// What a message names: kinds of tokens that share a word, or one kind.
 #[derive(Clone, Copy, Debug, PartialEq, Eq)]
 pub enum Name {
     /// `@`, `permit` and `forbid`.
@@ -23,13 +23,13 @@ pub enum Name {
     Condition,
     /// Every word.
     Word,
-    /// All that an expression can begin with.
+    /// Everything an expression can begin with.
     Expression,
-    /// All that an expression can begin with, but `if` and the signs.
+    /// Everything an expression can begin with, except `if` and the signs.
     Operand,
-    /// All that an expression can begin with, but `if`, the signs and brackets.
+    /// Everything an expression can begin with, except `if`, the signs and brackets.
     FlatOperand,
-    /// Every word but `true false if then else in is like has`.
+    /// Every word except `true false if then else in is like has`.
     Identifier,
     /// All operators: `+ - * && || < <= > >= != == in has like is`.
     Operator,
@@ -40,7 +40,7 @@ pub enum Name {
 }
 
 impl Name {
-    /// Whether tokens of this kind are among those that are named.
+    /// Whether tokens of this kind are among those named.
     pub fn has(self, kind: Kind) -> bool
         ensures { result ≡ names self kind }
     {
@@ -67,7 +67,7 @@ impl Kinds {
         self.items.contains(&kind)
     }
 
-    /// Whether all kinds that are named are in the set.
+    /// Whether all the named kinds are in the set.
     pub fn have_all(&self, name: Name) -> bool
         ensures { IsTrue result ↔ AreIn self.now.items.items name }
     {
@@ -79,7 +79,7 @@ impl Kinds {
         true
     }
 
-    /// The name that a message has for a kind of the set: of several kinds that are all in the set, or of this kind alone.
+    /// The name that a message uses for a kind of the set: for several kinds all in the set, or for this kind alone.
     pub fn name(&self, kind: Kind) -> Name
         requires { Contains self.now.items.items kind }
         ensures named { IsTrue (names result kind) }
@@ -94,7 +94,7 @@ impl Kinds {
     }
 }
 
-/// The names of the kinds: each names kinds of the set alone, and each kind of the set has one.
+/// The names of the kinds: each names only kinds of the set, and each kind of the set has one.
 pub fn names_of(alloc: Global, kinds: &Kinds) -> Result<Vec<Name>, AllocError>
     ensures { IfOk result (λ names. AreNamed kinds.now.items.items names.items) }
 {
@@ -119,7 +119,7 @@ fn is_named(all: &[Name], kind: Kind) -> bool
     false
 }
 
-// The names of several kinds; of two that share kinds, the one that has more of them comes first.
+// The names of several kinds; of two that share kinds, the one with more of them comes first.
 fn groups() -> [Name; 9] {
     [
         Name::Word,
@@ -156,7 +156,7 @@ fn is_arithmetic_or_logical(kind: Kind) -> bool
     )
 }
 
-// Whether it compares, or tells what an operand has or is.
+// Whether it compares, or says what an operand has or is.
 fn is_relational(kind: Kind) -> bool
     ensures { result ≡ is_relational kind }
 {

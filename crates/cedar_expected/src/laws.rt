@@ -1,7 +1,7 @@
-//! Laws of what could stand in a place. They speak of the definitions alone, so their bodies do nothing.
+//! Laws about what could come at a place. They are about the definitions alone, so their bodies do nothing.
 ghost use Rattle.cedar_expected.specs.Expectations.{KindDecides};
 
-/// Whether an accepted list goes on with a token is told by the token's kind.
+/// Whether an accepted list continues with a token depends on the token's kind alone.
 pub fn kind_decides()
     ensures { KindDecides }
 {}

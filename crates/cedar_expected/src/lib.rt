@@ -1,4 +1,4 @@
-//! What could stand at the place where a text is refused, and sentences for people about refusals.
+//! What could come at the place where a text is refused, and sentences for people about refusals.
 #![tactic(auto)]
 
 pub mod expectation;

@@ -8,7 +8,7 @@ use std::fmt;
 // How many characters of a token are printed.
 const SHOWN: usize = 30;
 
-// What is found, or could stand, behind the last token.
+// What is found, or could come, after the last token.
 const END: &str = "the end of the text";
 
 impl fmt::Display for Name {
@@ -47,7 +47,7 @@ impl fmt::Display for Expected<'_> {
 }
 
 impl Expected<'_> {
-    // What could stand there: `a`, `a or b`, `a, b or c` and so on.
+    // What could come there: `a`, `a or b`, `a, b or c` and so on.
     fn write_names<W: fmt::Write>(&self, f: &mut fmt::Formatter<W>) -> fmt::Result {
         let last = if self.end {
             self.names.len()
@@ -64,7 +64,7 @@ impl Expected<'_> {
     }
 }
 
-// What stands before the alternative of this index, where the last one has that index.
+// What comes before the alternative with this index, given the index of the last one.
 fn separator(index: usize, last: usize) -> &'static str {
     if index == 0 {
         ""
@@ -75,7 +75,7 @@ fn separator(index: usize, last: usize) -> &'static str {
     }
 }
 
-// A token between quotes, of a long one its first characters; what would end the line or move the cursor is escaped.
+// A token between quotes, cut to its first characters if it is long; what would end the line or move the cursor is escaped.
 fn write_token<W: fmt::Write>(f: &mut fmt::Formatter<W>, token: &str) -> fmt::Result {
     f.write_str("'")?;
     for (index, character) in token.chars().enumerate() {

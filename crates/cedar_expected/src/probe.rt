@@ -53,7 +53,7 @@ fn begins_with(alloc: Global, text: &str, token: &str) -> Result<bool, AllocErro
     begins(alloc, &longer)
 }
 
-// Whether some accepted list begins with the tokens of `text`: where a token is missing, it leaves the grammar at its end.
+// Whether some accepted list begins with the tokens of `text`: if a token is missing, it leaves the grammar at its end.
 fn begins(alloc: Global, text: &str) -> Result<bool, AllocError>
     requires { HasTokens text.now }
     ensures { IfOk result (λ begins. IsTrue begins ↔ TokensBegin text.now) }

@@ -1,7 +1,7 @@
 //! The folder of the disk.
 //!
-//! No contract can say what a disk holds, so `picture` claims nothing of it; the code does what the trait says as far as the
-//! system does.
+//! No contract can say what a disk holds, so `picture` claims nothing about it; the code does what the trait says as far as
+//! the system does.
 ghost use Rattle.std.specs.Prelude.{None};
 
 use crate::refusal::Refusal;
@@ -13,19 +13,19 @@ use std::io::{ErrorKind, Write};
 use std::os::unix::fs::{MetadataExt, OpenOptionsExt, PermissionsExt, fchown};
 use std::{fs, io};
 
-// The most names that are tried for a file beside another.
+// The most names tried for a file beside another.
 const MOST_NAMES: u32 = 1000;
 
 /// The folder of the disk, as one part of a run sees it. Names of files that aren't formatted go to standard output, each
-/// followed by a byte 0; faults go to standard error; and each file adds a letter to `marks`: `c` for one that isn't
-/// formatted, `s` for one that stays as it is, `r` for a refused one and `f` for one that couldn't be read or replaced.
+/// followed by a zero byte; faults go to standard error; and each file adds a letter to `marks`: `c` for one that isn't
+/// formatted, `s` for one that is unchanged, `r` for a refused one and `f` for one that couldn't be read or replaced.
 #[derive(Drop)]
 pub struct Disk<'a> {
     rt: &'a HostRuntime,
-    // A file that is there as soon as the run is to stop.
+    // A file that exists as soon as the run is to stop.
     stop: &'a str,
     marks: fs::File,
-    // The number of the part, so that no two parts make a file of one name.
+    // The number of the part, so that no two parts create a file with the same name.
     part: &'a str,
     // Whether a refusal is reported with its line.
     shows_lines: bool,
@@ -34,7 +34,7 @@ pub struct Disk<'a> {
 }
 
 impl<'a> Disk<'a> {
-    /// The folder for the part of this number, which stops as soon as there is a file `stop`. With `shows_lines` a refusal is
+    /// The folder for the part with this number, which stops once a file `stop` exists. With `shows_lines` a refusal is
     /// reported with its line.
     pub fn new(
         rt: &'a HostRuntime,
@@ -58,7 +58,7 @@ impl<'a> Disk<'a> {
         self.is_broken
     }
 
-    // The file that a name leads to, where it is a link.
+    // The target of a name, if it is a link.
     fn real_name(&self, name: &str) -> io::Result<String> {
         let alloc = self.rt.alloc();
         if fs::symlink_metadata(self.rt, name)?.is_symlink() {
@@ -68,7 +68,7 @@ impl<'a> Disk<'a> {
         Ok(String::from_str(alloc, name)?)
     }
 
-    // Writes what is reported of a file.
+    // Writes a report on a file.
     fn write_report(&mut self, name: &str, outcome: &Outcome) -> io::Result<()> {
         let mut errors = self.rt.stderr();
         let mark = match outcome {
@@ -140,7 +140,7 @@ impl Folder for Disk<'_> {
 
     fn unused_name(&mut self, alloc: Global, name: &str) -> io::Result<String> {
         let real = self.real_name(name)?;
-        // (a file that may not be written isn't replaced either)
+        // (a file that isn't writable isn't replaced either)
         let _ = OpenOptions::new().write(true).open(self.rt, real.as_str())?;
         let folder = match real.as_str().rsplit_once('/') {
             Some((folder, _)) => format!(in alloc; "{folder}/")?,

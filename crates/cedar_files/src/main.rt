@@ -1,15 +1,15 @@
-//! The program behind the script `cedar-files`: it formats files of policies in place, or checks them.
+//! The program that the script `cedar-files` runs: it formats files of policies in place, or checks them.
 //!
-//! The script runs it several times, each time with the words that it was given after the words below.
+//! The script runs it several times, each time with its own arguments after the words below.
 //!
 //! - `plan` writes what is to be done: a line with the number of processes, the mode, whether the run is quiet, the number of
-//!   files and the number of faults so far, and then the name of each file, followed by a byte 0. Where the words ask for help or
-//!   the version, that is written, and the status is 4.
-//! - `part FOLDER K N` does the K-th of N parts of the plan that stands in FOLDER. The names of files that aren't formatted
-//!   go to standard output, each followed by a byte 0.
+//!   files and the number of faults so far, and then the name of each file, followed by a zero byte. If the words ask
+//!   for help or the version, that is written, and the status is 4.
+//! - `part FOLDER K N` does the K-th of N parts of the plan in FOLDER. The names of files that aren't formatted
+//!   go to standard output, each followed by a zero byte.
 //! - `text` formats or checks standard input.
 //!
-//! Where the variable `CEDAR_FILES_LINES` is set, a refusal is reported with its line and a mark under the place.
+//! If the variable `CEDAR_FILES_LINES` is set, a refusal is reported with its line and a mark under the place.
 #![tactic(auto)]
 
 mod disk;
@@ -28,11 +28,11 @@ use std::io::Write;
 use std::process::ExitCode;
 use std::{env, io};
 
-// A fault that isn't one of the words.
+// A fault other than one of the words.
 const FAILED: u8 = 1;
 // A usage error.
 const MISUSED: u8 = 2;
-// With a mode that changes nothing: something isn't formatted.
+// In a mode that changes nothing: something isn't formatted.
 const UNFORMATTED: u8 = 3;
 // Help or the version was written.
 const ANSWERED: u8 = 4;

@@ -21,11 +21,11 @@ pub struct Options<'a> {
     pub mode: Mode,
     /// How the files are laid out.
     pub config: Config,
-    /// How many processes share the files. 0 stands for as many as there are cores.
+    /// How many processes share the files. 0 means as many as there are cores.
     pub jobs: u16,
     /// Whether only faults and names are printed.
     pub quiet: bool,
-    /// Files and folders that are left alone: names, or paths as they are walked.
+    /// Files and folders that are skipped: names, or paths as they are walked.
     pub excluded: Vec<&'a str>,
     /// The files and folders, in order.
     pub paths: Vec<&'a str>,

@@ -15,7 +15,7 @@ pub struct Part<'a> {
 }
 
 impl<'a> Part<'a> {
-    /// The part that the program's words name: after `part` the folder, the number and how many there are.
+    /// The part that the program's words name: after `part` come the folder, the number and how many there are.
     pub fn new(words: &'a [String]) -> Part<'a> {
         let word = |n: usize| match words.get(n) {
             Some(word) => word.as_str(),
@@ -29,7 +29,7 @@ impl<'a> Part<'a> {
     }
 }
 
-/// Does the part, and answers the status: 0, also where files couldn't be done; 1 where that couldn't be reported.
+/// Does the part, and returns the status: 0, even if files couldn't be done; 1 if that couldn't be reported.
 pub fn do_part(rt: &HostRuntime, part: &Part<'_>, options: &Options<'_>) -> io::Result<u8> {
     let alloc = rt.alloc();
     let (Ok(number), Ok(parts)) = (part.number.parse::<usize>(), part.parts.parse::<usize>()) else {

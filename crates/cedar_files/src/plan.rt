@@ -8,7 +8,7 @@ use std::io::{BufWriter, Write};
 /// The first line of a plan for standard input.
 const STANDARD_INPUT: &str = "-";
 
-/// Writes the plan to standard output, and answers the status.
+/// Writes the plan to standard output, and returns the status.
 pub fn write_plan(rt: &HostRuntime, options: &Options<'_>) -> io::Result<u8> {
     if options.paths.iter().any(|path| *path == STANDARD_INPUT) {
         return plan_text(rt, options);
@@ -35,7 +35,7 @@ pub fn write_plan(rt: &HostRuntime, options: &Options<'_>) -> io::Result<u8> {
     Ok(0)
 }
 
-// The plan for standard input, which stands alone.
+// The plan for standard input, which is its only entry.
 fn plan_text(rt: &HostRuntime, options: &Options<'_>) -> io::Result<u8> {
     if options.paths.len() > 1 || options.mode == Mode::Diff {
         write!(rt.stderr(), "cedar-files: - stands alone, without --diff\n")?;

@@ -7,7 +7,7 @@ use unicode_width::UnicodeWidthStr;
 
 const BYTE_ORDER_MARK: char = '\u{feff}';
 
-// The most characters that are shown before a place and after it.
+// The most characters shown before a place and after it.
 const SHOWN: usize = 60;
 
 /// A text that is refused.

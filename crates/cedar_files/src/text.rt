@@ -6,7 +6,7 @@ use cedar_policy_formatter::{ReadFault, Watched, policies_str_to_pretty, read_te
 use std::io;
 use std::io::Write;
 
-/// Formats standard input to standard output, or only checks it, and answers the status.
+/// Formats standard input to standard output, or only checks it, and returns the status.
 pub fn format_text(rt: &HostRuntime, options: &Options<'_>) -> io::Result<u8> {
     let mut input = Watched::new(rt.stdin());
     let text = match read_text(rt.alloc(), &mut input) {

@@ -11,8 +11,8 @@ pub struct Found {
     pub faults: usize,
 }
 
-/// The files of all paths: each that is named itself, and of a folder the files `*.cedar` below it, ordered by their bytes.
-/// Hidden files and folders below one are left alone, and so is what is excluded.
+/// The files of all paths: each that is named itself, and the files `*.cedar` below each folder, ordered by their bytes.
+/// Hidden files and folders below one are skipped, and so is what is excluded.
 pub fn find_files(rt: &HostRuntime, options: &Options<'_>) -> io::Result<Found> {
     let mut seen = BTreeSet::new(rt.alloc());
     let mut found = Found {
@@ -79,7 +79,7 @@ impl<'a> Walk<'a> {
         Ok(())
     }
 
-    // Takes what a folder holds. Its name has no slash at the end, and is empty for the root.
+    // Adds what a folder contains. Its name has no slash at the end, and is empty for the root.
     fn list(&mut self, folder: &str) -> io::Result<()> {
         let root = if folder.is_empty() { "/" } else { folder };
         for entry in fs::read_dir(self.rt, root)? {
@@ -99,7 +99,7 @@ impl<'a> Walk<'a> {
         Ok(())
     }
 
-    // Takes a folder, or a file or link whose name ends in `.cedar`.
+    // Adds a folder, or a file or link whose name ends in `.cedar`.
     fn sort_in(
         &mut self,
         folder: &str,
@@ -124,7 +124,7 @@ impl<'a> Walk<'a> {
         self.excluded.iter().any(|it| *it == name)
     }
 
-    // Says that a folder, or a name in it, couldn't be read.
+    // Reports that a folder, or a name in it, couldn't be read.
     fn tell(&mut self, folder: &str, error: &io::Error) {
         self.faults = self.faults.saturating_add(1);
         let mut errors = self.rt.stderr();

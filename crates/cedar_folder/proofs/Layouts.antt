@@ -1,4 +1,4 @@
--- What an output tells of its text.
+-- What an output says about its text.
 use Rattle.std.proofs.Common.{◌≡◌, ◌≢◌, ◌∙◌, ℕ, List, Bool, true, false, ap, subst, sym}
 use Rattle.std.specs.Prelude.{◌↔◌, IsTrue}
 use Rattle.std.specs.Str.{IsUtf8}
@@ -17,7 +17,7 @@ module _ (tell : OutputsTellLists) (unique : ListingIsUnique) (c : Config) where
   pub is_unformatted : (x y : List ℕ) → HasOutput c x y → y ≢ x → IsUnformatted c x
   is_unformatted x y h other = (h.0, h.1.accepted, λ own. other (one_output x y x h own))
 
-  -- so it is where the comparison says so
+  -- it is its own output if the comparison says so
   pub other_layout : (x t y : List ℕ) (b : Bool) → (t ≡ x) × IsUtf8 x → IsOutputOf c.line_width c.indent_width t y → IsUtf8 y → (IsTrue b ↔ (y ≡ t)) → b ≡ false → IsUnformatted c x × HasOutput c x y × IsUtf8 y
   other_layout x t y b (e, u) o v tells differs =
       let h : HasOutput c x y = (u, subst (λ z. IsOutputOf c.line_width c.indent_width z y) e o) in

@@ -10,7 +10,7 @@ use Rattle.cedar_folder.specs.declared.folder.Outcome.{Outcome}
 use Rattle.cedar_folder.specs.declared.folder.Outcome.TheVariants.{LeftBeside, Unformatted, Unwritten}
 use Rattle.cedar_folder.proofs.Steps.{held_is_other, moments_are, more_moments, no_moment, same_or_other}
 
--- of all names this one alone may have changed, at every moment
+-- only this name may have changed, at every moment
 pub record Touches (b : List ℕ) (p q : Picture) : Type 0 where
   pub others : Spares b p.holds q.holds
   pub moments : Since p q (Spares b p.holds)

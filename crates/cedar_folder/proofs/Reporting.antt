@@ -38,14 +38,14 @@ left_last : (told : Told) (m : List ℕ) (o : Outcome) → IsLeft o → SomeLeft
 left_last [] m o h = inl h
 left_last (t ∷ ts) m o h = inr (left_last ts m o h)
 
--- a report that names none twice is one before its last file, which it doesn't name
+-- a report without repeated names is one before its last file, which it doesn't name
 none_before : (told : Told) (m : List ℕ) (o : Outcome) → NoneTwice (told ++ ((m, o) ∷ [])) → NoneTwice told × ¬ (IsNamed told m)
 none_before [] m o h = (tt, λ bad. bad)
 none_before (t ∷ ts) m o (first, rest) =
     let more = none_before ts m o rest in
     ((λ h. first (named_more ts t.0 m o h), more.0), elim [ inl e ↦ first (subst (λ z. IsNamed (ts ++ ((m, o) ∷ [])) z) e (named_last ts m o)) | inr h ↦ more.1 h ])
 
--- ---- what a file became lasts where no other one is handled
+-- ---- what became of a file lasts if no other is handled
 
 module _ (only : Bool) (c : Config) (f : Stored) where
   lasts_replaced : (b : Bool) (h k : Option Stored) → ((g : Stored) → h ≡ Some g → k ≡ Some g) → HoldsReplaced b c f h → HoldsReplaced b c f k

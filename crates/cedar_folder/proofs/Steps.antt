@@ -1,4 +1,4 @@
--- Steps of a folder, one after the other.
+-- Steps of a folder, one after another.
 use Rattle.std.proofs.Common.{◌≡◌, ◌≢◌, ◌∙◌, ◌⊎◌, ◌++◌, ◌∷◌, [], ℕ, List, Option, None, Some, append-nil, append_assoc, refl, sym, ap, inl, inr, Bool, true, false}
 use Rattle.std.specs.List.{AllByRecursion}
 use Rattle.std.specs.Str.{bytes_eq}

@@ -7,7 +7,7 @@ use Rattle.cedar_folder.specs.declared.folder.Access.{Access}
 use Rattle.cedar_folder.specs.declared.folder.File.{File}
 use Rattle.cedar_folder.specs.declared.folder.Outcome.{Outcome}
 
--- a file: its bytes, and who may use it
+-- a file: its bytes, and its access
 pub record Stored : Type 0 where
   pub bytes : List ℕ
   pub access : Access
@@ -27,7 +27,7 @@ pub record Picture : Type 0 where
   pub report : List (List ℕ × Outcome)
   pub stopped : Bool
 
--- where something was known before, it is known after, and the step leads from the one to the other
+-- if something was known before, it is known after, and the step leads from the one to the other
 abbrev pub Follows : (Picture → Picture → Type 0) → Option Picture → Option Picture → Type 0
 Follows step None new = ⊤
 Follows step (Some p) None = ⊥
@@ -59,7 +59,7 @@ pub record Creates (name bytes : List ℕ) (access : Access) (result : Result Un
   pub moments : Since p q (Spares name p.holds)
   pub report : q.report ≡ p.report
 
--- the file has the other name, or nothing changed; at every moment the one or the other
+-- the file has the other name, or nothing changed; at every moment one or the other
 pub record Renames (from to : List ℕ) (result : Result Unit Error) (p q : Picture) : Type 0 where
   pub ok : from ≢ to → OnOk result ((q.holds to ≡ p.holds from) × (q.holds from ≡ None))
   pub err : OnErr result (Alike p.holds q.holds)
@@ -75,6 +75,6 @@ pub record Removes (name : List ℕ) (result : Result Unit Error) (p q : Picture
   pub moments : Since p q (Spares name p.holds)
   pub report : q.report ≡ p.report
 
--- the report is longer by this file, and the answer says whether to go on
+-- the report is longer by this file, and the answer says whether to continue
 abbrev pub Reports : List ℕ → Outcome → Bool → Picture → Picture → Type 0
 Reports name outcome goes_on p q = q ≡ record p { report = p.report ++ ((name, outcome) ∷ []); stopped = not goes_on }

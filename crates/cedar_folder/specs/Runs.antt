@@ -1,4 +1,4 @@
--- What a run makes of the files of a folder.
+-- What a run does with the files of a folder.
 use Rattle.std.specs.Prelude.{◌≡◌, ◌≢◌, ◌⊎◌, ◌++◌, ◌∷◌, [], ℕ, List, Bool, true, false, Option, None, Some, Contains, map, string_bytes, ⊤}
 use Rattle.std.specs.List.{AllByRecursion}
 use Rattle.std.specs.Str.{IsUtf8}
@@ -13,7 +13,7 @@ use Rattle.cedar_folder.specs.declared.folder.Outcome.TheVariants.{Formatted, Un
 use Rattle.cedar_folder.specs.declared.files.Layout.{Layout}
 use Rattle.cedar_folder.specs.declared.files.Layout.TheVariants as layout
 
--- the bytes are accepted, and not their own output
+-- the bytes are accepted, and are not their own output
 abbrev pub IsUnformatted : Config → List ℕ → Type 0
 IsUnformatted c x = IsUtf8 x × Accepted x × ¬ (HasOutput c x x)
 
@@ -41,7 +41,7 @@ abbrev pub IsLeft : Outcome → Type 0
 IsLeft (LeftBeside e n) = ⊤
 IsLeft o = ⊥
 
--- what an unformatted file is replaced by: its output, or with a run that only checks nothing
+-- what replaces an unformatted file: its output, or nothing in a run that only checks
 abbrev pub HoldsReplaced : Bool → Config → Stored → Option Stored → Type 0
 HoldsReplaced true c f h = h ≡ Some f
 HoldsReplaced false c f h = HoldsOutput c f h
@@ -54,19 +54,19 @@ Became only c f NotUtf8 h = ¬ (IsUtf8 f.bytes) × (h ≡ Some f)
 Became only c f (Refused e bytes) h = OutOfMemoryOr (Refuses f.bytes) e × (bytes.items ≡ f.bytes) × (h ≡ Some f)
 Became only c f o h = h ≡ Some f
 
--- at a moment of the run each file holds what it held, or one of these its output
+-- at a moment of the run each file holds what it held, or one of these holds its output
 abbrev pub IsMoment : Config → (List ℕ → Type 0) → Names → Names → Type 0
 IsMoment c these s t = (n : List ℕ) (f : Stored) → s n ≡ Some f → (t n ≡ Some f) ⊎ (these n × HoldsOutput c f (t n))
 
--- the named file has these bytes and this access, or is what it was
+-- the named file has these bytes and this access, or is unchanged
 abbrev pub Replaced : List ℕ → Access → Stored → Outcome → Option Stored → Type 0
 Replaced bytes access f Unformatted h = h ≡ Some (record { bytes = bytes; access = access })
 Replaced bytes access f (Unwritten e) h = h ≡ Some f
 Replaced bytes access f (LeftBeside e n) h = h ≡ Some f
 Replaced bytes access f o h = ⊥
 
--- the named file is replaced in one step by one with these bytes and this access, or is what it was; every other file is, at
--- every moment; and nothing is left, or that is the outcome
+-- the named file is replaced in one step by one with these bytes and this access, or is unchanged; every other file is unchanged,
+-- at every moment; and no file is left, or that is the outcome
 pub record Replaces (name bytes : List ℕ) (access : Access) (o : Outcome) (p q : Picture) : Type 0 where
   pub own : (f : Stored) → p.holds name ≡ Some f → Replaced bytes access f o (q.holds name)
   pub others : (n : List ℕ) (f : Stored) → n ≢ name → p.holds n ≡ Some f → q.holds n ≡ Some f
@@ -74,7 +74,7 @@ pub record Replaces (name bytes : List ℕ) (access : Access) (o : Outcome) (p q
   pub moments : (f : Stored) → p.holds name ≡ Some f → Since p q (λ s. (n : List ℕ) (g : Stored) → p.holds n ≡ Some g → (s n ≡ Some g) ⊎ ((n ≡ name) × (s n ≡ Some (record { bytes = bytes; access = access }))))
   pub report : q.report ≡ p.report
 
--- the named file is handled, every other is what it was, and nothing is left, or that is the outcome; a run that only checks
+-- the named file is handled, every other is unchanged, and no file is left, or that is the outcome; a run that only checks
 -- changes nothing
 pub record Handles (c : Config) (only : Bool) (name : List ℕ) (o : Outcome) (p q : Picture) : Type 0 where
   pub own : (f : Stored) → p.holds name ≡ Some f → Became only c f o (q.holds name)
@@ -99,7 +99,7 @@ NoneTwice [] = ⊤
 NoneTwice (t ∷ ts) = ¬ (IsNamed ts t.0) × NoneTwice ts
 
 -- files were handled, with this report: each name holds what it held, or a named one its output, at every moment; what the
--- report says of a file is true; nothing is left, or the report says so; and a run that only checks changes nothing
+-- report says of a file is true; no file is left, or the report says so; and a run that only checks changes nothing
 pub record HandlesThese (c : Config) (only : Bool) (told : List (List ℕ × Outcome)) (p q : Picture) : Type 0 where
   pub report : q.report ≡ p.report ++ told
   pub became : NoneTwice told → AllByRecursion (λ t. (f : Stored) → p.holds t.0 ≡ Some f → Became only c f t.1 (q.holds t.0)) told

@@ -12,9 +12,9 @@ use std::io;
 
 /// Formats the named files in order, or with `only_checks` says which aren't formatted, and reports on each.
 ///
-/// Afterwards each named file that is accepted holds its output, with the access that it had; a refused one, and one that
-/// couldn't be read or replaced, holds what it held, and so does every other file. At every moment each file holds what it
-/// held or its output. With `only_checks` nothing changes. The run ends early where `report` says so.
+/// Afterwards each named file that is accepted holds its output, with the access that it had; a refused one, one that
+/// couldn't be read or replaced, and every other file hold what they held. At every moment each file holds what it
+/// held or its output. With `only_checks` nothing changes. The run ends early if `report` says so.
 pub fn format_files<F: Folder>(
     alloc: Global,
     folder: &mut F,
@@ -60,7 +60,7 @@ fn format_file<F: Folder>(
     }
 }
 
-// How the bytes of a file are laid out.
+// The result of laying out the bytes of a file.
 #[derive(Drop)]
 enum Layout {
     // They are their own output.
@@ -92,7 +92,7 @@ fn layout_of(alloc: Global, bytes: &[u8], config: &Config) -> Layout
     }
 }
 
-// Puts a file with these bytes in the place of one that is there, in one step.
+// Replaces an existing file by one with these bytes, in one step.
 fn replace_file<F: Folder>(
     alloc: Global,
     folder: &mut F,

@@ -6,7 +6,7 @@ use cedar_policy_formatter::FormatError;
 use std::alloc::Global;
 use std::io;
 
-/// Who may use a file, and whose it is.
+/// The access to a file: its permissions and its owner.
 #[derive(Clone, Copy, Debug, PartialEq, Eq)]
 pub struct Access {
     /// The permission bits.
@@ -22,36 +22,36 @@ pub struct Access {
 pub struct File {
     /// The bytes of the file.
     pub bytes: Vec<u8>,
-    /// Who may use it.
+    /// Its access.
     pub access: Access,
 }
 
 /// What became of a file.
 #[derive(Debug, Drop)]
 pub enum Outcome {
-    /// It was its own output, and stays.
+    /// It was its own output, and is unchanged.
     Formatted,
     /// It is accepted and was not its own output. It was replaced; a run that only checks left it.
     Unformatted,
-    /// It isn't UTF-8, and stays.
+    /// It isn't UTF-8, and is unchanged.
     NotUtf8,
-    /// It is refused, and stays. `bytes` are those of the file.
+    /// It is refused, and is unchanged. `bytes` are those of the file.
     Refused { error: FormatError, bytes: Vec<u8> },
-    /// It couldn't be read, and stays.
+    /// It couldn't be read, and is unchanged.
     Unread(io::Error),
-    /// It couldn't be replaced, and stays.
+    /// It couldn't be replaced, and is unchanged.
     Unwritten(io::Error),
-    /// It couldn't be replaced, and stays. The output is still in the file `beside`, which couldn't be removed.
+    /// It couldn't be replaced, and is unchanged. The output is still in the file `beside`, which couldn't be removed.
     LeftBeside { error: io::Error, beside: String },
 }
 
-/// Files by their names, and a report of what was done with them.
+/// Files by name, and a report of what was done with them.
 ///
-/// `picture` is what is known of it: what each name holds, what each name held at every moment so far, and the report.
+/// `picture` is what is known about it: what each name holds, what each name held at every moment so far, and the report.
 /// `None` claims nothing. No call does anything that its clause doesn't say, so a stop in the middle of a call leaves one of
 /// the moments that the clause allows.
 pub trait Folder {
-    /// What is known of the folder.
+    /// What is known about the folder.
     ghost picture: { Self → Option Picture };
 
     /// What the name holds.
@@ -62,11 +62,11 @@ pub trait Folder {
     fn unused_name(&mut self, alloc: Global, name: &str) -> io::Result<String>
         ensures { Follows (FindsUnused result) (picture self.old) (picture self.new) };
 
-    /// Makes a file. After an error each name holds what it held.
+    /// Creates a file. After an error each name holds what it held.
     fn create(&mut self, name: &str, bytes: &[u8], access: Access) -> io::Result<()>
         ensures { Follows (Creates name.now bytes.now access result) (picture self.old) (picture self.new) };
 
-    /// Gives a file another name, in one step. What that name held is gone. After an error each name holds what it held.
+    /// Renames a file, in one step. What the new name held is gone. After an error each name holds what it held.
     fn rename(&mut self, from: &str, to: &str) -> io::Result<()>
         ensures { Follows (Renames from.now to.now result) (picture self.old) (picture self.new) };
 
@@ -74,7 +74,7 @@ pub trait Folder {
     fn remove(&mut self, name: &str) -> io::Result<()>
         ensures { Follows (Removes name.now result) (picture self.old) (picture self.new) };
 
-    /// Reports what became of a file, and answers whether to go on with the next.
+    /// Reports what became of a file, and returns whether to continue with the next.
     fn report(&mut self, name: &str, outcome: &Outcome) -> bool
         ensures { Follows (Reports name.now outcome.now result) (picture self.old) (picture self.new) };
 }

@@ -1,7 +1,7 @@
 //! Formats or checks the files of a folder, one after the other.
 //!
-//! A folder is anything that meets the trait `Folder`: a real one, or one in memory. `format_files` says of every folder
-//! whose contents are known what each name holds afterwards and at every moment of the run, and what was reported.
+//! A folder is anything that implements the trait `Folder`: a real one, or one in memory. For every folder whose contents
+//! are known, `format_files` says what each name holds afterwards and at every moment of the run, and what was reported.
 #![tactic(auto)]
 
 mod files;

@@ -9,24 +9,24 @@ use std::alloc::{AllocError, Global};
 #[derive(Drop)]
 pub enum Decoded {
     Message(ClientMessage),
-    /// No message of the protocol. The answer names the request, if it is known.
+    /// Not a message of the protocol. The answer names the request, if it is known.
     Refused { id: Option<Id>, fault: Fault },
-    /// An answer of the client, or a notification that can't be read.
+    /// A response from the client, or a notification that can't be read.
     Nothing,
 }
 
-/// Why a message isn't taken.
+/// Why a message is rejected.
 #[derive(Clone, Copy, PartialEq, Eq)]
 pub enum Fault {
-    /// It is no JSON, or has no length.
+    /// It isn't JSON, or has no length.
     Parse,
-    /// It is no request and no notification.
+    /// It is neither a request nor a notification.
     NoRequest,
-    /// There is no memory for the answer.
+    /// Out of memory while making the answer.
     OutOfMemory,
 }
 
-/// The message that a body holds.
+/// The message in a body.
 pub fn decode(alloc: Global, body: &[u8]) -> Result<Decoded, AllocError> {
     match Value::from_slice(alloc, body) {
         Ok(value) => message_of(alloc, &value),
@@ -38,7 +38,7 @@ pub fn decode(alloc: Global, body: &[u8]) -> Result<Decoded, AllocError> {
     }
 }
 
-// The message that a value is.
+// The message that a value represents.
 fn message_of(alloc: Global, value: &Value) -> Result<Decoded, AllocError> {
     if value.get("jsonrpc").and_then(Value::as_str) != Some("2.0") {
         return Ok(Decoded::Refused {
@@ -72,7 +72,7 @@ fn is_response(value: &Value) -> bool {
     value.get("result").is_some() || value.get("error").is_some()
 }
 
-// What names a request: a whole number or a text.
+// The id of a request: a whole number or a text.
 fn id_of(alloc: Global, value: &Value) -> Result<Option<Id>, AllocError> {
     if let Some(number) = value.as_i64() {
         return Ok(Some(Id::Number(number)));
@@ -88,7 +88,7 @@ fn text_of(alloc: Global, value: Option<&Value>) -> Result<Option<String>, Alloc
     }
 }
 
-// The request of this method.
+// The request with this method.
 fn request_of(alloc: Global, method: &str, params: &Value) -> Result<Request, AllocError> {
     match method {
         "initialize" => Ok(initialize(params)),
@@ -99,7 +99,7 @@ fn request_of(alloc: Global, method: &str, params: &Value) -> Result<Request, Al
     }
 }
 
-// What the client says of itself. Anything else than these options is passed over.
+// What the client says about itself. Other options are ignored.
 fn initialize(params: &Value) -> Request {
     let mut counts_utf8 = false;
     if let Some(encodings) = params
@@ -118,7 +118,7 @@ fn initialize(params: &Value) -> Request {
     })
 }
 
-// A whole number, not below zero.
+// A whole number that isn't negative.
 fn number_at(value: &Value, path: &str) -> Option<usize> {
     let number = value.pointer(path)?.as_u64()?;
     usize::try_from(number).ok()
@@ -168,7 +168,7 @@ fn position_of(value: &Value) -> Option<Position> {
     })
 }
 
-// The notification of this method; nothing for one that can't be read.
+// The notification with this method; nothing for one that can't be read.
 fn notification_of(alloc: Global, method: &str, params: &Value) -> Result<Decoded, AllocError> {
     let notification = match method {
         "exit" => Some(Notification::Exit),

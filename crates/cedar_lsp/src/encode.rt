@@ -12,7 +12,7 @@ pub fn told(alloc: Global, message: ServerMessage) -> Result<String, AllocError>
     }
 }
 
-/// The answer to a message that isn't taken.
+/// The answer to a message that is rejected.
 pub fn failed(alloc: Global, id: Option<Id>, fault: Fault) -> Result<String, AllocError> {
     let (code, message) = match fault {
         Fault::Parse => (

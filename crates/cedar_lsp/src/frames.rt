@@ -15,7 +15,7 @@ pub enum Frame {
     Body(Vec<u8>),
     /// A message without a length, or with a body that is too long. The input goes on after it.
     Unread,
-    /// A head that doesn't end. It is not known where a message begins.
+    /// A head that doesn't end. Where the next message begins is unknown.
     Lost,
     /// The input ends, maybe inside a message.
     End,
@@ -44,7 +44,7 @@ pub fn next_frame<R: Read>(alloc: Global, input: &mut R) -> io::Result<Frame> {
     }
 }
 
-// The next head. Empty lines before it are passed over.
+// The next head. Empty lines before it are skipped.
 fn next_head<R: Read>(alloc: Global, input: &mut R) -> io::Result<Head> {
     let mut line = Vec::new(alloc);
     let mut head = None;
@@ -78,7 +78,7 @@ fn next_byte<R: Read>(input: &mut R) -> io::Result<Option<u8>> {
     Ok(if count == 0 { None } else { Some(byte[0]) })
 }
 
-// The length that a line names. What comes before the field's name is the rest of a body whose length wasn't known.
+// The length that a line gives. Whatever comes before the field's name is the rest of a body of unknown length.
 fn length_in(line: &[u8]) -> Option<u64> {
     const NAME: &[u8] = b"content-length:";
     for start in 0..line.len() {
@@ -92,7 +92,7 @@ fn length_in(line: &[u8]) -> Option<u64> {
     None
 }
 
-// A body. It is read as it comes, so no more memory is asked for than twice what was sent.
+// A body. It is read as it arrives, so no more memory is requested than twice what was sent.
 fn read_body<R: Read>(alloc: Global, input: &mut R, length: u64) -> io::Result<Frame> {
     let mut body = Vec::new(alloc);
     input.take(length).read_to_end(&mut body)?;
@@ -102,7 +102,7 @@ fn read_body<R: Read>(alloc: Global, input: &mut R, length: u64) -> io::Result<F
     Ok(Frame::Body(body))
 }
 
-// Passes over a body.
+// Skips a body.
 fn skip<R: Read>(input: &mut R, length: u64) -> io::Result<()> {
     io::copy(&mut input.take(length), &mut io::sink())?;
     Ok(())

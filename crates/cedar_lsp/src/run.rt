@@ -7,8 +7,8 @@ use std::alloc::{AllocError, Global};
 use std::io;
 use std::io::{BufReader, Write};
 
-/// Answers the messages of standard input on standard output, and gives the status to end with: that of `exit`. An input that
-/// ends before that, or can't be followed any more, is an `exit` too.
+/// Answers the messages of standard input on standard output, and returns the status to end with: that of `exit`. An input
+/// that ends before that, or can't be followed any further, counts as an `exit` too.
 pub fn serve(rt: &HostRuntime) -> io::Result<u8> {
     let alloc = rt.alloc();
     let mut input = BufReader::new(alloc, rt.stdin())?;
@@ -34,7 +34,7 @@ pub fn serve(rt: &HostRuntime) -> io::Result<u8> {
     Ok(1)
 }
 
-// What is to be written after a message. Where memory runs out, a request is answered so; after any other message the texts of
+// What to write after a message. If out of memory, a request is answered with that; after any other message the texts of
 // the client and of the server may differ, and the session ends.
 fn answer(alloc: Global, server: &mut Server, body: &[u8]) -> Result<String, AllocError> {
     match decode(alloc, body)? {
@@ -51,7 +51,7 @@ fn answer(alloc: Global, server: &mut Server, body: &[u8]) -> Result<String, All
     }
 }
 
-// A copy of what names a request.
+// A copy of the id of a request.
 fn id_of(message: &ClientMessage) -> Result<Option<Id>, AllocError> {
     match message {
         ClientMessage::Request { id, .. } => Ok(Some(copy(id)?)),
@@ -66,7 +66,7 @@ fn copy(id: &Id) -> Result<Id, AllocError> {
     }
 }
 
-// The server's messages after one of the client.
+// The server's messages after one from the client.
 fn step(alloc: Global, server: &mut Server, message: ClientMessage) -> Result<String, AllocError> {
     let mut text = String::new(alloc);
     for message in server.step(alloc, message)? {
@@ -75,7 +75,7 @@ fn step(alloc: Global, server: &mut Server, message: ClientMessage) -> Result<St
     Ok(text)
 }
 
-// The end of the input is an `exit`.
+// The end of the input counts as an `exit`.
 fn end(alloc: Global, server: &mut Server) -> Result<String, AllocError> {
     step(
         alloc,

@@ -37,7 +37,7 @@ row_variant l s p f n g = record {
   place = covers_node l s f g.place;
 }
 
--- the closing token is kept, and last
+-- the closing token is kept, and comes last
 last_kept : (f : Forest Label Lexeme) (t : Lexeme) (k : Kind) → t.kind ≡ k → is K.Comma k ≡ false → (ys : List Lexeme) × (kept (join f (leaf t none)) ≡ ys ++ t ∷ [])
 last_kept none t k e h = ([], ap yield (kept_leaf t k none e h))
 last_kept (leaf a f) t k e h =
@@ -62,7 +62,7 @@ row_brackets o t a b trees f e h i d c j m s = record {
       ∙ ap (λ z. Some (record { start = o.span.start; end = z })) (end_append o.span q.0 t []);
 }
 
--- a kind that opens and one that closes, with their texts
+-- an opening kind and a closing kind, with their texts
 pub record Encloses (a b : Kind) (x z : List ℕ) : Type 0 where
   pub comma : is K.Comma a ≡ false
   pub number : is K.Number a ≡ false
@@ -76,7 +76,7 @@ module _ {X : Type 0} (l : Label) (parts : X → Erased) (x z : List ℕ) where
   abbrev pub enclosed_trees : Vec (Node X) Global → Erased
   enclosed_trees v = bracketed x (item_trees l parts v.items) z
 
-  -- the items that were read stand with their brackets for the trees that the reader gives; or the refusal is the reader's
+  -- the items that were read, with their brackets, stand for the trees that the reader gives; or the refusal is the reader's
   abbrev pub GivesEnclosed : ℕ → Result ((Vec (Node X) Global × ℕ) × Bor (List Lexeme)) Refusal → Answer Lexeme → Type 0
   GivesEnclosed start (Ok y) a = (f : Forest Label Lexeme) × (a ≡ done f y.1.now) × Stands (record { start = start; end = y.0.1 }) (enclosed_trees y.0.0) f
   GivesEnclosed start (Err e) a = Fails e a
@@ -101,7 +101,7 @@ module _ {X : Type 0} (l : Label) (parts : X → Erased) (x z : List ℕ) where
     enclosed_gives (Err f) (Ok y) ts rest o e h g c = absurd c
     enclosed_gives (Err f) (Err q) ts rest o e h g c = rw c (passes f _ _ g (λ y r i. both_then_fails (one kind a) (both P (one kind b)) ts (leaf o none) rest y r e (both_fails P (one kind b) rest y r i)))
 
-  -- what is in the brackets as a primary of its own variant
+  -- what is in the brackets, as a primary of its own variant
   abbrev pub IsEnclosedOf : Label → ℕ → Vec (Node X) Global × ℕ → Boxed Primary.Primary → Type 0
   IsEnclosedOf v start y = IsBracketsOf v x (item_trees l parts y.0.items) z start y.1
 
@@ -116,7 +116,7 @@ module _ {X : Type 0} (l : Label) (parts : X → Erased) (x z : List ℕ) where
   primary_gives v i Q start (Err f) (Ok n) ts g p m = absurd p
   primary_gives v i Q start (Err f) (Err e) ts g p m = rw p (passes f _ _ g (λ b r k. tree_fails Label.primary _ ts b r (tree_fails v Q ts b r k)))
 
-  -- what is in the brackets as an access
+  -- what is in the brackets, as an access
   abbrev pub IsAccessOf : ℕ → Vec (Node X) Global × ℕ → Node MemAccess.MemAccess → Type 0
   IsAccessOf start y = IsMade access_parts (enclosed_trees y.0) (record { start = start; end = y.1 })
 

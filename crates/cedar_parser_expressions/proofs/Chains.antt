@@ -24,7 +24,7 @@ use Rattle.cedar_parser_steps.proofs.LeafTexts.{shown}
 use Rattle.cedar_parser_steps.proofs.Steps.{token_at, first_begins}
 use Rattle.cedar_parser_steps.proofs.Rows.{row_node, row_more, row_join, row_parts, row_span, no_closing, Chain, chain_first, chain_next, chain_stuck, chain_end}
 
--- an operand, with its sign or without
+-- an operand, with or without its sign
 abbrev pub GivesOperand : {X Y : Type 0} → (Y → Node X) → (Y → Type 0) → Label → (X → Erased) → Result (Y × Bor (List Lexeme)) Refusal → Answer Lexeme → Type 0
 GivesOperand operand Q l parts (Ok y) a = (f : Forest Label Lexeme) × (a ≡ done (branch l f none) y.1.now) × Stands (operand y.0).span (parts (operand y.0).inner) f × Q y.0
 GivesOperand operand Q l parts (Err e) a = Fails e a
@@ -44,7 +44,7 @@ pub signed_operand : {S X : Type 0} (s : S) (l : Label) (parts : X → Erased) (
 signed_operand s l parts (Ok x) a g = (g.0, g.1, g.2, refl)
 signed_operand s l parts (Err e) a g = g
 
--- what is kept of what was read leaves as few tokens
+-- what is kept of what was read leaves no more tokens
 pub kept_shorter : {X Y : Type 0} (f : X → Y) (read : Result (X × Bor (List Lexeme)) Refusal) (old new : List Y) (rest : Bor (List Lexeme)) (u : Unit {0}) (m : ℕ) → IfOk read (λ x. length x.1.now < m) → Keeps (mapped f read) old new rest (Ok u) → length rest.now < m
 kept_shorter f (Ok x) old new rest u m h k = rw k.1 h
 kept_shorter f (Err e) old new rest u m h k = absurd k

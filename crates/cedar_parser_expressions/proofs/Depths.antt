@@ -1,4 +1,4 @@
--- Readers of rules where so many brackets and ifs may still be nested.
+-- Readers of rules, given how many brackets and ifs may still be nested.
 use Rattle.std.specs.Prelude.{◌≡◌, ℕ, zero, suc, true, false, IsTrue, List}
 use Rattle.std.proofs.Common.{refl}
 use Rattle.cedar_grammar.specs.KindGrammar as G

@@ -1,4 +1,4 @@
--- Items with commas between them, and perhaps one behind the last: how they are read, and what stands for them.
+-- Items with commas between them, and perhaps one after the last: how they are read, and what stands for them.
 use Rattle.std.specs.Prelude.{◌≡◌, ◌&&◌, Bool, true, false, List, [], ◌∷◌, ◌++◌, codes}
 use Rattle.std.proofs.Common.{refl, sym, ap, ◌∙◌}
 use Rattle.cedar_tokens.specs.declared.kind.Kind.{Kind}
@@ -34,7 +34,7 @@ comma_kept d l f g e r =
     ∙ ap (λ u. leaf u (lexeme_nodes (branch l f g))) (fixed_text d K.Comma r e refl)
 
 module _ {X : Type 0} (l : Label) (parts : X → Erased) where
-  -- items with a comma behind each
+  -- items with a comma after each
   abbrev pub with_commas : List (Node X) → Erased
   with_commas [] = none
   with_commas (n ∷ ns) = node l n.span (parts n.inner) (leaf (codes ",") (with_commas ns))

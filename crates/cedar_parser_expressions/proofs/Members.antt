@@ -1,4 +1,4 @@
--- The loop over what is accessed in a primary, at a depth.
+-- The loop over accesses in a primary, at a depth.
 use Rattle.std.specs.Prelude.{◌≡◌, ◌&&◌, ℕ, Bool, true, false, List, [], ◌∷◌, ◌++◌}
 use Rattle.std.proofs.Common.{refl}
 use Rattle.cedar_tokens.specs.declared.kind.Kind.TheVariants as K

@@ -1,4 +1,4 @@
--- What may nest: expressions with `if`, primaries in brackets, calls. How they are read with room for them, and without.
+-- What may nest: expressions with `if`, primaries in brackets, calls. How they are read with and without room for them.
 use Rattle.std.specs.Prelude.{◌≡◌, ℕ, suc, ◌<◌, ◌-◌, ◌||◌, Bool, true, false, IsTrue, List, [], ◌∷◌}
 use Rattle.std.proofs.Common.{refl, sym, ◌∙◌, arith}
 use Rattle.cedar_tokens.specs.declared.kind.Kind.{Kind}

@@ -1,4 +1,4 @@
--- Primaries that stand alone, operands behind signs, and readers at a depth by their names.
+-- Primaries alone, operands after signs, and readers at a depth by their names.
 use Rattle.std.specs.Prelude.{◌≡◌, ◌||◌, ℕ, zero, suc, Bool, true, false, List, [], ◌∷◌, Result, Ok, Err, MatchResult, Vec, box_value, codes}
 use Rattle.std.specs.declared.alloc.Global.{Global}
 use Rattle.std.specs.Borrow.{Bor}
@@ -60,7 +60,7 @@ pub expr_takes : (d : ℕ) → Takes (expr_to kind d)
 expr_takes zero = depth_takes 0 expr_rule refl refl
 expr_takes (suc d) = depth_takes (suc d) expr_rule refl refl
 
--- what was read first stands first
+-- what was read first comes first
 pub one_begins : (k : Kind) (ts : List Lexeme) (o : Lexeme) (rest : List Lexeme) → one kind k ts ≡ done (leaf o none) rest → begins kind (is k) ts ≡ true
 one_begins k ts o rest e = go (begins kind (is k) ts) refl
   where
@@ -100,7 +100,7 @@ brackets_none ts h = go (begins kind (is K.LParen) ts) (begins kind (is K.LBrack
 pub or_gives : (P : Reader Lexeme) (o : Node Or.Or) (n : Node Expr.Expr) (rest : Bor (List Lexeme)) (ts : List Lexeme) → GivesNode Label.or or_parts (Ok (o, rest)) (P ts) → IsOrExprOf o n → GivesNode Label.expr expr_parts (Ok (n, rest)) (tree Label.expr P ts)
 or_gives P o n rest ts g m = (branch Label.or g.0 none, tree_done Label.expr P ts _ rest.now g.1, row_span _ _ _ _ (sym m.1) (row_parts _ _ _ _ m.0 (row_node Label.or _ _ g.0 refl g.2)))
 
--- An operand behind its sign.
+-- An operand after its sign.
 pub signed_gives : {S X : Type 0} (sign : S → Kind) (T A : Reader Lexeme) (l : Label) (parts : X → Erased) (s : S) (t : Lexeme) (ts rest : List Lexeme) (read : Result (Boxed X × Bor (List Lexeme)) Refusal) (result : Result ((S × Boxed X) × Bor (List Lexeme)) Refusal)
     → T ts ≡ done (leaf t none) rest → t.kind ≡ sign s → GivesNode l parts (unboxed read) (A rest) → PassesOn read result → Makes (IsBeside s) read result → GivesSigned sign l parts result (both T A ts)
 signed_gives sign T A l parts s t ts rest (Ok x) (Ok y) e h g p m = (

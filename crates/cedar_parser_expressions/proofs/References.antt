@@ -33,7 +33,7 @@ use Rattle.cedar_parser_steps.proofs.Steps.{passes, fails_as, token_not}
 use Rattle.cedar_parser_steps.proofs.Entities.{entity_stands}
 use Rattle.cedar_parser_steps.proofs.Tails.{tailed_end}
 
--- Two sets that say the same of the first token.
+-- Two sets that agree on the first token.
 token_same : (p q : Kind → Bool) (ts : List Lexeme) → begins kind p ts ≡ begins kind q ts → token kind p ts ≡ token kind q ts
 token_same p q [] e = token_end kind p ∙ sym (token_end kind q)
 token_same p q (t ∷ ts) e = go (q t.kind) refl
@@ -69,7 +69,7 @@ other_first (t ∷ ts) h = go (is_ident t.kind) (is_variable t.kind) h
     go true false h = refl
     go false b h = refl
 
--- what follows a variable: further words, or its call
+-- what follows a variable: more words, or its call
 abbrev follows : Kind → Bool
 follows k = is K.DoubleColon k || is K.LParen k
 
@@ -101,7 +101,7 @@ follows_either (t ∷ ts) h = go (is K.DoubleColon t.kind) (is K.LParen t.kind) 
     go true b h = absurd cc
     go false b h = refl
 
--- a refusal that the answer denies is that of memory
+-- a refusal that the answer rules out is out of memory
 never : (e : Refusal) (a b : Answer Lexeme) (f : Forest Label Lexeme) (r : List Lexeme) → Fails e a → a ≡ done f r → Fails e b
 never (Grammar left) a b f r h k = absurd (let w : a ≡ stuck false h.0 = h.1 in cc)
 never (TooDeep left) a b f r h k = absurd (let w : a ≡ stuck true h.0 = h.1 in cc)
@@ -134,7 +134,7 @@ module _ (C : Reader Lexeme) where
   reads_other : (ts : List Lexeme) → begins kind is_variable ts ≡ false → words_reader ts ≡ words_then C ts
   reads_other ts h = choice_no _ _ _ ts h ∙ both_same _ ident_reader (words_on C) ts (word_same other_word ts (other_first ts h))
 
-  -- behind the first word its call or further words follow
+  -- the first word is followed by its call or more words
   reads_on : (ts : List Lexeme) (f : Forest Label Lexeme) (r : List Lexeme) → ident_reader ts ≡ done f r → begins kind follows r ≡ true → words_reader ts ≡ words_then C ts
   reads_on ts f r e h = go (begins kind is_variable ts) refl
     where
@@ -152,7 +152,7 @@ module _ (C : Reader Lexeme) where
       go [] k = reads_on ts row rest k (follows_call rest h)
       go (n ∷ ns) k = reads_more ts k
 
-  -- The ends of reading.
+  -- How reading ends.
   pub reference_fails : (e : Refusal) (ts : List Lexeme) → GivesWords (Err e) ts → Fails e (reference_reader ts)
   reference_fails e ts h = passes e (words_reader ts) (reference_reader ts) (go (begins kind is_variable ts) refl) (λ b r i. shaped_fails words_reader ts b r i)
     where

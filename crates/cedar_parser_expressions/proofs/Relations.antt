@@ -1,4 +1,4 @@
--- Relations: an operand, and perhaps a comparison, `has`, `like` or `is` behind it.
+-- Relations: an operand, and perhaps a comparison, `has`, `like` or `is` after it.
 use Rattle.std.specs.Prelude.{◌≡◌, ◌||◌, ℕ, Bool, true, false, List, [], ◌∷◌, Result, Ok, Err, Option, box_value}
 use Rattle.std.specs.Borrow.{Bor}
 use Rattle.std.proofs.Common.{refl, sym, ap, ◌∙◌}
@@ -66,7 +66,7 @@ relop_between RelOp.NotEq = record { comma = refl; number = refl; closing = refl
 relop_between RelOp.Eq = record { comma = refl; number = refl; closing = refl; shows = λ u. refl }
 relop_between RelOp.In = record { comma = refl; number = refl; closing = refl; shows = λ u. refl }
 
--- A reads the operand; C, H, L and T read what stands behind it
+-- A reads the operand; C, H, L and T read what follows it
 module _ (A C H L T : Reader Lexeme) where
   abbrev pub behind_reader : Reader Lexeme
   behind_reader ts = choice (begins kind relates ts)
@@ -96,7 +96,7 @@ module _ (A C H L T : Reader Lexeme) where
   pub relation_fails : (ts : List Lexeme) (b : Bool) (r : List Lexeme) → A ts ≡ stuck b r → relation_reader ts ≡ stuck b r
   relation_fails ts b r e = tree_fails Label.relation _ ts b r (both_fails A behind_reader ts b r e)
 
-  -- the operand was read, and Q reads what stands behind it
+  -- the operand was read, and Q reads what follows it
   module _ (ts rest : List Lexeme) (target : Boxed Add.Add) (f : Forest Label Lexeme) (read : A ts ≡ done (branch Label.add f none) rest) (stands : Stands (box_value target).span (add_parts (box_value target).inner) f)
       (v : Label) (plain : is_node v ≡ false) (Q : Reader Lexeme) (same : behind_reader rest ≡ tree v Q rest) where
     behind_fails : (b : Bool) (r : List Lexeme) → Q rest ≡ stuck b r → relation_reader ts ≡ stuck b r
@@ -109,7 +109,7 @@ module _ (A C H L T : Reader Lexeme) where
         → Stands n.span (relation_parts n.inner) (branch Label.add f (branch v g none))
     behind_stands n p u g h i w = row_span _ _ _ _ (sym i) (row_parts _ _ _ _ h (row_nodes Label.add _ _ _ _ f _ refl stands (row_variant v u p g plain w)))
 
-  -- the four kinds of what stands behind an operand
+  -- the four kinds of what follows an operand
   module _ (ts rest : List Lexeme) (target : Boxed Add.Add) (f : Forest Label Lexeme) (read : A ts ≡ done (branch Label.add f none) rest) (stands : Stands (box_value target).span (add_parts (box_value target).inner) f) where
     pub compared_gives : (inner : Result ((RelOp × Boxed Add.Add) × Bor (List Lexeme)) Refusal) (result : Result (Boxed Relation.Relation × Bor (List Lexeme)) Refusal) → begins kind is_comparison rest ≡ true → GivesSigned relop_kind Label.add add_parts inner (C rest)
         → PassesOn inner result → Makes (IsComparedOf target) inner result → GivesNode Label.relation relation_parts (unboxed result) (relation_reader ts)

@@ -18,7 +18,7 @@ use Rattle.cedar_parser_expressions.proofs.Bracketed.{row_brackets}
 use Rattle.cedar_parser_expressions.proofs.Listed.{StandsOpen, no_items, next_item, last_item}
 use Rattle.cedar_tree.specs.Erased.{variable_parts}
 
--- three readers one behind another
+-- three readers, one after another
 pub both_assoc : (P Q R : Reader Lexeme) (ts : List Lexeme) → both P (both Q R) ts ≡ both (both P Q) R ts
 both_assoc P Q R ts = first (P ts) refl
   where
@@ -99,7 +99,7 @@ module _ (u a v : Node VariableDef) (f g h : Forest Label Lexeme) (c d : Lexeme)
   pub three_stand_comma : (e : Lexeme) → e.kind ≡ K.Comma → StandsItems (item_trees Label.variable variable_parts (u ∷ (a ∷ (v ∷ [])))) (branch Label.variable f (leaf c (branch Label.variable g (leaf d (branch Label.variable h (leaf e none))))))
   three_stand_comma e n = (next_item Label.variable variable_parts refl (u ∷ (a ∷ [])) _ h v e n two_stand m).closed
 
-  -- with what stands behind the last of them
+  -- with what follows the last of them
   pub closed_scope : (b : Bool) (old new r : List Lexeme) (o t : Lexeme) → Skips K.Comma old new b → o.kind ≡ K.LParen → one kind K.RParen new ≡ done (leaf t none) r → t.kind ≡ K.RParen
       → (q : Forest Label Lexeme) × (closing old ≡ done q r) × Stands (from_to o.span t.span) (leaf (codes "(") (join (item_trees Label.variable variable_parts (u ∷ (a ∷ (v ∷ [])))) (leaf (codes ")") none)))
       (leaf o (branch Label.variable f (leaf c (branch Label.variable g (leaf d (branch Label.variable h q))))))

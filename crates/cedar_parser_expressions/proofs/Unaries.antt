@@ -1,4 +1,4 @@
--- A member behind its signs.
+-- A member after its signs.
 use Rattle.std.specs.Prelude.{List, Result, Ok, Err, Option, box_value}
 use Rattle.std.specs.Borrow.{Bor}
 use Rattle.std.proofs.Common.{refl, sym, ap, ◌∙◌}
@@ -21,7 +21,7 @@ use Rattle.cedar_parser_expressions.specs.Boxed.{unboxed}
 use Rattle.cedar_parser_expressions.specs.ReadingItems.{Boxed}
 use Rattle.cedar_parser_expressions.specs.ReadingExprs.{IsUnaryOf}
 
--- M reads the member behind the signs
+-- M reads the member after the signs
 module _ (M : Reader Lexeme) where
   abbrev pub unary_reader : Reader Lexeme
   unary_reader = tree Label.unary (both (flat signs_rule) M)

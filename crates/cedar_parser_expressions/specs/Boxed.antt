@@ -1,4 +1,4 @@
--- Nodes in boxes: what is read is as without them; and what is made of a part and of what is read behind it.
+-- Nodes in boxes: they are read as they would be without; and what is made of a part and of what is read after it.
 use Rattle.std.specs.Prelude.{◌≡◌, ◌≤◌, ℕ, List, length, Result, Ok, Err, box_value}
 use Rattle.std.specs.Global.{Box}
 use Rattle.std.specs.Borrow.{Bor}
@@ -27,29 +27,29 @@ mapped f (Err e) = Err e
 abbrev pub unboxed : {X : Type 0} → Result (Box X × Bor (List Lexeme)) Refusal → Result (X × Bor (List Lexeme)) Refusal
 unboxed = mapped (λ b. box_value b)
 
--- what was read, out of its box and behind this sign
+-- what was read, out of its box and after this sign
 abbrev pub signed : {S X : Type 0} → S → Result (Box X × Bor (List Lexeme)) Refusal → Result ((S × X) × Bor (List Lexeme)) Refusal
 signed s = mapped (λ b. (s, box_value b))
 
--- after a success no more tokens are left than behind what was read
+-- after a success, no more tokens are left than after what was read
 abbrev pub IsNotLonger : {X Y : Type 0} → Result (X × Bor (List Lexeme)) Refusal → Result (Y × Bor (List Lexeme)) Refusal → Type 0
 IsNotLonger (Ok x) (Ok y) = length y.1.now ≤ length x.1.now
 IsNotLonger (Err f) (Ok y) = ⊥
 IsNotLonger _ (Err e) = Unit {0}
 
--- what was read, and the token of this kind behind it, make this
+-- what was read, and the token of this kind after it, make this
 abbrev pub MakesClosed : {X Y : Type 0} → Kind → (X × ℕ → Y → Type 0) → Result (X × Bor (List Lexeme)) Refusal → Result (Y × Bor (List Lexeme)) Refusal → Type 0
 MakesClosed {X} k P read result = (closed : Result ((X × ℕ) × Bor (List Lexeme)) Refusal) × FollowedBy k read closed × PassesOn closed result × Makes P closed result
 
--- what this reads behind a word of this kind makes a relation of this operand
+-- what this reads after a word of this kind makes a relation of this operand
 abbrev pub MakesWord : Kind → Reader Lexeme → List ℕ → Boxed Add.Add → List Lexeme → Result (Boxed Relation.Relation × Bor (List Lexeme)) Refusal → Type 0
 MakesWord k R word target ts result = (read : Result (Node Add.Add × Bor (List Lexeme)) Refusal) × GivesBehind k Label.add add_parts read (R ts) × PassesOn read result × Makes (IsWordOf word target) read result
 
--- a record's key and the colon behind it
+-- a record's key and the colon after it
 abbrev pub key_reader : Reader Lexeme
 key_reader = both (flat key_rule) (one kind K.Colon)
 
--- the reader gives the key that was read, and the colon behind it; or the refusal is the reader's
+-- the reader gives the key that was read, and the colon after it; or the refusal is the reader's
 abbrev pub GivesKey : Result (Node Primary.Primary × Bor (List Lexeme)) Refusal → Answer Lexeme → Type 0
 GivesKey (Ok x) a = (f : Forest Label Lexeme) × (t : Lexeme) × (a ≡ done (branch Label.primary f (leaf t none)) x.1.now) × (t.kind ≡ K.Colon) × Stands x.0.span (primary_parts x.0.inner) f
 GivesKey (Err e) a = Fails e a

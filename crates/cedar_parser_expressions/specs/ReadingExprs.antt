@@ -1,4 +1,4 @@
--- What parse functions promise of expressions, in terms of the reader, and what the nodes of expressions are made of.
+-- What parse functions guarantee for expressions, in terms of the reader, and what the nodes of expressions are made of.
 use Rattle.std.specs.Prelude.{◌≡◌, ℕ, zero, suc, Bool, true, false, List, [], ◌∷◌, Result, Ok, Err, Option, Some, None, Vec, box_value, codes}
 use Rattle.std.specs.declared.alloc.Global.{Global}
 use Rattle.std.specs.Borrow.{Bor}
@@ -35,7 +35,7 @@ use Rattle.cedar_parser_steps.specs.Reading.{kind, Fails, Stands, IsMade, IsName
 use Rattle.cedar_parser_steps.specs.ReadingSigns.{signs_start}
 use Rattle.cedar_tree.specs.NodeLists.{access_items, and_parts, init_parts, item_trees, member_parts, operand_trees}
 
--- Readers where so many brackets and ifs may still be nested.
+-- Readers, given how many brackets and ifs may still be nested.
 abbrev pub has_room : ℕ → Bool
 has_room zero = false
 has_room (suc d) = true
@@ -62,7 +62,7 @@ abbrev pub end_of_last : {X Y : Type 0} → (Y → Node X) → ℕ → List Y �
 end_of_last operand e [] = e
 end_of_last operand e (y ∷ ys) = end_of_last operand (operand y).span.end ys
 
--- A first operand, and further ones behind their signs.
+-- A first operand, and more after their signs.
 module _ {X Y : Type 0} (l : Label) (parts : X → Erased) (sign : Y → List ℕ) (operand : Y → Node X) where
   -- where the last operand ends
   abbrev pub operands_end : ℕ → List Y → ℕ
@@ -83,12 +83,12 @@ IsAddOf a more n = IsChainOf Label.mult mult_parts (λ x. addop_text x.0) (λ x.
 abbrev pub IsMultOf : Boxed Unary.Unary → List (MultOp × Node Unary.Unary) → Boxed Mult.Mult → Type 0
 IsMultOf a more n = IsChainOf Label.unary unary_parts (λ _. codes "*") (λ x. x.1) mult_parts (box_value a) more (box_value n)
 
--- a primary and what is accessed in it
+-- a primary and its accesses
 abbrev pub IsMemberOf : Boxed Primary.Primary → List (Node MemAccess.MemAccess) → Boxed Member.Member → Type 0
 IsMemberOf b access n =
     let item = box_value b in IsMade member_parts (node Label.primary item.span (primary_parts item.inner) (access_items access)) (span_to item.span (last_end item.span.end access)) (box_value n)
 
--- a member behind its signs, which stand first in the tokens
+-- a member after its signs, which come first in the tokens
 abbrev pub IsUnaryOf : List Lexeme → Option NegOp → Boxed Member.Member → Boxed Unary.Unary → Type 0
 IsUnaryOf ts op b n =
     let m = box_value b in IsMade unary_parts (sign_leaves op (node Label.member m.span (member_parts m.inner) none)) (record { start = signs_start op ts m.span.start; end = m.span.end }) (box_value n)
@@ -101,7 +101,7 @@ operand_before a = node Label.add (box_value a).span (add_parts (box_value a).in
 abbrev pub IsLoneRelationOf : Boxed Add.Add → Boxed Relation.Relation → Type 0
 IsLoneRelationOf a n = IsMade relation_parts (operand_before a none) (box_value a).span (box_value n)
 
--- an operand and what stands behind it, which ends here
+-- an operand and what follows it, which ends here
 abbrev pub IsRelatedOf : Label → Boxed Add.Add → Erased → ℕ → Boxed Relation.Relation → Type 0
 IsRelatedOf l a trees end n = IsMade relation_parts (operand_before a (variant l trees none)) (span_to (box_value a).span end) (box_value n)
 
@@ -127,7 +127,7 @@ type_test_trees name o = leaf (codes "is") (name_tree name (in_trees o))
 abbrev pub IsTypeTestOf : Boxed Add.Add → Node Name × Option (Boxed Add.Add) → Boxed Relation.Relation → Type 0
 IsTypeTestOf a x = IsRelatedOf Label.is_type a (type_test_trees x.0 x.1) (type_test_end x.0 x.1)
 
--- Brackets from here on, with the closing bracket's end.
+-- Brackets that start here, with the end of the closing bracket.
 abbrev pub IsCallOf : ℕ → Vec (Node Expr.Expr) Global × ℕ → Node MemAccess.MemAccess → Type 0
 IsCallOf start x = IsMade access_parts (bracketed (codes "(") (item_trees Label.expr expr_parts x.0.items) (codes ")")) (record { start = start; end = x.1 })
 
@@ -142,45 +142,45 @@ IsInitOf b value n =
     let key = box_value b in
     IsMade init_parts (node Label.primary key.span (primary_parts key.inner) (leaf (codes ":") (node Label.expr value.span (expr_parts value.inner) none))) (span_to key.span value.span.end) (box_value n)
 
--- `if` from here on, with its three expressions
+-- an `if` that starts here, with its three expressions
 abbrev pub IsIfOf : ℕ → Node Expr.Expr → Node Expr.Expr → Node Expr.Expr → Node Expr.Expr → Type 0
 IsIfOf start a b c =
     IsMade expr_parts (leaf (codes "if") (node Label.expr a.span (expr_parts a.inner) (leaf (codes "then") (node Label.expr b.span (expr_parts b.inner) (leaf (codes "else") (node Label.expr c.span (expr_parts c.inner) none))))))
     (record { start = start; end = c.span.end })
 
--- What is kept beside a node.
--- this, and what was read behind it
+-- What is kept along with a node.
+-- this, and what was read after it
 abbrev pub IsBeside : {S X : Type 0} → S → X → S × X → Type 0
 IsBeside first x y = y ≡ (first, x)
 
--- a type and the operand that was read behind it
+-- a type and the operand that was read after it
 abbrev pub IsTyped : Node Name → Boxed Add.Add → Node Name × Option (Boxed Add.Add) → Type 0
 IsTyped name x y = y ≡ (name, Some x)
 
--- this primary, without any access
+-- this primary, without accesses
 abbrev pub IsUncalled : Node Primary.Primary → Boxed Primary.Primary × Vec (Node MemAccess.MemAccess) Global → Type 0
 IsUncalled x y = (box_value y.0 ≡ x) × (y.1.items ≡ [])
 
--- this path and the call that was read behind it
+-- this path and the call that was read after it
 abbrev pub IsCalled : Node Name → Node MemAccess.MemAccess → Boxed Primary.Primary × Vec (Node MemAccess.MemAccess) Global → Type 0
 IsCalled name x y = IsNamePrimaryOf name (box_value y.0) × (y.1.items ≡ x ∷ [])
 
--- What is read beside nodes.
--- a sign of this kind and a tree of this label, for which the node stands; or the refusal is the reader's
+-- What is read along with nodes.
+-- a sign of this kind and a tree with this label, which the node stands for; or the refusal is the reader's
 abbrev pub GivesSigned : {S X : Type 0} → (S → Kind) → Label → (X → Erased) → Result ((S × Boxed X) × Bor (List Lexeme)) Refusal → Answer Lexeme → Type 0
 GivesSigned sign l parts (Ok x) a = (t : Lexeme) × (f : Forest Label Lexeme) × (a ≡ done (leaf t (branch l f none)) x.1.now) × (t.kind ≡ sign x.0.0) × Stands (box_value x.0.1).span (parts (box_value x.0.1).inner) f
 GivesSigned sign l parts (Err e) a = Fails e a
 
--- the trees of a type test behind an operand
+-- the trees of a type test after an operand
 abbrev pub GivesTypeTest : Result ((Node Name × Option (Boxed Add.Add)) × Bor (List Lexeme)) Refusal → Answer Lexeme → Type 0
 GivesTypeTest (Ok x) a = (f : Forest Label Lexeme) × (s : Span) × (a ≡ done f x.1.now) × (s.end ≡ type_test_end x.0.0 x.0.1) × Stands s (type_test_trees x.0.0 x.0.1) f
 GivesTypeTest (Err e) a = Fails e a
 
--- the trees of a primary and of these accesses in it
+-- the trees of a primary and of these accesses
 abbrev pub StandsItem : Node Primary.Primary → List (Node MemAccess.MemAccess) → Forest Label Lexeme → Type 0
 StandsItem item access = Stands (record { start = item.span.start; end = last_end item.span.end access }) (node Label.primary item.span (primary_parts item.inner) (access_items access))
 
--- the trees of a primary, and of its call where it is called
+-- the trees of a primary, and of its call if it is called
 abbrev pub GivesItem : Result ((Boxed Primary.Primary × Vec (Node MemAccess.MemAccess) Global) × Bor (List Lexeme)) Refusal → Answer Lexeme → Type 0
 GivesItem (Ok x) a = (f : Forest Label Lexeme) × (a ≡ done f x.1.now) × StandsItem (box_value x.0.0) x.0.1.items f
 GivesItem (Err e) a = Fails e a

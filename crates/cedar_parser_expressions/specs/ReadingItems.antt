@@ -18,7 +18,7 @@ use Rattle.cedar_parser_steps.specs.Reading.{AreRight, Fails, Stands, IsMade}
 use Rattle.cedar_tree.specs.declared.tree.VariableDef.{VariableDef}
 use Rattle.cedar_tokens.specs.declared.token.Span.{Span}
 
--- a node in a box, as the nesting hands it up
+-- a node in a box, as nested parsing passes it up
 abbrev pub Boxed : Type 0 → Type 0
 Boxed X = Box (Node X)
 
@@ -39,7 +39,7 @@ bracketed first trees last = leaf first (join trees (leaf last none))
 abbrev pub IsBracketsOf : Label → List ℕ → Erased → List ℕ → ℕ → ℕ → Boxed Primary.Primary → Type 0
 IsBracketsOf l first trees last start end n = IsMade primary_parts (variant l (bracketed first trees last) none) (record { start = start; end = end }) (box_value n)
 
--- a list from here on, of these items and with its closing bracket's end
+-- a list that starts here, with these items and the end of its closing bracket
 abbrev pub IsListOf : ℕ → Vec (Node Expr.Expr) Global × ℕ → Boxed Primary.Primary → Type 0
 IsListOf start x = IsBracketsOf Label.list (codes "[") (item_trees Label.expr expr_parts x.0.items) (codes "]") start x.1
 

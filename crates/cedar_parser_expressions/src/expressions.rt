@@ -1,4 +1,4 @@
-//! Expressions. Recursion goes down the nesting alone; `depth` says how many brackets and `if`s may still be nested.
+//! Expressions. Recursion follows the nesting alone; `depth` says how many brackets and `if`s may still be nested.
 ghost use Rattle.std.specs.Prelude.{suc, ◌<◌, ◌≤◌, length, IfOk};
 ghost use Rattle.cedar_tokens.specs.Kinds.{is_comparison};
 ghost use Rattle.cedar_grammar.specs.Trees.{Label};
@@ -152,7 +152,7 @@ fn parse_and<'t, 'src>(
     Ok((and_node(alloc, first, extended)?, rest))
 }
 
-// One operand; or two with a comparison, `has`, `like` or `is` between them.
+// One operand, or two with a comparison, `has`, `like` or `is` between them.
 #[cycle(parser)]
 #[inline(never)]
 fn parse_relation<'t, 'src>(
@@ -267,7 +267,7 @@ fn parse_mult<'t, 'src>(
     Ok((mult_node(alloc, first, extended)?, rest))
 }
 
-// A member behind at most four `!` or at most four `-`.
+// A member after at most four `!` or at most four `-`.
 #[cycle(parser)]
 #[inline(never)]
 fn parse_unary<'t, 'src>(
@@ -282,7 +282,7 @@ fn parse_unary<'t, 'src>(
     unary_node(alloc, tokens, op, parse_member(alloc, rest, depth))
 }
 
-// A primary and what is accessed in it.
+// A primary and its accesses.
 #[cycle(parser)]
 #[inline(never)]
 fn parse_member<'t, 'src>(
@@ -304,7 +304,7 @@ fn parse_member<'t, 'src>(
     Ok((member_node(alloc, item, access)?, rest))
 }
 
-// A primary; and where it is a path that is called, the call.
+// A primary; if it is a path that is called, also the call.
 #[cycle(parser)]
 #[inline(never)]
 fn parse_item<'t, 'src>(
@@ -380,7 +380,7 @@ fn parse_call<'t, 'src>(
     call_node(open.span.start, followed_by(read, Kind::RParen))
 }
 
-// Expressions with commas between them, and perhaps one behind the last; or none.
+// Expressions with commas between them, and perhaps one after the last; or none.
 #[cycle(parser)]
 #[inline(never)]
 fn parse_exprs<'t, 'src>(
@@ -424,7 +424,7 @@ fn parse_bracket<'t, 'src>(
     record_node(alloc, start, parse_inits(alloc, rest, depth))
 }
 
-// Entries of a record with commas between them, and perhaps one behind the last; or none.
+// Entries of a record with commas between them, and perhaps one after the last; or none.
 #[cycle(parser)]
 #[inline(never)]
 fn parse_inits<'t, 'src>(

@@ -1,4 +1,4 @@
-//! The parser's functions for expressions, down the nesting, and the nodes that they make.
+//! The parser's functions for expressions, which recurse into the nesting, and the nodes they make.
 #![tactic(auto)]
 
 pub mod expressions;

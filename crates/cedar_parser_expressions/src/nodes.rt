@@ -1,4 +1,4 @@
-//! Nodes of expressions, made of their parts. Where a part was read just now, its refusal is passed on. The nesting hands
+//! Nodes of expressions, made of their parts. If a part was just read, its refusal is passed on. Nested parsing passes
 //! nodes up in boxes, and a function that makes one is never inlined, so that no node lies on the stack while what is nested
 //! in it is read.
 ghost use Rattle.std.specs.Prelude.{◌≡◌, ◌<◌, length, IfOk, MatchResult, box_value, codes};
@@ -24,14 +24,14 @@ use cedar_tree::tree::{
 };
 use std::alloc::Global;
 
-/// A primary and what is accessed in it.
+/// A primary and its accesses.
 pub type Item<'src> = (Box<Node<Primary<'src>>>, Vec<Node<MemAccess<'src>>>);
 
 /// Drops this out of line.
 #[inline(never)]
 pub fn drop_apart<T: Drop>(_item: T) {}
 
-/// Keeps an item that was read, out of its box, and goes on after it.
+/// Keeps an item that was read, out of its box, and continues after it.
 #[inline(never)]
 pub fn keep_boxed<'t, 'src, T: Drop>(
     read: Parsed<'t, 'src, Box<T>>,
@@ -50,7 +50,7 @@ pub fn keep_boxed<'t, 'src, T: Drop>(
     }
 }
 
-/// Keeps an item that was read, out of its box and with the sign before it, and goes on after it.
+/// Keeps an item that was read, out of its box and with the sign before it, and continues after it.
 #[inline(never)]
 pub fn keep_signed<'t, 'src, S: Drop, T: Drop>(
     sign: S,
@@ -91,7 +91,7 @@ pub fn or_expr<'src>(or: Box<Node<Or<'src>>>) -> Node<Expr<'src>>
     Node { inner, span }
 }
 
-// `if` from `start` on, with these expressions.
+// An `if` that starts at `start`, with these expressions.
 fn if_expr<'src>(
     start: usize,
     test: Box<Node<Expr<'src>>>,
@@ -107,7 +107,7 @@ fn if_expr<'src>(
     }
 }
 
-/// `if` from `start` on, with its three expressions.
+/// An `if` that starts at `start`, with its three expressions.
 pub fn if_node<'src>(
     alloc: Global,
     start: usize,
@@ -123,7 +123,7 @@ pub fn if_node<'src>(
     Ok(if_expr(start, test, yes, no))
 }
 
-// Where the last of these nodes ends; `end` where there is none.
+// Where the last of these nodes ends; `end` if there is none.
 fn nodes_end<T: Drop>(end: usize, nodes: &[Node<T>]) -> usize
     ensures { result ≡ end_of_last (λ n. n) end nodes.now }
 {
@@ -133,7 +133,7 @@ fn nodes_end<T: Drop>(end: usize, nodes: &[Node<T>]) -> usize
     }
 }
 
-// Where the last of these nodes with signs before them ends; `end` where there is none.
+// Where the last of these nodes with signs before them ends; `end` if there is none.
 fn signed_end<S: Drop, T: Drop>(end: usize, nodes: &[(S, Node<T>)]) -> usize
     ensures { result ≡ end_of_last (λ x. x.1) end nodes.now }
 {
@@ -207,7 +207,7 @@ pub fn mult_node<'src>(
     Ok(Box::new(alloc, Node { inner, span })?)
 }
 
-/// A member and the signs before it, which stand first in the tokens.
+/// A member and the signs before it, which come first in the tokens.
 #[inline(never)]
 pub fn unary_node<'t, 'src>(
     alloc: Global,
@@ -227,7 +227,7 @@ pub fn unary_node<'t, 'src>(
     Ok((Box::new(alloc, Node { inner, span })?, rest))
 }
 
-/// A primary with what is accessed in it.
+/// A primary with its accesses.
 #[inline(never)]
 pub fn member_node<'src>(
     alloc: Global,
@@ -277,7 +277,7 @@ pub fn compared_node<'t, 'src>(
     Ok((Box::new(alloc, Node { inner, span })?, rest))
 }
 
-/// An operand, `has`, and what stands after it.
+/// An operand, `has`, and what follows it.
 #[inline(never)]
 pub fn has_node<'t, 'src>(
     alloc: Global,
@@ -334,7 +334,7 @@ fn type_end(entity_type: &Node<Name<'_>>, operand: &Option<Box<Node<Add<'_>>>>) 
     }
 }
 
-/// An operand with what stands after `is`.
+/// An operand with what follows `is`.
 #[inline(never)]
 pub fn is_node<'t, 'src>(
     alloc: Global,
@@ -397,7 +397,7 @@ pub fn called<'t, 'src>(
     Ok(((Box::new(alloc, name_primary(name))?, access), rest))
 }
 
-/// A call from `start` on, with its arguments and the closing bracket's end.
+/// A call that starts at `start`, with its arguments and the end of the closing bracket.
 pub fn call_node<'t, 'src>(
     start: usize,
     read: Parsed<'t, 'src, (Vec<Node<Expr<'src>>>, usize)>,
@@ -411,7 +411,7 @@ pub fn call_node<'t, 'src>(
     Ok((Node { inner, span }, rest))
 }
 
-/// A parenthesis from `start` on, and its closing bracket.
+/// A parenthesis that starts at `start`, with its closing bracket.
 #[inline(never)]
 pub fn parens_node<'t, 'src>(
     alloc: Global,
@@ -427,7 +427,7 @@ pub fn parens_node<'t, 'src>(
     Ok((Box::new(alloc, Node { inner, span })?, rest))
 }
 
-/// A list from `start` on, and its closing bracket.
+/// A list that starts at `start`, with its closing bracket.
 #[inline(never)]
 pub fn list_node<'t, 'src>(
     alloc: Global,
@@ -443,7 +443,7 @@ pub fn list_node<'t, 'src>(
     Ok((Box::new(alloc, Node { inner, span })?, rest))
 }
 
-/// A record from `start` on, and its closing brace.
+/// A record that starts at `start`, with its closing brace.
 #[inline(never)]
 pub fn record_node<'t, 'src>(
     alloc: Global,

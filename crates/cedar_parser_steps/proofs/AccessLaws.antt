@@ -1,4 +1,4 @@
--- One turn over what is accessed in a primary: a field and perhaps its call, or an index.
+-- One turn of the loop over accesses in a primary: a field and perhaps its call, or an index.
 use Rattle.std.specs.Prelude.{◌≡◌, ◌&&◌, Bool, true, false, List, [], ◌∷◌}
 use Rattle.std.proofs.Common.{refl, sym, ◌∙◌}
 use Rattle.cedar_tokens.specs.declared.kind.Kind.TheVariants as K

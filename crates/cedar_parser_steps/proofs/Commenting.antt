@@ -1,4 +1,4 @@
--- The tokens with comments that lexemes have given, and the lexemes that are left.
+-- The commented tokens made from lexemes so far, and the lexemes that are left.
 use Rattle.std.proofs.Common.{◌≡◌, ◌≤◌, ◌<◌, ◌-◌, ◌+◌, List, [], ◌∷◌, ℕ, length, drop, take, get_or, map, sym, ap, ◌∙◌, arith}
 use Rattle.std.proofs.Math.Seq.{drop-cons}
 use Rattle.std.proofs.lemmas.List.{take_all, drop_all, drop-drop, length-drop}
@@ -23,7 +23,7 @@ pub record Left (text : List ℕ) (tokens : List WrappedToken) (leading : List �
   pub so_far : Commented text tokens leading (spans_of lexemes)
   pub texts : texts_of lexemes ≡ map (text_at text) (spans_of lexemes)
 
--- the units of lexemes stand between their places
+-- the units of lexemes lie between their places
 pub lexemes_between : (text : List ℕ) (lexemes : List Lexeme) → IsUtf8 text → (r : AreLexemes text lexemes) → Between text 0 r.units
 lexemes_between text lexemes utf8 r = between r.units text 0 (omega arith) utf8 r.split
 
@@ -35,7 +35,7 @@ none_left text tokens leading lexemes utf8 r n l =
       texts = r.texts ∙ b.texts ∙ ap (map (text_at text)) (sym r.places);
     }
 
--- the lexeme that is next, and those after it
+-- the next lexeme, and those after it
 pub record Next (text : List ℕ) (tokens : List WrappedToken) (leading : List ℕ) (x : Lexeme) (rest : List Lexeme) : Type 0 where
   pub so_far : Commented text tokens leading (x.span ∷ spans_of rest)
   pub here : x.text.now ≡ text_at text x.span

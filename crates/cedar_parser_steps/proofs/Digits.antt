@@ -1,4 +1,4 @@
--- Taking leading zeros off, one by one.
+-- Removing leading zeros, one by one.
 use Rattle.std.proofs.Common.{◌≡◌, ◌≢◌, ◌==◌, ℕ, true, false, not, ◌&&◌, List, [], ◌∷◌, length, refl, arith}
 use Rattle.std.proofs.lemmas.Bool.Decides.{nat_tests}
 use Rattle.cedar_tokens.specs.Listing.{without_zeros}

@@ -1,4 +1,4 @@
--- The loop over words before an entity's string or what else follows them, and entities.
+-- Entities, and the loop over words before an entity's string or whatever else follows them.
 use Rattle.std.specs.Prelude.{◌≡◌, Bool, true, false, List, [], ◌∷◌, ◌++◌, Option, Some, None, Ok}
 use Rattle.std.specs.Borrow.{Bor}
 use Rattle.std.proofs.Common.{refl, sym, ap, ◌∙◌, subst}
@@ -29,7 +29,7 @@ use Rattle.cedar_parser_steps.proofs.Tails.{tailed_end, tailed_item, tailed_fail
 ident_takes : Takes ident_reader
 ident_takes = tree_takes Label.ident (token kind is_ident) (token_takes kind is_ident)
 
--- Z's continuation at these tokens
+-- how Z continues at these tokens
 abbrev onward : Reader Lexeme → List Lexeme → Answer Lexeme
 onward Z rest = words_on Z rest
 
@@ -86,7 +86,7 @@ words_next ts path more name n rest after' s d f p e k w h m =
           (row_join _ _ _ _ p.row g (no_closing d K.DoubleColon k refl) p.stands (row_more d K.DoubleColon n.span _ _ k refl refl (row_node Label.ident n.span (ident_parts n.inner) f refl h))));
     })
 
--- neither a string nor a word behind `::`
+-- neither a string nor a word after `::`
 pub words_stuck : (ts : List Lexeme) (path : List (Node Ident)) (name : Node Ident) (rest after' : List Lexeme) (d : Lexeme) (Z : Reader Lexeme) (b : Bool) (r : List Lexeme) → WordsRead ts path name rest → rest ≡ d ∷ after' → d.kind ≡ K.DoubleColon
     → begins kind (is K.Str) after' ≡ false → ident_reader after' ≡ stuck b r → words_then Z ts ≡ stuck b r
 words_stuck ts path name rest after' d Z b r p e k v w =
@@ -108,7 +108,7 @@ text_at ts path name rest after' d Z p e k v =
     p.read Z ∙ ap (λ z. onto p.row (words_on Z z)) e
     ∙ ap (onto p.row) (tailed_last K.DoubleColon is_ident ident_reader text_reader Z d after' (is_itself K.DoubleColon d.kind (sym k)) (text_no_word after' v))
 
--- a string behind `::`
+-- a string after `::`
 pub text_fails : (ts : List Lexeme) (path : List (Node Ident)) (name : Node Ident) (rest after' : List Lexeme) (d : Lexeme) (Z : Reader Lexeme) (b : Bool) (r : List Lexeme) → WordsRead ts path name rest → rest ≡ d ∷ after' → d.kind ≡ K.DoubleColon
     → begins kind (is K.Str) after' ≡ true → text_reader after' ≡ stuck b r → words_then Z ts ≡ stuck b r
 text_fails ts path name rest after' d Z b r p e k v w = text_at ts path name rest after' d Z p e k v ∙ ap (λ z. onto p.row (onto (leaf d none) z)) w

@@ -1,4 +1,4 @@
--- The tree of nodes of a row that begins with a token or with a node, and the span of the row.
+-- The tree of nodes for a row that begins with a token or a node, and the span of the row.
 use Rattle.std.specs.Prelude.{◌≡◌, ◌==◌, ℕ, ◌&&◌, ◌||◌, not, Bool, true, false, List, [], ◌∷◌, ◌++◌, nat_eq, Option, Some, None, if◌then◌else◌}
 use Rattle.std.specs.Char.{is_ascii_digit}
 use Rattle.std.specs.Str.{bytes_eq}
@@ -21,7 +21,7 @@ use Rattle.cedar_tree.specs.NodeTrees.{is_node, span_of, end_of, spanned}
 use Rattle.cedar_parser_steps.specs.Reading.{kind, IsRight, AreRight, Stands}
 use Rattle.cedar_parser_steps.specs.declared.lexeme.Lexeme.{Lexeme}
 
--- the text of the token of this code, or u where the table has none
+-- the text of the token of this code, or u if the table has none
 abbrev pub shown : ℕ → List (List ℕ × Kind) → List ℕ → List ℕ
 shown c [] u = u
 shown c (f ∷ fs) u = if nat_eq (code f.1) c then f.0 else shown c fs u

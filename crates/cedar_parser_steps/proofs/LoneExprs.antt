@@ -1,4 +1,4 @@
--- Operands as expressions without any operator.
+-- Operands as expressions without operators.
 use Rattle.std.specs.Prelude.{◌≡◌, Bool, List, Ok}
 use Rattle.std.specs.Borrow.{Bor}
 use Rattle.std.proofs.Common.{refl, sym, ap, ◌∙◌}

@@ -1,4 +1,4 @@
--- Operands that a primary and what is accessed in it make, and the loop over fields.
+-- Operands made of a primary and its accesses, and the loop over fields.
 use Rattle.std.specs.Prelude.{◌≡◌, ℕ, Bool, true, false, List, [], ◌∷◌, ◌++◌, length, ◌<◌, ◌≤◌, ◌-◌, zero, suc, Result, Ok, Err, Some, IfOk}
 use Rattle.std.specs.List.{slice_get}
 use Rattle.std.proofs.Common.{refl, sym, ap, ◌∙◌, arith, append_assoc}
@@ -39,7 +39,7 @@ module _ (P : Reader Lexeme) where
   pub operand_fails : (ts : List Lexeme) (x : Bool) (r : List Lexeme) → P ts ≡ stuck x r → tree Label.add (tree Label.mult (tree Label.unary (tree Label.member P))) ts ≡ stuck x r
   operand_fails ts x r e = tree_fails Label.add _ ts x r (tree_fails Label.mult _ ts x r (tree_fails Label.unary _ ts x r (tree_fails Label.member P ts x r e)))
 
-  -- the same of what reads a member
+  -- the same for what reads a member
   pub members_done : (ts : List Lexeme) (f : Forest Label Lexeme) (r : List Lexeme) → tree Label.member P ts ≡ done (branch Label.member f none) r
       → tree Label.add (tree Label.mult (tree Label.unary (tree Label.member P))) ts ≡ done (branch Label.add (branch Label.mult (branch Label.unary (branch Label.member f none) none) none) none) r
   members_done ts f r e = tree_done Label.add _ ts _ r (tree_done Label.mult _ ts _ r (tree_done Label.unary _ ts _ r e))
@@ -54,7 +54,7 @@ pub operand_stands : (item : Node Primary.Primary) (access : List (Node MemAcces
     → Stands n.span (add_parts n.inner) (branch Label.mult (branch Label.unary (branch Label.member f none) none) none)
 operand_stands item access s n f h g = row_span _ _ _ _ (sym h.1) (row_parts _ _ _ _ h.0 (row_node Label.mult s _ _ refl (row_node Label.unary s _ _ refl (row_node Label.member s _ _ refl g))))
 
--- What a loop keeps.
+-- What a loop preserves.
 pub keep_done : {X : Type 0} (l : Label) (parts : X → Erased) (read : Result (Node X × Bor (List Lexeme)) Refusal) (old new : List (Node X)) (rest : Bor (List Lexeme)) (u : Unit {0}) (a : Answer Lexeme) → GivesNode l parts read a → Keeps read old new rest (Ok u)
     → (x : Node X) × (f : Forest Label Lexeme) × (a ≡ done (branch l f none) rest.now) × Stands x.span (parts x.inner) f × (new ≡ old ++ x ∷ [])
 keep_done l parts (Ok x) old new rest u a g k = (x.0, g.0, g.1 ∙ ap (λ (z : Bor (List Lexeme)). done (branch l g.0 none) z.now) (sym k.1), g.2, k.0)
@@ -91,7 +91,7 @@ end_at e (x ∷ (y ∷ ns)) (suc k) n l h = end_at x.span.end (y ∷ ns) k n (om
 pub end_some : (e : ℕ) (ns : List (Node MemAccess.MemAccess)) (n : Node MemAccess.MemAccess) → 0 < length ns → Some n ≡ slice_get ns (length ns - 1) → n.span.end ≡ last_end e ns
 end_some e ns n l h = end_at e ns (length ns - 1) n (omega (arith, l)) (sym h)
 
--- where the last of some accesses behind others ends
+-- where the last of some accesses after others ends
 pub last_behind : (e : ℕ) (ns ms : List (Node MemAccess.MemAccess)) (u : ℕ) → ((z : ℕ) → last_end z ms ≡ u) → last_end e (ns ++ ms) ≡ u
 last_behind e [] ms u h = h e
 last_behind e (x ∷ ns) ms u h = last_behind x.span.end ns ms u h
@@ -100,9 +100,9 @@ accesses_behind : (ns ms : List (Node MemAccess.MemAccess)) → access_items (ns
 accesses_behind [] ms = refl
 accesses_behind (x ∷ ns) ms = ap (node Label.access x.span (access_parts x.inner)) (accesses_behind ns ms)
 
--- I reads a primary, and P accesses in it as long as t holds
+-- I reads a primary, and P its accesses as long as t holds
 module _ (I : Reader Lexeme) (t : List Lexeme → Bool) (P : Reader Lexeme) where
-  -- a primary and the accesses read so far, where these are read so
+  -- a primary and the accesses read so far, if these are read this way
   pub record AccessesRead (item : Node Primary.Primary) (access : List (Node MemAccess.MemAccess)) (ts rest : List Lexeme) : Type 0 where
     pub row : Forest Label Lexeme
     pub chain : Chain Label.member I t P ts row rest
@@ -149,7 +149,7 @@ pub lone_name : (n : Node Ident) (name : Node Name) (item : Node Primary.Primary
     → Stands item.span (primary_parts item.inner) (branch Label.name (branch Label.ident f none) none)
 lone_name n name item f h i j = row_span _ _ _ _ (sym j.1) (row_parts _ _ _ _ j.0 (row_node Label.name name.span _ _ refl (name_stands [] n name _ i (row_node Label.ident n.span (ident_parts n.inner) f refl h))))
 
--- a node behind a token
+-- a node after a token
 pub gives_behind : {X : Type 0} (k : Kind) (l : Label) (parts : X → Erased) (result : Result (Node X × Bor (List Lexeme)) Refusal) (t : Lexeme) (ts rest : List Lexeme) (P Q : Reader Lexeme) → one kind k ts ≡ done (leaf t none) rest → t.kind ≡ k
     → GivesNode l parts result (P rest) → Q rest ≡ P rest → GivesBehind k l parts result (both (one kind k) Q ts)
 gives_behind k l parts (Ok x) t ts rest P Q e h g s = (t, g.0, both_done (one kind k) Q ts (leaf t none) rest (branch l g.0 none) x.1.now e (s ∙ g.1), h, g.2)

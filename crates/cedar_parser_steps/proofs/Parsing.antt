@@ -1,4 +1,4 @@
--- What the reader's answer on the lexemes of a text says of the text: the tree of its nodes, or the exact place and kind of its refusal.
+-- What the reader's answer on the lexemes of a text says about the text: its tree of nodes, or the exact place and kind of its refusal.
 use Rattle.std.specs.Prelude.{◌≡◌, ℕ, suc, ◌+◌, ◌&&◌, Bool, true, false, List, [], ◌∷◌, ◌++◌, ◌⊎◌, length, map, Some, None, if◌then◌else◌}
 use Rattle.std.specs.List.{list_any, sum_by, AllByRecursion}
 use Rattle.std.proofs.Common.{refl, sym, ap, ◌∙◌, inl, inr, arith, length-append, append-nil, subst}
@@ -35,7 +35,7 @@ use Rattle.cedar_grammar.proofs.TextKinds.{samples}
 use Rattle.cedar_grammar.proofs.TextLaws.{cuts, unit_cut}
 use Rattle.cedar_grammar.proofs.Relabelling.{relabelled, each_map}
 
--- A change of leaves and what depends on them.
+-- Changing leaves, and what depends on them.
 module _ {A B : Type 0} (h : A → B) where
   each_length : (ts : List A) → length (each h ts) ≡ length ts
   each_length [] = refl
@@ -107,7 +107,7 @@ spans_length p (u ∷ us) = go (spans_length (p + length u) us) (is_token u)
     go h true = ap suc h
     go h false = h
 
--- a token stands behind the units before it
+-- a token comes after the units before it
 span_at : (p : ℕ) (before : List (List ℕ)) (t : List ℕ) (after : List (List ℕ)) → is_token t ≡ true
     → (s : Span) × (rest : List Span) × (token_spans p (before ++ (t ∷ after)) ≡ token_spans p before ++ (s ∷ rest)) × (s.start ≡ p + sum_by length before)
 unfolding token_spans
@@ -146,14 +146,14 @@ kind_at c = c.0.kind
 abbrev as_placed : Checked → Placed
 as_placed c = record { text = c.0.text.now; span = c.0.span }
 
--- What the answer on the lexemes says of the text.
+-- What the answer on the lexemes says about the text.
 abbrev pub Outcome : List ℕ → Answer Lexeme → Type 0
 Outcome text (done f []) = (p : Policies) → erase p ≡ lexeme_nodes f → IsTreeOf text p
 Outcome text (done f (l ∷ r)) = IsRefused text l.span.start false
 Outcome text (stuck b []) = IsRefused text (length text) false
 Outcome text (stuck b (l ∷ r)) = IsRefused text l.span.start b
 
--- Lexemes that are the tokens of these units, which begin at the byte from.
+-- Lexemes that are the tokens of these units, which start at the byte from.
 module _ (from : ℕ) (units : List (List ℕ)) (ls : List Lexeme) (kinds : AllByRecursion (λ l. l.kind ≡ kind_of l.text.now) ls) (texts : map (λ l. l.text.now) ls ≡ only_tokens units) (places : map (λ l. l.span) ls ≡ token_spans from units) where
   abbrev cs_of : List Checked
   cs_of = checked ls kinds
@@ -276,6 +276,6 @@ module _ (text : List ℕ) (ls : List Lexeme) (are : AreLexemes text ls) (d : �
       ap (set_to (λ l. l.kind) d) (sym (checked_back ls are.kinds)) ∙ set_agrees (λ (c : Checked). c.0) kind_at (λ l. l.kind) (λ c. refl) d cs in
       subst (Outcome text) (sym back ∙ e) (answered y refl (says_of text_of kind_at kind_of (λ c. sym c.1) samples d cs y refl))
 
--- The reader's answer on the lexemes of a text is true of the text.
+-- The reader's answer on the lexemes of a text holds for the text.
 pub parsed : (text : List ℕ) (ls : List Lexeme) → AreLexemes text ls → (x : Answer Lexeme) → set_to (λ l. l.kind) greatest_depth ls ≡ x → Outcome text x
 parsed text ls are x e = outcome text ls are greatest_depth refl x e

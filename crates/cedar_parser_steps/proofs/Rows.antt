@@ -1,4 +1,4 @@
--- Rows of trees and what stands for them, put together token by token and node by node; and loops over items.
+-- Rows of trees and the nodes that stand for them, built token by token and node by node; and loops over items.
 use Rattle.std.specs.Prelude.{◌≡◌, ◌&&◌, Bool, true, false, List, Some, None, if◌then◌else◌, ◌⊎◌}
 use Rattle.std.proofs.Common.{refl, sym, ap, ◌∙◌, inl, inr}
 use Rattle.cedar_tokens.specs.Listing.{token_value}
@@ -19,7 +19,7 @@ use Rattle.cedar_parser_steps.specs.Reading.{kind, AreRight, Stands, StandsMany}
 use Rattle.cedar_parser_steps.specs.declared.lexeme.Lexeme.{Lexeme}
 use Rattle.cedar_parser_steps.proofs.LeafTexts.{shown, Covers, kept, from_to, nodes_fixed, nodes_node, covers_leaf, covers_more, covers_node, covers_nodes, covers_both}
 
--- a token whose text its kind tells
+-- a token whose text is determined by its kind
 pub row_token : (t : Lexeme) (k : Kind) → t.kind ≡ k → is K.Comma k ≡ false → is K.Number k ≡ false → Stands t.span (leaf (shown (code k) fixed_tokens t.text.now) none) (leaf t none)
 row_token t k e h i = record { same = λ r. sym (nodes_fixed t k none r.0 e h i); place = covers_leaf t k e h }
 
@@ -45,7 +45,7 @@ row_span s u p f e g = record { same = g.same; place = g.place ∙ ap Some e }
 pub row_parts : (s : Span) (p q : Erased) (f : Forest Label Lexeme) → q ≡ p → Stands s p f → Stands s q f
 row_parts s p q f e g = record { same = λ r. e ∙ g.same r; place = g.place }
 
--- One row behind another, where no closing bracket begins the second.
+-- One row after another, where the second does not begin with a closing bracket.
 pub closes_join : (f g : Forest Label Lexeme) → closes_next kind g ≡ false → closes_next kind (join f g) ≡ closes_next kind f
 closes_join none g h = h
 closes_join (leaf t f) g h = refl

@@ -19,7 +19,7 @@ use Rattle.cedar_parser_steps.proofs.LeafTexts.{shown}
 use Rattle.cedar_parser_steps.proofs.Rows.{row_more, row_parts, row_span}
 use Rattle.cedar_parser_steps.proofs.Steps.{token_at, first_begins, is_itself}
 
--- a sign more
+-- one more sign
 leads_next : (k : Kind) (n : ℕ) (ts rest : List Lexeme) (t : Lexeme) (r : List Lexeme) → Leads k n ts rest → rest ≡ t ∷ r → t.kind ≡ k → Leads k (suc n) ts r
 leads_next k zero ts rest t r l e h = (t, r, l ∙ e, h, refl)
 leads_next k (suc n) ts rest t r l e h = (l.0, l.1, l.2, l.3, leads_next k n l.1 rest t r l.4 e h)
@@ -30,14 +30,14 @@ leads_more k n ts rest t r l e h = let i : suc n ≡ n + 1 = omega arith in subs
 leads_first : (k : Kind) (p : Kind → Bool) (n : ℕ) (ts rest : List Lexeme) → Leads k (suc n) ts rest → begins kind p ts ≡ p k
 leads_first k p n ts rest l = first_begins p ts l.0 l.1 l.2 ∙ ap p l.3
 
--- signs of this kind, whose text is this
+-- signs of this kind, with this text
 module _ (k : Kind) (text : List ℕ) (comma : is K.Comma k ≡ false) (number : is K.Number k ≡ false) (shows : (u : List ℕ) → shown (code k) fixed_tokens u ≡ text) where
-  -- one sign, and so many more at most
+  -- one sign, and at most so many more
   abbrev sign_reader : ℕ → Reader Lexeme
   sign_reader zero = one kind k
   sign_reader (suc n) = both (one kind k) (λ ts. choice (begins kind (is k) ts) (sign_reader n) skip ts)
 
-  -- one sign and m more are read, where n more may be
+  -- one sign and m more are read, where n more may follow
   record SignsRead (n m : ℕ) (ts rest : List Lexeme) : Type 0 where
     row : Forest Label Lexeme
     read : sign_reader n ts ≡ done row rest

@@ -1,4 +1,4 @@
--- Steps of reading: what the tests of tokens say, how a refusal is passed on, and what a leaf's text is.
+-- Steps of reading: what the tests of tokens mean, how a refusal is passed on, and what the text of a leaf is.
 use Rattle.std.specs.Prelude.{◌≡◌, ℕ, not, Bool, true, false, List, [], ◌∷◌, length, Some, Result}
 use Rattle.std.proofs.Common.{refl, sym, ap, ◌∙◌, arith, subst}
 use denote.Enum.Bare.{sameb, same_true}
@@ -56,7 +56,7 @@ none_begins p (t ∷ r) h = absurd (omega (arith, h))
 pub first_begins : (p : Kind → Bool) (ts : List Lexeme) (t : Lexeme) (r : List Lexeme) → ts ≡ t ∷ r → begins kind p ts ≡ p t.kind
 first_begins p ts t r e = ap (begins kind p) e
 
--- a refusal of what is read first is that of the whole
+-- if what is read first is refused, so is the whole
 pub passes : (e : Refusal) (a b : Answer Lexeme) → Fails e a → ((x : Bool) (r : List Lexeme) → a ≡ stuck x r → b ≡ stuck x r) → Fails e b
 passes (Grammar left) a b h k = (h.0, k false h.0 h.1, h.2)
 passes (TooDeep left) a b h k = (h.0, k true h.0 h.1, h.2)
@@ -75,7 +75,7 @@ tree_not l p e ts h b = fails_as e (stuck false ts) (tree l (token kind p) ts) h
 pub tree_at : (l : Label) (p : Kind → Bool) (ts : List Lexeme) (t : Lexeme) (r : List Lexeme) → ts ≡ t ∷ r → p t.kind ≡ true → tree l (token kind p) ts ≡ done (branch l (leaf t none) none) r
 tree_at l p ts t r e h = tree_done l (token kind p) ts (leaf t none) r (token_at p ts t r e h)
 
--- the set has neither commas nor numbers
+-- the set contains neither commas nor numbers
 pub word_stands : (p : Kind → Bool) (t : Lexeme) (n : Node Ident) → IsIdentOf t n → p t.kind ≡ true → ((k : Kind) → p k ≡ true → (is K.Comma k ≡ false) × (is K.Number k ≡ false)) → Stands n.span (ident_parts n.inner) (leaf t none)
 word_stands p t n h k apart = record {
   same = λ r. ap (λ (u : Bor (List ℕ)). leaf u.now none) h.0 ∙ sym (nodes_own t t.kind none r.0 refl (apart t.kind k).0 (apart t.kind k).1);
@@ -88,7 +88,7 @@ str_stands t n h k = record {
   place = covers_leaf t K.Str k refl ∙ ap Some (sym h.1);
 }
 
--- no set of words has commas or numbers
+-- no set of words contains commas or numbers
 pub words_apart : (w : Words) (k : Kind) → set_of w k ≡ true → (is K.Comma k ≡ false) × (is K.Number k ≡ false)
 words_apart Words.Identifier k h = (apart_at is_ident (is K.Comma) refl k h, apart_at is_ident (is K.Number) refl k h)
 words_apart Words.Any k h = (apart_at is_any_word (is K.Comma) refl k h, apart_at is_any_word (is K.Number) refl k h)

@@ -39,7 +39,7 @@ module _ (s : Kind) (u : Kind → Bool) (X Y Z : Reader Lexeme) where
   turn n m d ts again true e true i (done f r) j = item n d ts f r e i j ∙ ap (onto (leaf d f)) (again f r j) ∙ sym (item m d ts f r e i j)
   turn n m d ts again true e true i (stuck b r) j = item_fails n d ts b r e i j ∙ sym (item_fails m d ts b r e i j)
 
-  -- More turns than tokens change nothing.
+  -- More turns than there are tokens change nothing.
   more : Takes X → (n m : ℕ) (ts : List Lexeme) → length ts < n → length ts < m → tail_to kind s u X Y Z n ts ≡ tail_to kind s u X Y Z m ts
   more takes zero m ts h k = absurd (omega arith)
   more takes (suc n) zero ts h k = absurd (omega arith)

@@ -1,4 +1,4 @@
--- A variable of the scope and what it is related to.
+-- A variable of the scope and its operand.
 use Rattle.std.specs.Prelude.{◌≡◌, ◌||◌, Bool, true, false, List, [], ◌∷◌, Some, None}
 use Rattle.std.proofs.Common.{refl, sym, ap, ◌∙◌}
 use Rattle.cedar_tokens.specs.declared.kind.Kind.{Kind}
@@ -85,7 +85,7 @@ module _ (E P : Reader Lexeme) where
   pub in_none : (ts : List Lexeme) → begins kind (is K.In) ts ≡ false → in_part ts ≡ done none ts
   in_none ts h = choice_no _ _ _ ts h
 
--- E reads the operand behind `==`, and L that behind `in`
+-- E reads the operand after `==`, and L the one after `in`
 module _ (E L : Reader Lexeme) where
   abbrev pub acted : Reader Lexeme
   acted ts = choice (begins kind acts ts) (λ ts. choice (begins kind (is K.Equal) ts) (both (one kind K.Equal) E) (both (one kind K.In) L) ts) skip ts
@@ -101,7 +101,7 @@ module _ (E L : Reader Lexeme) where
   pub acted_none : (ts : List Lexeme) → begins kind (is K.Equal) ts ≡ false → begins kind (is K.In) ts ≡ false → acted ts ≡ done none ts
   acted_none ts h i = choice_no _ _ _ ts (acts_none ts h i)
 
--- W reads the variable's word, and R what it is related to
+-- W reads the variable's word, and R what follows it
 module _ (W R : Reader Lexeme) where
   pub variable_done : (ts : List Lexeme) (f : Forest Label Lexeme) (rest : List Lexeme) (g : Forest Label Lexeme) (s : List Lexeme) → W ts ≡ done (branch Label.ident f none) rest → R rest ≡ done g s
       → tree Label.variable (both W R) ts ≡ done (branch Label.variable (branch Label.ident f g) none) s
@@ -131,7 +131,7 @@ pub variable_is_in : (v : Node Ident) (t : Node Name) (a : Node Add.Add) (n : No
 variable_is_in v t a n f i m d e k l h g j o = row_span _ _ _ _ (sym h.1) (row_parts _ _ _ _ h.0
     (row_nodes Label.ident _ _ _ _ f _ refl g (row_more d K.Is _ _ _ k refl refl (row_nodes Label.name _ _ _ _ i _ refl j (row_more e K.In _ _ _ l refl refl (row_node Label.add _ _ m refl o))))))
 
--- a token that the variable's word is
+-- a token that can be the variable's word
 pub variables_apart : (s : Slot) (k : Kind) → is (variable_kind s) k ≡ true → (is K.Comma k ≡ false) × (is K.Number k ≡ false)
 variables_apart Slot.Principal k h = (apart_at (is K.Principal) (is K.Comma) refl k h, apart_at (is K.Principal) (is K.Number) refl k h)
 variables_apart Slot.Resource k h = (apart_at (is K.Resource) (is K.Comma) refl k h, apart_at (is K.Resource) (is K.Number) refl k h)

@@ -45,7 +45,7 @@ finds_more : (units : List (List ℕ)) (unit : List ℕ) (found : Option ℕ) �
 finds_more units unit None h = large_cases units unit (is_too_large unit) refl h
 finds_more units unit (Some at) h = (h.0, h.1, h.2 ++ unit ∷ [], rw h.3 (append_assoc h.0 (h.1 ∷ h.2) (unit ∷ [])), h.4, h.5, h.6)
 
--- one more unit, which begins at the byte at
+-- one more unit, which starts at the byte at
 pub large_more : (us : List Unit) (u : Unit) (found : Option ℕ) (at : ℕ) → FindsLarge (texts us) found → at ≡ sum_by length (texts us) → FindsLarge (texts (us ++ u ∷ [])) (next_large found (unit_text u) at)
 large_more us u found at h e = rw (texts_more us u, e) (finds_more (texts us) (unit_text u) found h)
 
@@ -98,7 +98,7 @@ not_above most n h = grind (arith, nat_tests)
 above : (most n : ℕ) → ¬ (n < most + 1) → true ≡ nat_lt most n
 above most n h = grind (arith, nat_tests)
 
--- parsing a number fails exactly above the limit
+-- parsing a number fails exactly if it is above the limit
 pub parse_limit : {E : Type 0} (u : List ℕ) (r : Result ℕ E) → ParsesUnsigned 64 10 u r → is_number u ≡ true → is_err r ≡ is_too_large u
 parse_limit u (Ok x) h n =
     let k = number_plain u n in

@@ -1,4 +1,4 @@
--- The tokens of a text as the parser reads them, and what it makes of a tree of them. Only contracts of the parser's own functions cite these.
+-- The tokens of a text as the parser reads them, and what it makes of a tree of them. Only contracts of the parser's own functions use these.
 use Rattle.std.specs.Prelude.{◌≡◌, ℕ, false, List, map}
 use Rattle.std.specs.List.{list_any, AllByRecursion}
 use Rattle.cedar_tokens.specs.Split.{SplitsInto}

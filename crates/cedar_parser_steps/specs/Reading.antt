@@ -1,4 +1,4 @@
--- What the steps over tokens keep.
+-- What the steps over tokens preserve.
 use Rattle.std.specs.Prelude.{◌≡◌, ◌||◌, ◌<◌, ℕ, Bool, true, false, List, [], ◌∷◌, ◌++◌, length, Result, Ok, Err, Option, Some, None, ◌-◌, MatchOption, ◌⊎◌, Vec}
 use Rattle.std.specs.declared.alloc.Global.{Global}
 use Rattle.std.specs.List.{slice_get}
@@ -31,20 +31,20 @@ use Rattle.cedar_grammar.specs.TrailingCommas.{without_trailing}
 use Rattle.cedar_grammar.specs.Reader.Reading.{Reader, Answer, done, stuck, one}
 use Rattle.cedar_grammar.specs.Reader.Rules.{Rule, read, core, refuse}
 
--- what was read stands behind the items, and the tokens after it are left; or the refusal is passed on
+-- what was read is added to the items, and the tokens after it are left; or the refusal is passed on
 abbrev pub Keeps : {X : Type 0} → Result (X × Bor (List Lexeme)) Refusal → List X → List X → Bor (List Lexeme) → Result (Unit {0}) Refusal → Type 0
 Keeps (Ok x) old new rest (Ok _) = (new ≡ old ++ (x.0 ∷ [])) × (rest ≡ x.1)
 Keeps (Ok x) old new rest (Err e) = e ≡ OutOfMemory
 Keeps (Err f) old new rest (Ok _) = ⊥
 Keeps (Err f) old new rest (Err e) = e ≡ f
 
--- what was read, the end of the token after it, and fewer tokens are left
+-- what was read, with the end of the token after it, and fewer tokens are left
 abbrev pub Follows : {X : Type 0} → Result (X × Bor (List Lexeme)) Refusal → Result ((X × ℕ) × Bor (List Lexeme)) Refusal → Type 0
 Follows (Ok x) (Ok y) = (y.0.0 ≡ x.0) × (length y.1.now < length x.1.now)
 Follows (Err f) (Ok y) = ⊥
 Follows _ (Err e) = Unit {0}
 
--- after a success the tokens after it are left, or memory is wanting; a refusal is passed on
+-- after a success the tokens after it are left, unless out of memory; a refusal is passed on
 abbrev pub PassesOn : {X Y : Type 0} → Result (X × Bor (List Lexeme)) Refusal → Result (Y × Bor (List Lexeme)) Refusal → Type 0
 PassesOn (Ok x) (Ok y) = y.1 ≡ x.1
 PassesOn (Ok x) (Err e) = e ≡ OutOfMemory
@@ -63,7 +63,7 @@ first_kind (t ∷ ts) = Some t.kind
 abbrev pub IsRight : Lexeme → Type 0
 IsRight l = (l.kind ≡ kind_of l.text.now) × (is_token l.text.now ≡ true)
 
--- all leaves are right
+-- all leaves are correct
 abbrev pub AreRight : Forest Label Lexeme → Type 0
 AreRight none = Unit {0}
 AreRight (leaf t f) = IsRight t × AreRight f
@@ -84,7 +84,7 @@ pub record Stands (span : Span) (parts : Erased) (inside : Forest Label Lexeme) 
   pub same : AreRight inside → parts ≡ lexeme_nodes inside
   pub place : span_of (λ (l : Lexeme). l.text.now) (λ (l : Lexeme). l.span) (yield (without_trailing kind inside)) ≡ Some span
 
--- a node of these parts, with this span
+-- a node with these parts and this span
 abbrev pub IsMade : {X : Type 0} → (X → Erased) → Erased → Span → Node X → Type 0
 IsMade parts trees span n = (parts n.inner ≡ trees) × (n.span ≡ span)
 
@@ -92,7 +92,7 @@ IsMade parts trees span n = (parts n.inner ≡ trees) × (n.span ≡ span)
 abbrev pub span_to : Span → ℕ → Span
 span_to from end = record { start = from.start; end = end }
 
--- the reader gives a tree of this label, and the node that was read stands for it; or the refusal is the reader's
+-- the reader gives a tree with this label, and the node that was read stands for it; or the refusal is the reader's
 abbrev pub GivesNode : {X : Type 0} → Label → (X → Erased) → Result (Node X × Bor (List Lexeme)) Refusal → Answer Lexeme → Type 0
 GivesNode l parts (Ok x) a = (f : Forest Label Lexeme) × (a ≡ done (branch l f none) x.1.now) × Stands x.0.span (parts x.0.inner) f
 GivesNode l parts (Err e) a = Fails e a
@@ -102,7 +102,7 @@ abbrev pub GivesToken : Kind → Result (Lexeme × Bor (List Lexeme)) Refusal �
 GivesToken k (Ok x) a = (a ≡ done (leaf x.0 none) x.1.now) × (x.0.kind ≡ k)
 GivesToken k (Err e) a = Fails e a
 
--- the tokens behind the first, where that is of this kind
+-- the tokens after the first, if that is of this kind
 abbrev pub GoesPast : Kind → List Lexeme → Option (Bor (List Lexeme)) → Type 0
 GoesPast k tokens result = MatchOption result (begins kind (is k) tokens ≡ false) (λ rest. (t : Lexeme) × (tokens ≡ t ∷ rest.now) × (t.kind ≡ k))
 
@@ -130,14 +130,14 @@ name_parts n = path_parts n.path.items n.name
 abbrev pub IsNameOf : List (Node Ident) → Node Ident → Node Name → Type 0
 IsNameOf path name n = (n.inner.path.items ≡ path) × (n.inner.name ≡ name) × (n.span ≡ record { start = first_start path name; end = name.span.end })
 
--- the token of this kind behind what was read, of which the end is answered; or the refusal is the first of the two
+-- the token of this kind after what was read, with its end as the answer; or the first refusal of the two
 abbrev pub FollowedBy : {X : Type 0} → Kind → Result (X × Bor (List Lexeme)) Refusal → Result ((X × ℕ) × Bor (List Lexeme)) Refusal → Type 0
 FollowedBy k (Ok x) (Ok y) = (y.0.0 ≡ x.0) × (t : Lexeme) × (one kind k x.1.now ≡ done (leaf t none) y.1.now) × (t.kind ≡ k) × (y.0.1 ≡ t.span.end)
 FollowedBy k (Ok x) (Err e) = Fails e (one kind k x.1.now)
 FollowedBy k (Err f) (Ok y) = ⊥
 FollowedBy k (Err f) (Err e) = e ≡ f
 
--- an operand that a primary and what is accessed in it make
+-- an operand made of a primary and its accesses
 abbrev pub IsOperandOf : Node Primary.Primary → List (Node MemAccess.MemAccess) → Span → Node Add.Add → Type 0
 IsOperandOf item access s = IsMade add_parts (operand_parts s item access) s
 
@@ -147,7 +147,7 @@ IsLiteralOf t s = IsMade primary_parts (node (variant_label t) s (leaf (literal_
 abbrev pub IsNamePrimaryOf : Node Name → Node Primary.Primary → Type 0
 IsNamePrimaryOf name = IsMade primary_parts (node Label.name name.span (name_parts name.inner) none) name.span
 
--- the token of this kind and a tree of this label behind it, and the node that was read stands for that
+-- the token of this kind and a tree with this label after it, which the node that was read stands for
 abbrev pub GivesBehind : {X : Type 0} → Kind → Label → (X → Erased) → Result (Node X × Bor (List Lexeme)) Refusal → Answer Lexeme → Type 0
 GivesBehind k l parts (Ok x) a = (t : Lexeme) × (f : Forest Label Lexeme) × (a ≡ done (leaf t (branch l f none)) x.1.now) × (t.kind ≡ k) × Stands x.0.span (parts x.0.inner) f
 GivesBehind k l parts (Err e) a = Fails e a
@@ -157,12 +157,12 @@ abbrev pub last_end : ℕ → List (Node MemAccess.MemAccess) → ℕ
 last_end e [] = e
 last_end e (n ∷ ns) = last_end n.span.end ns
 
--- nodes of one label in a row
+-- nodes with one label in a row
 abbrev pub node_trees : {X : Type 0} → Label → (X → Erased) → List (Node X) → Erased
 node_trees l parts [] = none
 node_trees l parts (n ∷ ns) = node l n.span (parts n.inner) (node_trees l parts ns)
 
--- a row of nodes, perhaps of none, stands for the trees inside
+-- a row of nodes, possibly empty, stands for the trees inside
 pub record StandsMany (trees : Erased) (inside : Forest Label Lexeme) : Type 0 where
   pub same : AreRight inside → trees ≡ lexeme_nodes inside
   pub place : (inside ≡ none) ⊎ ((s : Span) × (span_of (λ (l : Lexeme). l.text.now) (λ (l : Lexeme). l.span) (yield (without_trailing kind inside)) ≡ Some s))
@@ -191,7 +191,7 @@ abbrev pub addop_kind : AddOp → Kind
 addop_kind AddOp.Plus = K.Add
 addop_kind AddOp.Minus = K.Dash
 
--- the sign that stands first, and the tokens behind it
+-- the sign that comes first, and the tokens after it
 abbrev pub GoesPastSign : List Lexeme → Option (AddOp × Bor (List Lexeme)) → Type 0
 GoesPastSign tokens result = MatchOption result (begins kind (λ x. is K.Add x || is K.Dash x) tokens ≡ false) (λ x. (t : Lexeme) × (tokens ≡ t ∷ x.1.now) × (t.kind ≡ addop_kind x.0))
 
@@ -200,7 +200,7 @@ abbrev pub GivesSign : Result (RelOp × Bor (List Lexeme)) Refusal → Answer Le
 GivesSign (Ok x) a = (t : Lexeme) × (a ≡ done (leaf t none) x.1.now) × (t.kind ≡ relop_kind x.0)
 GivesSign (Err e) a = Fails e a
 
--- whether a token of this kind stands first, and then the tokens behind it
+-- whether a token of this kind comes first, and the tokens after it
 abbrev pub Skips : Kind → List Lexeme → List Lexeme → Bool → Type 0
 Skips k old new result = (result ≡ begins kind (is k) old) × (result ≡ false → new ≡ old) × (result ≡ true → (t : Lexeme) × (old ≡ t ∷ new) × (t.kind ≡ k))
 
@@ -208,6 +208,6 @@ abbrev pub start_or : ℕ → Option Lexeme → ℕ
 start_or n None = n
 start_or n (Some l) = l.span.start
 
--- where the token starts from which on so many are left; the text's length where none is left
+-- where the token starts from which so many are left; the length of the text if none is left
 abbrev pub place_of : List ℕ → List Lexeme → ℕ → ℕ
 place_of text lexemes left = start_or (length text) (slice_get lexemes (length lexemes - left))

@@ -1,4 +1,4 @@
--- What parse functions promise of literals, keys, entities and the words before them, in terms of the reader.
+-- What parse functions guarantee for literals, keys, entities and the words before them, in terms of the reader.
 use Rattle.std.specs.Prelude.{◌≡◌, ℕ, ◌||◌, Bool, true, false, List, [], ◌∷◌, Result, Ok, Err, Option, Some, None, codes}
 use Rattle.std.specs.Borrow.{Bor}
 use Rattle.cedar_tokens.specs.Listing.{without_zeros}
@@ -60,29 +60,29 @@ ident_reader = tree Label.ident (token kind is_ident)
 abbrev pub text_reader : Reader Lexeme
 text_reader = tree Label.str (token kind (is K.Str))
 
--- further words, and then a string or what Z reads
+-- more words, then a string or what Z reads
 abbrev pub words_on : Reader Lexeme → Reader Lexeme
 words_on Z = tailed kind K.DoubleColon is_ident ident_reader text_reader Z
 
 abbrev pub words_then : Reader Lexeme → Reader Lexeme
 words_then Z = both ident_reader (words_on Z)
 
--- after the first word `::` stands
+-- `::` comes after the first word
 abbrev pub GoesOn : List Lexeme → Type 0
 GoesOn ts = (f : Forest Label Lexeme) × (r : List Lexeme) × (ident_reader ts ≡ done f r) × (begins kind (is K.DoubleColon) r ≡ true)
 
--- the words of a path and its name: one word, or one after which `::` stands
+-- the words of a path and its name: one word, or one followed by `::`
 abbrev pub Words : List (Node Ident) → Forest Label Lexeme → List Lexeme → List Lexeme → Type 0
 Words [] row ts rest = ident_reader ts ≡ done row rest
 Words (n ∷ ns) row ts rest = GoesOn ts
 
--- the words read, before what Z reads; or the entity that a string makes of them
+-- the words read, before what Z reads; or the entity they make with a string
 abbrev pub WordsEnd : Node Name → Option (Node Str) → Forest Label Lexeme → List Lexeme → List Lexeme → Type 0
 WordsEnd name None row ts rest = (begins kind (is K.DoubleColon) rest ≡ false) × Words name.inner.path.items row ts rest × ((Z : Reader Lexeme) → words_then Z ts ≡ after (Z rest) (λ f r. done (join row f) r))
 WordsEnd name (Some eid) row ts rest = (d : Lexeme) × (f : Forest Label Lexeme) × (d.kind ≡ K.DoubleColon) × GoesOn ts × Stands eid.span (str_parts eid.inner) f
     × ((Z : Reader Lexeme) → words_then Z ts ≡ done (join row (leaf d (branch Label.str f none))) rest)
 
--- regrouping goes past the words
+-- regrouping carries on past the words
 abbrev pub Gathers : Forest Label Lexeme → Type 0
 Gathers row = (f : Forest Label Lexeme) → gather none (join row f) ≡ gather row f
 
@@ -93,7 +93,7 @@ GivesWords (Err e) ts = (Z : Reader Lexeme) → Fails e (words_then Z ts)
 abbrev pub IsEntityOf : Node Name → Node Str → Node Primary.Primary → Type 0
 IsEntityOf path eid = let span = span_to path.span eid.span.end in IsMade primary_parts (node Label.ref span (name_tree path (leaf (codes "::") (str_tree eid none))) none) span
 
--- whether the name, with which the tokens begin, is a variable alone
+-- whether the name at the start of the tokens is a variable alone
 abbrev pub TellsVariable : List Lexeme → Node Name → Bool → Type 0
 TellsVariable ts name true = (begins kind is_variable ts ≡ true) × (name.inner.path.items ≡ [])
 TellsVariable ts name false = begins kind is_variable ts ≡ true → name.inner.path.items ≡ [] → ⊥
@@ -129,14 +129,14 @@ variable_end v None None = v.span.end
 abbrev pub IsVariableOf : Node Ident → Option (Node Name) → Option (RelOp × Node Add.Add) → Node VariableDef → Type 0
 IsVariableOf v type operator = IsMade variable_parts (ident_tree v (type_parts type (operator_parts operator))) (span_to v.span (variable_end v type operator))
 
--- an operand without any operator
+-- an operand without operators
 abbrev pub IsLoneOrOf : Node Add.Add → Node Or.Or → Type 0
 IsLoneOrOf a = IsMade or_parts (node Label.and a.span (node Label.relation a.span (node Label.add a.span (add_parts a.inner) none) none) none) a.span
 
 abbrev pub IsOrExprOf : Node Or.Or → Node Expr.Expr → Type 0
 IsOrExprOf o = IsMade expr_parts (node Label.or o.span (or_parts o.inner) none) o.span
 
--- after a success what was made is as P says of what was read
+-- after a success, P relates what was made to what was read
 abbrev pub Makes : {X Y : Type 0} → (X → Y → Type 0) → Result (X × Bor (List Lexeme)) Refusal → Result (Y × Bor (List Lexeme)) Refusal → Type 0
 Makes P (Ok x) (Ok y) = P x.0 y.0
 Makes P _ _ = Unit {0}

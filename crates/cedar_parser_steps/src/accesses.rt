@@ -1,4 +1,4 @@
-//! What is accessed in a primary, and operands that are read without nesting: behind `has` and `like`.
+//! Accesses in a primary, and the operands of `has` and `like`, which are read without nesting.
 ghost use Rattle.std.specs.Prelude.{◌≡◌, [], ◌<◌, ◌||◌, ◌&&◌, length, IfOk};
 ghost use Rattle.cedar_tokens.specs.Kinds.{is, begins};
 ghost use Rattle.cedar_grammar.specs.Trees.{Label};
@@ -23,14 +23,14 @@ pub fn begins_access(tokens: &[Lexeme]) -> bool
     begins(tokens, Kind::Dot) || begins(tokens, Kind::LBracket)
 }
 
-/// Whether a call begins with the first token, where what stands before it is `callable`.
+/// Whether a call begins with the first token, where what comes before it is `callable`.
 pub fn begins_call(tokens: &[Lexeme], callable: bool) -> bool
     ensures { result ≡ (callable && begins kind (is K.LParen) tokens.now) }
 {
     callable && begins(tokens, Kind::LParen)
 }
 
-/// A primary with what is accessed in it as an operand of comparisons.
+/// A primary with its accesses, as an operand of comparisons.
 pub fn operand<'src>(
     alloc: Global,
     item: Node<Primary<'src>>,
@@ -66,7 +66,7 @@ pub fn operand<'src>(
     }
 }
 
-/// A primary that stands alone as an operand.
+/// A primary alone as an operand.
 pub fn lone_operand<'src>(alloc: Global, item: Node<Primary<'src>>) -> Node<Add<'src>>
     ensures { IsOperandOf item.entry [] item.entry.span result }
 {
@@ -146,7 +146,7 @@ pub fn parse_access<'t, 'src>(tokens: &'t [Lexeme<'src>]) -> Parsed<'t, 'src, No
     parse_index(tokens)
 }
 
-/// Where the last of these accesses ends; `end` where there is none.
+/// Where the last of these accesses ends; `end` if there is none.
 pub fn accesses_end(end: usize, access: &[Node<MemAccess<'_>>]) -> usize
     ensures { result ≡ last_end end access.now }
 {

@@ -1,4 +1,4 @@
-//! The parser's single steps, and all that it reads without nesting.
+//! The single steps of the parser, and all that it reads without nesting.
 #![tactic(auto)]
 
 pub mod accesses;

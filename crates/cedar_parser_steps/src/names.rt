@@ -1,4 +1,4 @@
-//! Words, and what is made of them: names, keys of records, entities.
+//! Words, and what is made of them: names, record keys, entities.
 ghost use Rattle.std.specs.Prelude.{◌≡◌, ◌<◌, ◌||◌, length, IfOk};
 ghost use Rattle.cedar_tokens.specs.Kinds.{is, is_ident, is_variable, set_of, begins};
 ghost use Rattle.cedar_grammar.specs.Trees.{Label};
@@ -17,21 +17,21 @@ use cedar_tokens::token::Span;
 use cedar_tree::tree::{Ident, Name, Node, Primary, Ref, Slot, Str};
 use std::alloc::Global;
 
-/// Whether the first token can name something.
+/// Whether the first token can be a name.
 pub fn begins_identifier(tokens: &[Lexeme]) -> bool
     ensures { result ≡ begins kind is_ident tokens.now }
 {
     first_kind(tokens).is_some_and(Kind::is_identifier)
 }
 
-// Whether a variable stands first.
+// Whether a variable comes first.
 fn begins_variable(tokens: &[Lexeme]) -> bool
     ensures { result ≡ begins kind is_variable tokens.now }
 {
     first_kind(tokens).is_some_and(Kind::is_variable)
 }
 
-/// Whether the name, with which the tokens begin, is a variable alone.
+/// Whether the name at the start of the tokens is a variable alone.
 pub fn is_lone_variable(tokens: &[Lexeme], name: &Node<Name<'_>>) -> bool
     ensures { TellsVariable tokens.now name.now result }
 {
@@ -144,7 +144,7 @@ pub fn parse_key<'t, 'src>(
     parse_text(tokens)
 }
 
-/// Words joined by `::`, and a string after a last `::`, which makes them an entity. What follows a `::` is told by the next token.
+/// Words joined by `::`, and a string after a last `::`, which makes them an entity. The token after a `::` decides.
 pub fn parse_words<'t, 'src>(
     alloc: Global,
     tokens: &'t [Lexeme<'src>],

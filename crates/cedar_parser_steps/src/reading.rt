@@ -11,7 +11,7 @@ use crate::lexeme::Lexeme;
 use cedar_tokens::kind::Kind;
 use std::alloc::AllocFailed;
 
-/// Why tokens are refused, where `left` counts the tokens from the refused one on.
+/// Why tokens are refused; `left` counts the tokens from the refused one on.
 #[derive(Clone, Copy, Debug)]
 pub enum Refusal {
     Grammar { left: usize },
@@ -37,7 +37,7 @@ pub fn refuse(tokens: &[Lexeme]) -> Refusal
     Refusal::Grammar { left: tokens.len() }
 }
 
-/// The refusal at the first of these tokens, where it alone is nested too deeply.
+/// The refusal at the first of these tokens, if only that one is nested too deeply.
 pub fn too_deep(tokens: &[Lexeme]) -> Refusal
     ensures { Fails result (stuck true tokens.now) }
 {
@@ -76,7 +76,7 @@ pub fn begins_bracket(tokens: &[Lexeme]) -> bool
     begins(tokens, Kind::LParen) || begins(tokens, Kind::LBracket) || begins(tokens, Kind::LBrace)
 }
 
-/// The tokens after the first, where that is of this kind.
+/// The tokens after the first, if that is of this kind.
 pub fn past<'t, 'src>(tokens: &'t [Lexeme<'src>], wanted: Kind) -> Option<&'t [Lexeme<'src>]>
     ensures shorter { IfSome result (λ rest. length rest.now < length tokens.now) }
     ensures token { GoesPast wanted tokens.now result }
@@ -93,7 +93,7 @@ pub fn past<'t, 'src>(tokens: &'t [Lexeme<'src>], wanted: Kind) -> Option<&'t [L
     }
 }
 
-/// Goes past a token of this kind, where one stands first, and says whether it did.
+/// Skips a token of this kind if it comes first, and says whether it did.
 pub fn skip<'t, 'src>(rest: &mut &'t [Lexeme<'src>], wanted: Kind) -> bool
     ensures shorter { length rest.new.now ≤ length rest.old.now }
     ensures token { Skips wanted rest.old.now rest.new.now result }
@@ -130,7 +130,7 @@ pub fn start_of(tokens: &[Lexeme]) -> usize
     }
 }
 
-/// Keeps an item that was read, and goes on behind it.
+/// Keeps an item that was read, and continues after it.
 pub fn keep<'t, 'src, T: Drop>(
     read: Parsed<'t, 'src, T>,
     items: &mut Vec<T>,
@@ -148,7 +148,7 @@ pub fn keep<'t, 'src, T: Drop>(
     }
 }
 
-/// What was read and the token of this kind after it, of which the end is answered.
+/// What was read and the token of this kind after it, with that token's end as the answer.
 pub fn followed_by<'t, 'src, T: Drop>(
     read: Parsed<'t, 'src, T>,
     wanted: Kind,

@@ -1,4 +1,4 @@
-//! Signs: of comparisons, of sums, and those before a member.
+//! Signs: comparisons, `+` and `-`, and those before a member.
 ghost use Rattle.std.specs.Prelude.{◌≡◌, ◌<◌, ◌≤◌, length, is_some, IfOk, IfSome};
 ghost use Rattle.cedar_tokens.specs.Kinds.{is_comparison, begins};
 ghost use Rattle.cedar_grammar.specs.Reader.Reading.{token};
@@ -28,7 +28,7 @@ fn comparison_of(kind: Kind) -> Option<RelOp>
     }
 }
 
-/// Whether a comparison's sign stands first.
+/// Whether a comparison's sign comes first.
 pub fn begins_comparison(tokens: &[Lexeme]) -> bool
     ensures { result ≡ begins kind is_comparison tokens.now }
 {
@@ -49,7 +49,7 @@ pub fn parse_comparison_sign<'t, 'src>(tokens: &'t [Lexeme<'src>]) -> Parsed<'t,
     }
 }
 
-/// The `+` or `-` that stands first, and the tokens after it.
+/// The `+` or `-` that comes first, and the tokens after it.
 pub fn past_sum_sign<'t, 'src>(tokens: &'t [Lexeme<'src>]) -> Option<(AddOp, &'t [Lexeme<'src>])>
     ensures shorter { IfSome result (λ x. length x.1.now < length tokens.now) }
     ensures reads { GoesPastSign tokens.now result }
@@ -62,7 +62,7 @@ pub fn past_sum_sign<'t, 'src>(tokens: &'t [Lexeme<'src>]) -> Option<(AddOp, &'t
     }
 }
 
-// How many tokens of this kind stand first, four at most, and the tokens after them.
+// How many tokens of this kind come first, at most four, and the tokens after them.
 fn past_signs<'t, 'src>(tokens: &'t [Lexeme<'src>], sign: Kind) -> (u8, &'t [Lexeme<'src>])
     ensures shorter { length result.1.now ≤ length tokens.now }
     ensures signs { GoesPastSigns sign tokens.now result }
@@ -78,7 +78,7 @@ fn past_signs<'t, 'src>(tokens: &'t [Lexeme<'src>], sign: Kind) -> (u8, &'t [Lex
     (count, rest)
 }
 
-/// The signs that stand first, four at most, and the tokens after them.
+/// The signs that come first, at most four, and the tokens after them.
 pub fn read_signs<'t, 'src>(tokens: &'t [Lexeme<'src>]) -> (Option<NegOp>, &'t [Lexeme<'src>])
     ensures shorter { length result.1.now ≤ length tokens.now }
     ensures reads { GivesSigns tokens.now result }
@@ -94,7 +94,7 @@ pub fn read_signs<'t, 'src>(tokens: &'t [Lexeme<'src>]) -> (Option<NegOp>, &'t [
     (None, tokens)
 }
 
-/// Where a member starts together with the signs before it, which stand first in the tokens.
+/// Where a member and the signs before it start; the signs come first in the tokens.
 pub fn signed_start(tokens: &[Lexeme], op: Option<NegOp>, member: Span) -> usize
     ensures { result ≡ signs_start op tokens.now member.start }
 {

@@ -1,4 +1,4 @@
--- What comparing outputs tells of their texts.
+-- What comparing outputs says about their texts.
 use Rattle.std.proofs.Common.{◌≡◌, ℕ, ℤ, List, Bool, ap, ◌∙◌, subst}
 use Rattle.std.specs.Prelude.{IsTrue, ◌↔◌}
 use Rattle.std.specs.Str.{IsUtf8}

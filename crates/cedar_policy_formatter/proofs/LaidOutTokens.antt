@@ -1,4 +1,4 @@
--- A text's output has the tokens of its plain list, so the last check never fails.
+-- A text's output has the tokens of its plain list, so the final check never fails.
 use Rattle.std.proofs.Common.{◌≡◌, ℕ, ℤ, List, map, refl, sym, ap, ◌∙◌}
 use Rattle.std.specs.Str.{IsUtf8}
 use Rattle.cedar_tokens.specs.Listing.{Decorated, Listing, IsListing, listing, token_value}
@@ -18,7 +18,7 @@ use Rattle.cedar_policy_formatter.specs.Texts.{plain_values}
 use Rattle.cedar_policy_formatter.specs.Inside.Written.{IsPlainStream}
 use Rattle.cedar_policy_formatter.proofs.SamePolicies.{listed_values}
 
--- the value of a token goes by what stays of it when its comments are taken
+-- the value of a token depends on what remains of it when its comments are taken
 bare_values : (ws : List WrappedToken) → map value_of ws ≡ map (λ (b : Token × Span). token_value (token_text b.0)) (map bare ws)
 bare_values ws = sym (map_map (λ (b : Token × Span). token_value (token_text b.0)) bare ws)
 

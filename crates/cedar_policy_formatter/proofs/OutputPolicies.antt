@@ -1,4 +1,4 @@
--- An output is a text of its text's policies: their nodes with the spans that they have in the output are its tree.
+-- An output is a text of its text's policies: its tree has their nodes, with the spans they have in the output.
 use Rattle.std.proofs.Common.{◌≡◌, ℕ, Bool, true, false, List, [], ◌∷◌, map, refl, ap, sym, ◌∙◌, subst, append-nil}
 use Rattle.std.specs.Prelude.{if◌then◌else◌, Option, Some, None}
 use Rattle.cedar_tokens.specs.Listing.{Decorated, Listing, IsListing, listing, token_value}
@@ -136,7 +136,7 @@ outputs_keep_the_policies texts accepted has_list w i x y p u o t =
     let s : IsTreeOf y q.0 = record { units = units; split = (a.1).split; fitting = (a.1).fitting; tree = f.0; grammar = tree_by_texts units f.0 f.1; nodes = q.1 ∙ ap (spanned text_of place_of) (sym (plain_same text_of f.0)) } in
     (q.0, s, same_policies texts has_list w i x y u o p q.0 t s)
 
--- ---- of texts without policies in memory
+-- ---- for texts without policies in memory
 
 -- the tree of nodes of an accepted text
 nodes_of_accepted : (text : List ℕ) → Accepted text → (f : Erased) × HasNodes text f

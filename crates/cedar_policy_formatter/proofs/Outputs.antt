@@ -89,7 +89,7 @@ module _ (w : ℕ) (i : ℤ) (text : List ℕ) (n : Node Policy) (tokens : List 
   pub typed_policy : IsOnly n (map shown tokens) over.policies
   typed_policy = only_of n (map shown tokens) over.policies (ap erased.policy_trees (sym own.2) ∙ over.nodes) over.leaves
 
-  -- what is said of the policy's typed policy
+  -- what holds of the policy's typed policy
   pub said_of : (R : Clause Shown policy → Type 0) → ((p : Clause Shown policy) → IsAt n.span (part_yield p) → IsPartOf (erased.policy_parts n.inner) p → map shown tokens ≡ part_yield p → R p) → R typed_policy.typed
   said_of R f = f typed_policy.typed typed_policy.place typed_policy.parts typed_policy.leaves
 

@@ -1,4 +1,4 @@
--- The output of a text is that of its pieces, with an empty line between.
+-- The output of a text is that of its pieces, with an empty line between them.
 use Rattle.std.proofs.Common.{◌≡◌, ℕ, ℤ, Bool, true, false, ◌||◌, List, [], ◌∷◌, ◌++◌, length, take, drop, refl, ap, arith, sym, ◌∙◌, subst, append_assoc, append-nil}
 use Rattle.std.specs.Prelude.{IsTrue, nat_eq, nat_lt}
 use Rattle.std.specs.List.{AllByRecursion}
@@ -115,7 +115,7 @@ policy_open kind (policy_of no_annotation e l p c a d r q cs s) f = (e, _, refl,
 policy_open kind (policy_of (annotations_more (annotation_bare x k) m) e l p c a d r q cs s) f = (x, _, refl, at_open (kind x) f.0.0.0)
 policy_open kind (policy_of (annotations_more (annotation_value x k y z w) m) e l p c a d r q cs s) f = (x, _, refl, at_open (kind x) f.0.0.0)
 
--- policies begin with no closing bracket
+-- policies do not begin with a closing bracket
 trees_open : (ps : List (Clause Decorated policy)) (t : Decorated) (ts : List Decorated) → IsTree ps → tokens_of ps ≡ t ∷ ts → is_closing_bracket t.text ≡ true → ⊥
 trees_open [] t ts a e h = absurd cc
 trees_open (p ∷ ps) t ts a e h =
@@ -128,7 +128,7 @@ trees_open (p ∷ ps) t ts a e h =
     let n : is_closing_bracket t.text ≡ false = sym (closing_agrees t.text) ∙ (ap (λ z. is_closing (kind_of_decorated z)) (sym k) ∙ o.3) in
     absurd cc
 
--- so no trailing comma comes first in the list of an output's text
+-- so the list of an output's text does not begin with a trailing comma
 first_stays : (ps : List (Clause Decorated policy)) (us : List Decorated) → IsTree ps → tokens_of ps ≡ plain_list us → begins_trailing us ≡ false
 first_stays ps us a e = go (begins_trailing us) refl
   where
@@ -167,7 +167,7 @@ has_last : (ts : List Decorated) (t : Decorated) → ts ++ (t ∷ []) ≡ [] →
 has_last [] t h = absurd cc
 has_last (x ∷ ts) t h = absurd cc
 
--- behind a piece's output stands that of the rest, if that has tokens, with an empty line between
+-- after a piece's output comes that of the rest, if that has tokens, with an empty line between
 pub outputs_follow : (w : ℕ) (i : ℤ) (text : List ℕ) (n : ℕ) (y z : List ℕ) → Accepted text → IsPiece text n → IsOutputOf w i (take n text) y → (b : IsOutputOf w i (drop n text) z) → (b.list.tokens ≡ [] → ⊥) → IsOutputOf w i text (y ++ (10 ∷ z))
 outputs_follow w i text n y z c p a b more =
     let e = piece_ends text n a.list p a.is_list in
@@ -194,14 +194,14 @@ outputs_follow w i text n y z c p a b more =
       };
     }
 
--- the output of a text of two pieces: an empty line stands between their outputs' policies
+-- the output of a text of two pieces: an empty line separates the policies of their outputs
 pub outputs_join : (w : ℕ) (i : ℤ) (text : List ℕ) (n : ℕ) (y z : List ℕ) → Accepted text → IsPiece text n → ((m : ℕ) × IsPiece (drop n text) m × (m ≡ length (drop n text))) → IsOutputOf w i (take n text) y → IsOutputOf w i (drop n text) z → IsOutputOf w i text (y ++ (10 ∷ z))
 outputs_join w i text n y z c p (m, q, e) a b =
     let whole : take m (drop n text) ≡ drop n text = take_all m (drop n text) (omega (arith, e)) in
     let l = piece_ends (drop n text) m b.list q (subst (λ x. IsListing x b.list) (sym whole) b.is_list) in
     outputs_follow w i text n y z c p a b (λ h. has_last l.1.0 l.1.1 (sym l.1.2 ∙ h))
 
--- where no token stands behind the piece, its closing comments do
+-- if no token follows the piece, its closing comments do
 pub outputs_close : (w : ℕ) (i : ℤ) (text : List ℕ) (n : ℕ) (us : List (List ℕ)) (y : List ℕ) → Accepted text → IsPiece text n → SplitsInto (drop n text) us → only_tokens us ≡ [] → IsOutputOf w i (take n text) y → IsOutputOf w i text (y ++ closing_text (comments (drop n text)))
 outputs_close w i text n us y c p s h a =
     let cs = comments (drop n text) in

@@ -17,7 +17,7 @@ use Rattle.cedar_cst.specs.PolicyReaders.{Position, HasRead, GoesOn, HasEnded}
 use Rattle.cedar_cst.proofs.Readers.{read_nothing}
 use Rattle.cedar_policy_formatter.proofs.PieceOutputs.{outputs_join, outputs_close, closing_output}
 
--- out is what is written of the text's pieces up to the byte at: nothing before the first, then their output
+-- out is what is written for the text's pieces up to the byte at: nothing before the first, then their output
 abbrev pub LaidOut : ℕ → ℤ → List ℕ → ℕ → List ℕ → Type 0
 LaidOut w i text at out = ((at ≡ 0) × (out ≡ [])) ⊎ (IsPiece text at × IsOutputOf w i (take at text) out)
 
@@ -34,7 +34,7 @@ abbrev pub TellsEmpty : Bool → List ℕ → Type 0
 TellsEmpty true out = out ≡ []
 TellsEmpty false out = out ≡ [] → ⊥
 
--- a layout has bytes, and so has what it is put behind
+-- a layout has bytes, and so has the result of appending it
 pub some_more : (w : ℕ) (i : ℤ) (text out more layout : List ℕ) → IsOutputOf w i text layout → more ≡ out ++ layout → TellsEmpty false more
 some_more w i text out more layout o e n = output_is_some w i text layout o (no_end out layout (sym e ∙ n))
   where
@@ -91,7 +91,7 @@ module _ (w : ℕ) (i : ℤ) (text : List ℕ) where
       let more : new ≡ out ++ closing_text (comments (drop at text)) = h ∙ ap (λ z. z ++ closing_text (comments (drop at text))) (append-nil out) in
       subst (λ x. IsOutputOf w i text x) (sym more) (outputs_close w i text at us out a p s n o)
 
-  -- behind the last piece stand the closing comments
+  -- after the last piece come the closing comments
   pub laid_ends : (reader : Position) (rest out new : List ℕ) (empty : Bool) → reader.text ≡ text → HasEnded reader → rest ≡ drop reader.at reader.text → TellsEmpty empty out → LaidOut w i text reader.at out
       → new ≡ (out ++ (if empty then line_feed ∷ [] else [])) ++ closing_text (comments rest) → IsOutputOf w i text new
   laid_ends reader rest out new empty same x r t l h =

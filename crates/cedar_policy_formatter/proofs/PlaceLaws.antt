@@ -26,7 +26,7 @@ continues b h = elim (cases_lt b 128) [
   | inr high ↦ elim (cases_lt b 192) [ inl mid ↦ rw (le-ltb b 128 high, lt-leb 192 b mid) refl | inr top ↦ absurd (h (λ _. top)) ]
 ]
 
--- within the text that fixes the place
+-- inside the text, that determines the place
 floor-within : (bs : List ℕ) (i kept : ℕ) → i < length bs → IsLastBoundary bs i kept → floor_char_boundary bs i ≡ kept
 unfolding floor_char_boundary
 floor-within bs zero kept within last = omega arith
@@ -39,13 +39,13 @@ floor-within bs (suc i) kept within last = elim (cases_lt kept (suc i)) [
       ap (λ t. cond t (suc i) (floor_char_boundary bs i)) (starts _ ((subst (IsCharBoundary bs) same last.boundary).1 within)) ∙ sym same
 ]
 
--- past the end there is nothing to pass back over
+-- past the end there is nothing to move back over
 floor-past : (bs : List ℕ) (i : ℕ) → length bs ≤ i → floor_char_boundary bs i ≡ i
 unfolding floor_char_boundary
 floor-past bs zero past = refl
 floor-past bs (suc i) past = rw (get_or_past bs (suc i) 0 past) refl
 
--- so it fixes the text before that place, for any byte
+-- so it determines the text before that place, for any byte
 pub take-floor : (bs : List ℕ) (i kept : ℕ) → IsLastBoundary bs i kept → take (floor_char_boundary bs i) bs ≡ take kept bs
 take-floor bs i kept last = elim (cases_lt i (length bs)) [
   | inl within ↦ ap (λ n. take n bs) (floor-within bs i kept within last)
@@ -55,7 +55,7 @@ take-floor bs i kept last = elim (cases_lt i (length bs)) [
   ]
 ]
 
--- what follows the last line feed, by the place that follows it
+-- what follows the last line feed, given the place after it
 pub drop-last_feed : (bs : List ℕ) (n : ℕ) → n ≤ length bs → ((k : ℕ) → n ≤ k → k < length bs → get_or bs k 0 ≢ 10) → (0 < n → get_or bs (n - 1) 0 ≡ 10)
     → drop n bs ≡ after_last is_line_feed bs
 drop-last_feed bs n within none_after feed =

@@ -1,4 +1,4 @@
--- What a run of a stream tells, by how it ends.
+-- What a run of a stream says, by how it ends.
 use Rattle.std.proofs.Common.{ℕ, ℤ, List, Option, Err}
 use Rattle.std.specs.Io.KnownBytes.{Keeps}
 use Rattle.cedar_streams.specs.Texts.{FailsToGive}
@@ -6,7 +6,7 @@ use Rattle.cedar_streams.specs.declared.reading.ReadFault.{ReadFault}
 use Rattle.cedar_streams.specs.declared.reading.ReadFault.TheVariants.{Read, NotUtf8, OutOfMemory}
 use Rattle.cedar_policy_formatter.specs.Streams.{FailsToRead, TellsRun, run_fault}
 
--- no text was had
+-- there was no text
 pub unread : (old new : Option (List ℕ)) (f : ReadFault) → FailsToGive old new f → FailsToRead old new (run_fault f)
 unread old new Read h = tt
 unread old new NotUtf8 h = h

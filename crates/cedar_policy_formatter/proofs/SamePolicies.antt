@@ -28,7 +28,7 @@ use Rattle.cedar_policy_formatter.proofs.Checked.{leaves_without_spans}
 abbrev pub value_of : Placed → List ℕ
 value_of t = token_value t.text
 
--- trees with spans, without them, are the trees of the tokens' values
+-- trees with spans, once these are removed, are the trees of the tokens' values
 pub spanless : (f : Forest Label Placed) → without_spans (spanned (λ (t : Placed). t.text) (λ t. t.span) f) ≡ relabel value_of f
 spanless none = refl
 spanless (leaf t f) = ap (leaf (value_of t)) (spanless f)

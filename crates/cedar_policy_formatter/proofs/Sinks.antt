@@ -9,11 +9,11 @@ use Rattle.std.proofs.lemmas.List.{take-append-drop}
 use Rattle.std.proofs.lemmas.Slice.Eq.{bytes_eq-Decides}
 use Rattle.cedar_policy_formatter.specs.Inside.Sinks.{left_in}
 
--- what stripping a prefix answers
+-- the result of stripping a prefix
 abbrev pub Strips : List ℕ → List ℕ → Option (Bor (List ℕ)) → Type 0
 Strips l p r = MatchOption r (pointwise nat_eq (take (length p) l) p ≡ false) (λ x. (pointwise nat_eq (take (length p) l) p ≡ true) × (x.now ≡ drop (length p) l) × (length x.now + length p ≡ length l))
 
--- what is left behind a piece
+-- what is left after a piece
 pub passed : (l p : List ℕ) (r : Option (Bor (List ℕ))) → Strips l p r → (y : List ℕ) → (Some l ≡ Some (p ++ y)) ↔ (left_in r ≡ Some y)
 passed l p None h y = (
   λ e.
@@ -30,7 +30,7 @@ passed l p (Some x) h y = (
       ap Some (sym (take-append-drop (length p) l) ∙ ap (λ z. z ++ drop (length p) l) ((bytes_eq-Decides (take (length p) l) p).0 h.0) ∙ ap (λ z. p ++ z) (sym h.1 ∙ f)),
 )
 
--- all of the text is passed exactly where the output is the text
+-- all of the text is passed exactly if the output is the text
 pub used_up : (text out : List ℕ) (first rest : Option (List ℕ)) (t : Bool) → first ≡ Some text → ((y : List ℕ) → (first ≡ Some (out ++ y)) ↔ (rest ≡ Some y)) → IsTrue t ↔ (rest ≡ Some []) → IsTrue t ↔ (out ≡ text)
 used_up text out first rest t b h e = (
   λ x. let f : Some text ≡ Some (out ++ []) = sym b ∙ (h []).1 (e.0 x) in let g : text ≡ out ++ [] = cc in sym (append-nil out) ∙ sym g,

@@ -1,4 +1,4 @@
--- What comparing texts tells.
+-- What comparing texts says.
 use Rattle.std.specs.Prelude.{ℕ, List}
 use Rattle.cedar_tokens.specs.Listing.{Listing, IsListing, EqualByValue}
 use Rattle.cedar_laws.specs.Canonical.{plain_listing}

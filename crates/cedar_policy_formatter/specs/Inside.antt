@@ -1,3 +1,3 @@
--- What only contracts below the formatter's own calls cite.
+-- Definitions used only by contracts below the formatter's own calls.
 pub mod Written
 pub mod Sinks

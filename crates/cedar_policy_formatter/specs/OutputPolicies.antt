@@ -6,10 +6,10 @@ use Rattle.cedar_tree.specs.NodeTrees.{IsTreeOf}
 use Rattle.cedar_laws.specs.Canonical.{IsOutputOf}
 use Rattle.cedar_policy_formatter.specs.Texts.{IsTextOf, KeepsPolicies}
 
--- an output of a text is a text of its policies: it is accepted, and its tree of nodes is the text's but for spans
+-- an output of a text is a text of its policies: it is accepted, and its tree of nodes is the text's except for spans
 abbrev pub OutputsKeepThePolicies : Type 0
 OutputsKeepThePolicies = (w : ℕ) (i : ℤ) (x y : List ℕ) (p : Policies) → IsUtf8 x → IsOutputOf w i x y → IsTreeOf x p → IsTextOf y p
 
--- an output and its text are accepted, and their trees of nodes are equal but for spans
+-- an output and its text are accepted, and their trees of nodes are equal except for spans
 abbrev pub OutputsKeepTheTrees : Type 0
 OutputsKeepTheTrees = (w : ℕ) (i : ℤ) (x y : List ℕ) → IsUtf8 x → IsOutputOf w i x y → KeepsPolicies x y

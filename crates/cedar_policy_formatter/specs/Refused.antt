@@ -1,11 +1,11 @@
--- Why a text is refused by the formatter: as the parser refuses it.
+-- Why the formatter refuses a text: as the parser refuses it.
 use Rattle.std.specs.Prelude.{◌≡◌, ℕ, List, ◌⊎◌}
 use Rattle.cedar_grammar.specs.Texts.{Accepted}
 use Rattle.cedar_tree.specs.Refusals.{Refuses}
 use Rattle.cedar_tree.specs.declared.error.FormatError.{FormatError}
 use Rattle.cedar_tree.specs.declared.error.FormatError.TheVariants.{OutOfMemory}
 
--- for want of memory
+-- out of memory
 abbrev pub IsMemory : FormatError → Type 0
 IsMemory e = e ≡ OutOfMemory
 

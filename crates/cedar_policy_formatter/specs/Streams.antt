@@ -18,7 +18,7 @@ run_fault without.Read = Read
 run_fault without.NotUtf8 = NotUtf8
 run_fault without.OutOfMemory = Format OutOfMemory
 
--- why there is nothing to write: a read failed; all was read, and isn't UTF-8; a text is refused, or memory is wanting
+-- why there is nothing to write: a read failed; all was read, and isn't UTF-8; a text is refused, or out of memory
 abbrev pub FailsToRead : Option (List ℕ) → Option (List ℕ) → RunFault → Type 0
 FailsToRead old new Read = ⊤
 FailsToRead old new NotUtf8 = (x : List ℕ) × GivesAll old new x × ¬ (IsUtf8 x)
@@ -29,7 +29,7 @@ FailsToRead old new Write = ⊥
 abbrev pub IsOutputOfAll : ℕ → ℤ → Option (List ℕ) → Option (List ℕ) → List ℕ → Type 0
 IsOutputOfAll width indent old new y = (x : List ℕ) × GivesText old new x × Accepted x × IsOutputOf width indent x y
 
--- what a run read and wrote: with success all of the output, with `Write` a beginning, with any other fault nothing
+-- what a run read and wrote: with success all of the output, with `Write` a prefix, with any other fault nothing
 abbrev pub TellsRun : ℕ → ℤ → Option (List ℕ) → Option (List ℕ) → Option (List ℕ) → Option (List ℕ) → Result Unit RunFault → Type 0
 TellsRun width indent old new held holds (Ok _) = (y : List ℕ) × IsOutputOfAll width indent old new y × Appends held holds y
 TellsRun width indent old new held holds (Err Write) = (y : List ℕ) × IsOutputOfAll width indent old new y × AppendsPart held holds y

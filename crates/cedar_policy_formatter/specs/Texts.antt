@@ -16,11 +16,11 @@ use Rattle.cedar_tree.specs.declared.tree.Policies.{Policies}
 use Rattle.cedar_tree.specs.Erased.{Erased, SameTree, without_spans}
 use Rattle.cedar_tree.specs.NodeTrees.{IsTreeOf, spanned}
 
--- the text is accepted, and its tree of nodes is this one but for spans
+-- the text is accepted, and its tree of nodes is this one except for spans
 abbrev pub IsTextOf : List ℕ → Policies → Type 0
 IsTextOf text tree = (p : Policies) × IsTreeOf text p × SameTree p tree
 
--- the text is accepted, and this is its tree of nodes, with all spans (`IsTreeOf` says the same of policies in memory)
+-- the text is accepted, and this is its tree of nodes, with all spans (`IsTreeOf` says the same for policies in memory)
 pub record HasNodes (text : List ℕ) (nodes : Erased) : Type 0 where
   pub units : List (List ℕ)
   pub split : SplitsInto text units
@@ -29,11 +29,11 @@ pub record HasNodes (text : List ℕ) (nodes : Erased) : Type 0 where
   pub grammar : IsSyntaxTree (λ t. t.text) greatest_depth tree (placed units)
   pub value : nodes ≡ spanned (λ t. t.text) (λ t. t.span) (plain_trees (λ t. t.text) tree)
 
--- both texts are accepted, and their trees of nodes are equal but for spans
+-- both texts are accepted, and their trees of nodes are equal except for spans
 abbrev pub KeepsPolicies : List ℕ → List ℕ → Type 0
 KeepsPolicies old new = (f : Erased) × (g : Erased) × HasNodes old f × HasNodes new g × (without_spans f ≡ without_spans g)
 
--- why a check fails: `Unsound` only where the text is not accepted, or its tree of nodes is another one
+-- why a check fails: `Unsound` only if the text is not accepted, or its tree of nodes is a different one
 abbrev pub FailsCheck : List ℕ → Policies → FormatError → Type 0
 FailsCheck text tree Unsound = ¬ (Accepted text) ⊎ ((p : Policies) × IsTreeOf text p × ¬ (SameTree p tree))
 FailsCheck text tree OutOfMemory = ⊤
@@ -43,6 +43,6 @@ FailsCheck text tree e = ⊥
 abbrev pub plain_values : Listing → List (List ℕ)
 plain_values l = map (λ t. token_value t.text) (plain_list l.tokens)
 
--- texts of the same policies have the same tokens, but for trailing commas and leading zeros
+-- texts of the same policies have the same tokens, except for trailing commas and leading zeros
 abbrev pub KeptPoliciesHaveTheSameTokens : Type 0
 KeptPoliciesHaveTheSameTokens = (a b : List ℕ) (l m : Listing) → KeepsPolicies a b → IsListing a l → IsListing b m → plain_values l ≡ plain_values m

@@ -51,12 +51,12 @@ pub use cedar_streams::{ReadFault, Watched, read_text};
 use sink::{Rest, Sink};
 pub use stream::{RunFault, check_stream, format_stream};
 
-/// The policies `ps`, laid out.
+/// Lays out the policies `ps`.
 ///
-/// Trailing commas are dropped, leading zeros of numbers too; every comment is kept in its place. The result is the written
+/// Trailing commas and leading zeros of numbers are dropped; every comment is kept in its place. The result is the written
 /// layout of the list of `ps` without trailing commas, at the width and the indentation of `config`. It is accepted, and its
-/// tree is that of `ps` but for spans. Every accepted text has its result, if memory suffices; every other is refused as
-/// `cst::parse_policies` refuses it, with the same reason at the same place.
+/// tree is that of `ps` except for spans. Every accepted text has a result, unless out of memory; every other is refused as
+/// `cst::parse_policies` refuses it, for the same reason at the same place.
 pub fn policies_str_to_pretty(
     alloc: Global,
     ps: &str,
@@ -70,7 +70,7 @@ pub fn policies_str_to_pretty(
     Ok(text)
 }
 
-// Puts the output of a text, policy by policy.
+// Writes the output of a text, policy by policy.
 fn write_policies<S: Sink>(
     alloc: Global,
     ps: &str,
@@ -93,9 +93,9 @@ fn write_policies<S: Sink>(
     Ok(put_closing(get_comment(reader.rest()), sink)?)
 }
 
-/// Whether `ps` is a text of these policies: it is accepted, and its tree is this one but for spans. `Unsound` is answered
-/// only where it isn't accepted or its tree is another one, and else there is only want of memory.
-/// The text and the tree name one lifetime: a function that makes the text itself makes it before it parses the tree.
+/// Checks that `ps` is a text of these policies: it is accepted, and its tree is this one except for spans. `Unsound` is
+/// returned only if it isn't accepted or its tree is a different one; the only other error is out of memory.
+/// The text and the tree share one lifetime: a function that makes the text itself makes it before it parses the tree.
 pub fn soundness_check<'src>(
     alloc: Global,
     ps: &'src str,
@@ -117,8 +117,8 @@ pub fn soundness_check<'src>(
     }
 }
 
-/// Whether `ps` is as `policies_str_to_pretty` lays it out: it is its own output. Every accepted text gets an answer, if
-/// memory suffices; every other is refused as there.
+/// Whether `ps` is as `policies_str_to_pretty` lays it out: it is its own output. Every accepted text gets an answer, unless
+/// out of memory; every other is refused as there.
 pub fn is_formatted(alloc: Global, ps: &str, config: &Config) -> Result<bool, FormatError>
     ensures answer { MatchResult result (λ _. Accepted ps.now) (OutOfMemoryOr (Refuses ps.now)) }
     ensures output { IfOk result (λ r. IsTrue r ↔ IsOutputOf config.now.line_width config.now.indent_width ps.now ps.now) }
@@ -131,7 +131,7 @@ pub fn is_formatted(alloc: Global, ps: &str, config: &Config) -> Result<bool, Fo
 }
 
 /// Whether `a` and `b` are laid out alike: their lists without trailing commas are equal by value. Accepted texts get an
-/// answer, if memory suffices. A refusal of `a` is answered before one of `b`.
+/// answer, unless out of memory. A refusal of `a` is returned before one of `b`.
 pub fn same_layout(alloc: Global, a: &str, b: &str, config: &Config) -> Result<bool, FormatError>
     ensures answer { MatchResult result (λ _. Accepted a.now × Accepted b.now) (OutOfMemoryOr (RefusesOne a.now b.now)) }
     ensures lists { IfOk result (λ r. IsTrue r ↔ HaveEqualLists a.now b.now) }
@@ -144,8 +144,8 @@ pub fn same_layout(alloc: Global, a: &str, b: &str, config: &Config) -> Result<b
     Ok(rest.is_used_up())
 }
 
-// The layout of a policy, with a line feed. Its tokens are held against those of the policy's text. What stood on the sheet
-// is replaced.
+// The layout of a policy, with a line feed. Its tokens are compared with those of the policy's text. The previous contents
+// of the sheet are replaced.
 fn lay_out<'src>(
     sheet: &mut Sheet<'src>,
     text: &'src str,
@@ -221,7 +221,7 @@ fn clean_layout(sheet: &mut Sheet<'_>, width: usize) -> Result<String, FormatErr
     Ok(remove_empty_lines(alloc, layout.as_str())?)
 }
 
-// A line feed, where one is wanted.
+// A line feed, if one is wanted.
 fn put_feed<S: Sink>(is_wanted: bool, sink: &mut S) -> Result<(), AllocError>
     ensures { OnOk result (S.takes sink.old (if is_wanted then line_feed ∷ [] else []) sink.new) }
 {

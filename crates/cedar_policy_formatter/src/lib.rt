@@ -1,6 +1,6 @@
 //! A formatter for policies.
 //!
-//! `policies_str_to_pretty` lays a policy text out. All modules that it depends on are re-exported here, so that a user
+//! `policies_str_to_pretty` lays out a policy text. All modules it depends on are re-exported here, so that a user
 //! depends on this crate alone.
 #![tactic(auto)]
 

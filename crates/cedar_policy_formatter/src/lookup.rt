@@ -4,10 +4,10 @@ ghost use Rattle.cedar_policy_formatter.specs.Places.{line_at, column_at};
 
 use crate::places::Place;
 
-/// The line and the column of the byte `at` of the text, which is counted from 0.
+/// The line and the column of the byte `at` of the text, counted from 0.
 ///
-/// Only a line feed ends a line, and it stands on the line that it ends; a carriage return is a character like any other.
-/// A byte inside a character stands where that character begins, and one past the end where the text ends.
+/// Only a line feed ends a line, and it belongs to the line that it ends; a carriage return is a character like any other.
+/// A byte inside a character has the place where that character begins, and one past the end that where the text ends.
 pub fn place(text: &str, at: usize) -> Place
     ensures line { result.line ≡ line_at text.now at }
     ensures column { result.column ≡ column_at text.now at }

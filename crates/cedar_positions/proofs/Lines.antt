@@ -8,7 +8,7 @@ use Rattle.std.proofs.Math.ListN.{length-drop}
 use Rattle.cedar_positions.specs.declared.positions.Encoding.{Encoding}
 use Rattle.cedar_positions.specs.Positions.{BeginsLine, ends_line, lines_before, unit_count, units}
 
--- one more byte ends one line more, or none
+-- one more byte ends one more line, or none
 pub lines_before-end : (text : List ℕ) (n : ℕ) → ends_line text n ≡ true → lines_before text (n + 1) ≡ lines_before text n + 1
 lines_before-end text n h = rw (add-one, h) (omega arith)
 
@@ -23,7 +23,7 @@ lines_before-le text k (suc n) h = elim (cases_lt n k) [
   | inr within ↦ omega (arith, lines_before-le text k n within)
 ]
 
--- after a byte that ends a line the next one begins
+-- after a byte that ends a line, the next one begins
 pub BeginsLine-next : (text : List ℕ) (line i : ℕ) → i < length text → lines_before text i ≡ line → ends_line text i ≡ true → BeginsLine text (line + 1) (i + 1)
 BeginsLine-next text line i within lines ends = record {
   within = omega arith;

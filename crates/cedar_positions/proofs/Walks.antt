@@ -6,7 +6,7 @@ use Rattle.std.proofs.lemmas.Bool.{cases_lt}
 use Rattle.cedar_positions.specs.declared.positions.Encoding.{Encoding}
 use Rattle.cedar_positions.specs.Positions.{IsOnLine, IsPlaceOnLine, units}
 
--- the line goes on to i, and this is the last place before i
+-- the line continues to i, and this is the last place before i
 pub record Walked (e : Encoding) (text : List ℕ) (s character i last : ℕ) : Type 0 where
   pub from : s ≤ i
   pub no_feed : (k : ℕ) → s ≤ k → k < i → get_or text k 0 ≢ 10
@@ -23,7 +23,7 @@ pub record IsPlaceUpTo (e : Encoding) (text : List ℕ) (s character i last : �
   pub reached : units e (slice_range text s last) ≤ character
   pub passed : (j : ℕ) → last < j → j ≤ i → IsOnLine text s j → character < units e (slice_range text s j)
 
--- the place that the walk has come to is one of the line, if a character begins there
+-- the place reached by the walk is one of the line, if a character begins there
 on_line : (e : Encoding) (text : List ℕ) (s character i last : ℕ) → Walked e text s character i last → IsCharBoundary text i → IsOnLine text s i
 on_line e text s character i last w boundary = record { from = w.from; boundary = boundary; no_feed = w.no_feed; no_return = w.no_return }
 
@@ -43,7 +43,7 @@ Walked-kept e text s character i last w above = record {
   ];
 }
 
--- where the line goes on
+-- where the line continues
 pub Walked-next : (e : Encoding) (text : List ℕ) (s character i last next : ℕ) → Walked e text s character i last → IsPlaceUpTo e text s character i next → get_or text i 0 ≢ 10 → get_or text i 0 ≢ 13 → Walked e text s character (i + 1) next
 Walked-next e text s character i last next w p feed return = record {
   from = omega (arith, w.from);

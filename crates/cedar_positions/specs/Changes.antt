@@ -6,11 +6,11 @@ use Rattle.cedar_positions.specs.declared.changes.Range.{Range}
 use Rattle.cedar_positions.specs.declared.positions.Encoding.{Encoding}
 use Rattle.cedar_positions.specs.Positions.{IsOffsetOf}
 
--- the text with these bytes in the place of those from a on and before b
+-- the text with these bytes in place of those from a on and before b
 abbrev pub replaced : List ℕ → ℕ → ℕ → List ℕ → List ℕ
 replaced text a b put = take a text ++ put ++ drop (max a b) text
 
--- the new text has these bytes in the place of the range in the old one
+-- the new text has these bytes in place of the range in the old one
 abbrev pub Puts : Encoding → Range → List ℕ → List ℕ → List ℕ → Type 0
 Puts e r put old new = (a b : ℕ) × IsOffsetOf e old r.start a × IsOffsetOf e old r.end b × (new ≡ replaced old a b put)
 

@@ -1,4 +1,4 @@
--- What holds of positions.
+-- Laws of positions.
 use Rattle.std.specs.Prelude.{◌≡◌, ℕ, ◌-◌, ◌<◌, List, slice_index}
 use Rattle.std.specs.Str.{IsCharBoundary}
 use Rattle.cedar_positions.specs.declared.positions.Encoding.{Encoding}
@@ -9,7 +9,7 @@ use Rattle.cedar_positions.specs.Positions.{IsOffsetOf, IsPositionAt}
 abbrev pub IsInLineEnd : List ℕ → ℕ → Type 0
 IsInLineEnd text at = (0 < at) × (slice_index text (at - 1) ≡ 13) × (slice_index text at ≡ 10)
 
--- the byte of the position of a byte is that byte, if a character begins there, or the text ends, and it is in no line's end
+-- the byte of the position of a byte is that byte, if a character begins or the text ends there, and it is not inside a line's end
 abbrev pub PositionsAreFound : Type 0
 PositionsAreFound = (e : Encoding) (text : List ℕ) (at : ℕ) (p : Position) → IsCharBoundary text at → ¬ (IsInLineEnd text at) → IsPositionAt e text at p → IsOffsetOf e text p at
 

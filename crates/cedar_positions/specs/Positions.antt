@@ -14,13 +14,13 @@ abbrev pub lines_before : List ℕ → ℕ → ℕ
 lines_before text zero = 0
 lines_before text (suc n) = (if ends_line text n then 1 else 0) + lines_before text n
 
--- the line of this number, counted from 0, begins at s: the first place before which so many lines end
+-- the line with this number, counted from 0, begins at s: the first place before which so many lines end
 pub record BeginsLine (text : List ℕ) (line s : ℕ) : Type 0 where
   pub within : s ≤ length text
   pub lines : lines_before text s ≡ line
   pub first : (k : ℕ) → k < s → lines_before text k < line
 
--- the units that a byte adds: in UTF-8 it is one itself; in UTF-16 two for the first byte of a character of four bytes, one for
+-- the units that a byte adds: in UTF-8 always one; in UTF-16 two for the first byte of a character of four bytes, one for
 -- that of any other, and none for the other bytes of a character
 abbrev pub unit_count : Encoding → ℕ → ℕ
 unit_count Utf8 b = 1
@@ -36,7 +36,7 @@ pub record IsCharacterAt (text : List ℕ) (at kept : ℕ) : Type 0 where
   pub boundary : IsCharBoundary text kept
   pub nearest : (j : ℕ) → kept < j → j ≤ at → ¬ (IsCharBoundary text j)
 
--- the position of a place: so many lines end before it, and so many units stand before it on its line
+-- the position of a place: so many lines end before it, and so many units come before it on its line
 pub record IsPositionOf (e : Encoding) (text : List ℕ) (at : ℕ) (p : Position) : Type 0 where
   pub start : ℕ
   pub begins : BeginsLine text p.line start
@@ -44,7 +44,7 @@ pub record IsPositionOf (e : Encoding) (text : List ℕ) (at : ℕ) (p : Positio
   pub line : lines_before text at ≡ p.line
   pub character : p.character ≡ units e (slice_range text start at)
 
--- the position of a byte: that of the character that it belongs to
+-- the position of a byte: that of the character it belongs to
 abbrev pub IsPositionAt : Encoding → List ℕ → ℕ → Position → Type 0
 IsPositionAt e text at p = (kept : ℕ) × IsCharacterAt text at kept × IsPositionOf e text kept p
 

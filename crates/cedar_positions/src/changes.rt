@@ -17,11 +17,11 @@ pub struct Range {
 pub enum Change {
     /// This is the whole text from now on.
     Whole(String),
-    /// This text stands in the place of a range. A range that ends before it begins is empty, and stands where it begins.
+    /// This text replaces a range. A range that ends before it begins is empty, and is where it begins.
     Part { range: Range, text: String },
 }
 
-/// The text after these changes, each made in the text that the one before it made. An error is out of memory alone.
+/// The text after these changes, each applied to the result of the one before it. The only error is out of memory.
 pub fn changed_text(
     alloc: Global,
     text: &str,
@@ -54,7 +54,7 @@ fn make(
     }
 }
 
-// The text with another one in the place of a range.
+// The text with a range replaced by another text.
 fn replace(
     alloc: Global,
     text: &str,

@@ -1,7 +1,7 @@
-//! What holds of positions. The functions do nothing: their contracts are the laws.
+//! Laws of positions. The functions do nothing: their contracts are the laws.
 ghost use Rattle.cedar_positions.specs.Laws.{OffsetsAreDetermined, PositionsAreFound};
 
-/// The byte of the position of a byte is that byte, if a character begins there, or the text ends, and it isn't between a
+/// The byte of the position of a byte is that byte, if a character begins or the text ends there, and it isn't between a
 /// carriage return and its line feed.
 pub fn positions_are_found()
     ensures { PositionsAreFound }

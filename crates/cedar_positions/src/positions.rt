@@ -3,7 +3,7 @@ ghost use Rattle.std.specs.Prelude.{◌≡◌, ◌<◌, ◌≤◌, length, IfSom
 ghost use Rattle.std.specs.Str.{IsCharBoundary};
 ghost use Rattle.cedar_positions.specs.Positions.{BeginsLine, IsOffsetOf, IsPlaceOnLine, IsPositionAt, ends_line, lines_before, unit_count, units};
 
-/// What the characters of a line are counted in.
+/// The unit in which the characters of a line are counted.
 #[derive(Clone, Copy, PartialEq, Eq, Debug)]
 pub enum Encoding {
     /// UTF-16 units: two for a character above U+FFFF, and one for any other.
@@ -21,10 +21,10 @@ pub struct Position {
     pub character: usize,
 }
 
-/// The position of the byte `at` of the text, which is counted from 0.
+/// The position of the byte `at` of the text, counted from 0.
 ///
-/// A byte inside a character stands where that character begins, and one past the end where the text ends. A line feed that
-/// follows a carriage return stands on the line that both end.
+/// A byte inside a character has the position where that character begins, and one past the end that where the text ends. A
+/// line feed that follows a carriage return is on the line that both end.
 pub fn position_at(text: &str, at: usize, encoding: Encoding) -> Position
     ensures { IsPositionAt encoding text.now at result }
 {
@@ -39,8 +39,8 @@ pub fn position_at(text: &str, at: usize, encoding: Encoding) -> Position
 
 /// The byte of a position, counted from 0.
 ///
-/// A line past the last one is the text's end. A character past the line's end is that end, before what ends the line, and one
-/// inside a character of several units is where that character begins.
+/// A line past the last one means the end of the text. A character past the end of the line means that end, before what ends
+/// the line, and one inside a character of several units means where that character begins.
 pub fn offset_at(text: &str, position: Position, encoding: Encoding) -> usize
     ensures offset { IsOffsetOf encoding text.now position result }
     ensures boundary { IsCharBoundary text.now result }

@@ -1,4 +1,4 @@
--- What the clauses of streams tell of a check of the program.
+-- What the clauses of streams say about a check by the program.
 use Rattle.std.proofs.Common.{◌≡◌, ◌++◌, ℕ, List, Bool, true, false, Option, Some, None, Ok, refl, sym, ap, ◌∙◌, append-nil, inl, inr}
 use Rattle.cedar_streams.specs.Texts.{GivesText}
 use Rattle.cedar_grammar.specs.Texts.{Accepted}
@@ -6,7 +6,7 @@ use Rattle.cedar_documents.specs.declared.config.Config.{Config}
 use Rattle.cedar_policy_formatter.specs.Streams.{TellsCheck}
 use Rattle.cedar_program_run.specs.Runs.{Checks, IsRead}
 
--- a text that was given to its end is all that there was
+-- a text that was given to its end is all there was
 read_of : (known new : Option (List ℕ)) (x : List ℕ) → GivesText known new x → Accepted x → IsRead known x
 read_of None new x g a = (tt, g.1, a)
 read_of (Some xs) None x g a = absurd g.0.0

@@ -13,12 +13,12 @@ number_of text = digits_value 10 (without_leading_plus text)
 abbrev pub IsNumber : Text → Type 0
 IsNumber text = IsNumeral 10 (without_leading_plus text) × (number_of text < 2 ^ 16)
 
--- this number where none is given, and else the given one; nothing is given by a text that is no number, which clap refuses
+-- this number if none is given, and otherwise the given one; a text that is no number, which clap refuses, gives nothing
 abbrev pub IsNumberOr : ℕ → Option Text → ℕ → Type 0
 IsNumberOr n None m = m ≡ n
 IsNumberOr n (Some text) m = (IsNumber text × (m ≡ number_of text)) ⊎ (¬ (IsNumber text) × (m ≡ n))
 
--- the options that the matches of `format` name; 80 columns a line and 2 a level, if nothing else is named
+-- the options that the matches of `format` name; by default 80 columns per line and 2 per level
 pub record HasOptions (rows : List Row) (o : Options) : Type 0 where
   pub file : option_map (λ name. name.now) o.file ≡ first_of (codes "file") rows
   pub width : IsNumberOr 80 (one_of (codes "width") rows) o.config.line_width

@@ -13,7 +13,7 @@ use Rattle.cedar_program_words.specs.CommandLine.{HasFault}
 use Rattle.cedar_program_run.specs.Options.{AskFor}
 use Rattle.cedar_program_run.specs.declared.options.Options.{Options}
 
--- what is known of the text: of a named file's nothing
+-- what is known of the text: nothing for a named file
 abbrev pub known_text : Options → Option (List ℕ) → Option (List ℕ)
 known_text o given = if is_some o.file then None else given
 
@@ -40,23 +40,23 @@ RunsBy false c known held holds failed flushed status = Formats c known held hol
 abbrev pub RunsTo : Options → Option (List ℕ) → Option (List ℕ) → Option (List ℕ) → Bool → Bool → ℕ → Type 0
 RunsTo o known held holds failed flushed status = RunsBy o.only_checks o.config known held holds failed flushed status
 
--- a fault comes to status 1
+-- a fault gives status 1
 abbrev pub status_of : {E : Type 0} → Result ℕ E → ℕ
 status_of (Ok status) = status
 status_of (Err _) = 1
 
--- asked help: 0, and what was written is flushed; or 1
+-- requested help: 0, and what was written is flushed; or 1
 abbrev pub Helps : Bool → ℕ → Type 0
 Helps flushed status = ((status ≡ 0) × IsTrue flushed) ⊎ (status ≡ 1)
 
--- the status where there is no run: 1 without memory, 0 or 1 for help and the version, 2 for a fault; only they are written
+-- the status if there is no run: 1 if out of memory, 0 or 1 for help and the version, 2 for a fault; only they are written
 abbrev pub AnswersKind : ErrorKind → Option (List ℕ) → Option (List ℕ) → Bool → ℕ → Type 0
 AnswersKind OutOfMemory held holds flushed status = (status ≡ 1) × Keeps held holds
 AnswersKind DisplayHelp held holds flushed status = Helps flushed status
 AnswersKind DisplayVersion held holds flushed status = Helps flushed status
 AnswersKind _ held holds flushed status = (status ≡ 2) × Keeps held holds
 
--- the words ask for a run, and it goes as it should; or they don't
+-- either the words ask for a run, and it goes as it should, or they don't
 abbrev pub AnswersWords : List Text → Option (List ℕ) → Option (List ℕ) → Option (List ℕ) → Bool → Bool → ℕ → Type 0
 AnswersWords words given held holds failed flushed status =
     ((o : Options) × AskFor words o × RunsTo o (known_text o given) held holds failed flushed status)

@@ -13,7 +13,7 @@ use run::{MISUSED, tell_memory};
 use std::io;
 use std::io::{ErrorKind, Write};
 
-/// Says why the words of the command line can't be had, and answers the status: 2 where one isn't UTF-8, 1 for want of
+/// Says why the words of the command line can't be read, and returns the status: 2 if one isn't UTF-8, 1 if out of
 /// memory.
 pub fn tell_unread_words<E: Write>(error: &io::Error, errors: &mut E) -> u8
     ensures not_utf8 { error_kind error.now ≡ ErrorKind.InvalidData → result ≡ 2 }

@@ -9,10 +9,10 @@ use cedar_program_words::{HelpTexts, match_words};
 use clap::{ArgMatches, Error};
 use std::alloc::Global;
 
-/// What a run is asked for.
+/// What is asked of a run.
 #[derive(Drop)]
 pub struct Options<'a> {
-    /// The file that is read; standard input where there is none.
+    /// The file to read; standard input if there is none.
     pub file: Option<&'a str>,
     /// How the text is laid out.
     pub config: Config,

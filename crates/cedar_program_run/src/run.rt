@@ -24,11 +24,11 @@ pub(crate) const MISUSED: u8 = 2;
 // A text that is accepted and not formatted.
 const UNFORMATTED: u8 = 3;
 
-/// Runs the program on `words`, which begin with its name, and answers its exit status.
+/// Runs the program on `words`, which begin with its name, and returns its exit status.
 ///
-/// Formatted text and asked help go to `output`; everything else goes to `errors`. Faults are found in this order:
-/// command line, reading, text that isn't UTF-8, refusal, writing. A fault's text that can't be written changes no
-/// status. With `--check` nothing of the policies is written, and the status says whether they are formatted.
+/// Formatted text and requested help go to `output`; everything else goes to `errors`. Faults are found in this order:
+/// command line, reading, text that isn't UTF-8, refusal, writing. Failing to write the text of a fault changes no
+/// status. With `--check` no policies are written, and the status says whether they are formatted.
 pub fn run_words<R: Files + AllocGlobal, I: Read + Drop, O: Write, E: Write>(
     rt: &R,
     words: &[String],
@@ -69,8 +69,8 @@ fn answer_words<O: Write, E: Write>(error: &Error, output: &mut Watched<O>, erro
     DONE
 }
 
-/// Runs on the file that the options name, or on `input`, and answers the exit status: 0 where the output was written, or
-/// with `--check` where the text is its own; 3 where it is accepted and isn't; 1 for every fault, whose text goes to `errors`.
+/// Runs on the file that the options name, or on `input`, and returns the exit status: 0 if the output was written, or
+/// with `--check` if the text is its own; 3 if it is accepted and isn't; 1 for every fault, whose text goes to `errors`.
 ///
 /// Nothing is written to `output` before the text is read and accepted, and with `--check` nothing at all.
 pub fn run_options<R: Files + AllocGlobal, I: Read + Drop, O: Write, E: Write>(
@@ -156,14 +156,14 @@ fn check<I: Read>(alloc: Global, config: &Config, input: &mut Watched<I>) -> Res
     }
 }
 
-// Says that memory is wanting.
+// Reports out of memory.
 pub(crate) fn tell_memory<E: Write>(errors: &mut E) -> u8
     ensures { result ≡ 1 }
 {
     fail(RunFault::Format(FormatError::OutOfMemory), None, errors)
 }
 
-// Writes the fault's text, and answers the status. `file` names what was read.
+// Writes the text of the fault, and returns the status. `file` names what was read.
 fn fail<E: Write>(fault: RunFault, file: Option<&str>, errors: &mut E) -> u8
     ensures { result ≡ 1 }
 {

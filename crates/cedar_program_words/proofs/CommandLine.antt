@@ -1,4 +1,4 @@
--- What clap says of this command line's words.
+-- What clap says about this command line's words.
 use Rattle.std.proofs.Common.{◌≡◌, ◌∙◌, ap, sym, subst, refl, true, List, Result, Ok, Err, IfOk, MatchResult}
 use Rattle.clap.specs.Words.{App, FailsBy, HasKind, Text, fault_of, is_simple, is_simple_and_free, kind_of, subcommand_of}
 use Rattle.clap.specs.Simple.{HasMatchesOf}

@@ -23,7 +23,7 @@ check_rule = record (new_rule (codes "check")) { short = Some 99; long = Some (c
 abbrev pub format_app : App
 format_app = with_rule (with_rule (with_rule (with_rule (new_app (codes "format")) file_rule) (number_rule (codes "indent") 105 (codes "indent-width"))) (number_rule (codes "width") 108 (codes "line-width"))) check_rule
 
--- `cedar` with its version, without a subcommand `help`, which needs a subcommand
+-- `cedar` with its version, no `help` subcommand, and a required subcommand
 abbrev pub bare_app : App
 bare_app = let a = new_app (codes "cedar") in record { top = record a.top { subcommand_required = true; disable_help_subcommand = true; has_version = true }; subs = a.subs }
 
@@ -34,6 +34,6 @@ cedar_app = with_subcommand bare_app format_app.top
 abbrev pub HasMatches : List Text → ArgMatches → Type 0
 HasMatches words m = (fault_of cedar_app words ≡ []) × (subcommand_rows_of m ≡ subcommand_of cedar_app words)
 
--- the words are refused, or ask for help or the version; or memory is wanting
+-- the words are refused, or ask for help or the version; or out of memory
 abbrev pub HasFault : List Text → ErrorKind → Type 0
 HasFault words kind = (kind ≡ OutOfMemory) ⊎ IsAmong kind (fault_of cedar_app words)

@@ -8,7 +8,7 @@ use clap::{Arg, ArgAction, ArgMatches, Command, Error, value_parser};
 use std::alloc::{AllocError, Global};
 
 /// The version: the number of the Rust crate that this is a port of, the project's own (the file `VERSION`), and the kit that
-/// proves it (the file `KIT`). `tools/version` holds it against both files.
+/// proves it (the file `KIT`). `tools/version` checks it against both files.
 pub const VERSION: &str =
     "4.14.1 (noblesilk 1.0.0, proved with rattle-kit-13b logic dac8208d650f15bf)";
 
@@ -89,7 +89,7 @@ fn number_arg<'a>(alloc: Global, id: &'a str, letter: char, name: &'a str, help:
         .help(help)
 }
 
-// The flag that asks for a check alone.
+// The flag that only checks.
 fn check_arg<'a>(alloc: Global) -> Arg<'a>
     ensures rule { rule_of result ≡ check_rule }
     ensures local { result.global ≡ false }
@@ -101,7 +101,7 @@ fn check_arg<'a>(alloc: Global) -> Arg<'a>
         .help("Only say whether the policies are formatted: status 0 if they are, 3 if they aren't")
 }
 
-/// What stands behind `cedar format` in the words, which begin with the program's name; or why they are refused, or
+/// What follows `cedar format` in the words, which begin with the program's name; or why they are refused, or
 /// the help or the version that they ask for.
 pub fn match_words<'a>(
     alloc: Global,

@@ -1,4 +1,4 @@
--- The pieces of a text, one after the other, and what stands between them.
+-- The pieces of a text, one after another, and what is between them.
 use Rattle.std.proofs.Common.{◌≡◌, ◌≤◌, ◌+◌, ℕ, List, [], ◌∷◌, ◌++◌, length, take, drop, refl, ap, sym, ◌∙◌, subst, arith, inl, inr, append_assoc, append-nil}
 use Rattle.std.specs.Prelude.{codes}
 use Rattle.std.specs.List.{list_any, sum_by, concat, AllByRecursion}
@@ -28,7 +28,7 @@ use Rattle.cedar_ranges.proofs.Feeds.{empty_accepted}
 
 -- ---- places between pieces
 
--- a piece of an accepted text is accepted, and so is what stands after it
+-- a piece of an accepted text is accepted, and so is what follows it
 accepted_parts : (text : List ℕ) (n : ℕ) → IsPiece text n → Accepted text → Accepted (take n text) × Accepted (drop n text)
 accepted_parts text n p (f, a) =
     let u = piece_units text n a.units p a.split in
@@ -40,7 +40,7 @@ accepted_parts text n p (f, a) =
       (q.1.0, is_accepted (drop n text) q.1.0 u.0 u.3 fits.1 q.1.1),
     )
 
--- what stands before a place of an accepted text is accepted, and so is what stands after it
+-- what comes before a place of an accepted text is accepted, and so is what follows it
 pub place_accepted : (text : List ℕ) (n : ℕ) → EndsPiece text n → Accepted text → Accepted (take n text) × Accepted (drop n text)
 place_accepted text n (inl e) a = (subst (λ k. Accepted (take k text)) (sym e) empty_accepted, subst (λ k. Accepted (drop k text)) (sym e) a)
 place_accepted text n (inr p) a = accepted_parts text n p a
@@ -49,7 +49,7 @@ pub place_inside : (text : List ℕ) (n : ℕ) → EndsPiece text n → n ≤ le
 place_inside text n (inl e) = omega (arith, e)
 place_inside text n (inr p) = piece_inside text n p
 
--- behind a further piece is a place too
+-- after another piece there is a place too
 pub place_more : (text : List ℕ) (at n : ℕ) → EndsPiece text at → IsPiece (drop at text) n → EndsPiece text (at + n)
 place_more text at n (inl e) q = inr (subst (λ k. IsPiece text k) (omega (arith, e)) (subst (λ k. IsPiece (drop k text) n) e q))
 place_more text at n (inr p) q = inr (piece_more text at n p q)
@@ -63,7 +63,7 @@ place_boundary text n (inr p) u (f, a) =
     let bytes : take n text ≡ concat (units_of p) = scans_concat (units_of p) (take n text) [] (piece_splits text n p) ∙ append-nil (concat (units_of p)) in
     IsCharBoundary-from_take text n u (piece_inside text n p) (subst IsUtf8 (sym bytes) (concat_utf8 (units_of p) front))
 
--- ---- pieces one after the other
+-- ---- pieces one after another
 
 dropped : (text : List ℕ) (p : List ℕ) (ps : List (List ℕ)) → drop (sum_by length ps) (drop (length p) text) ≡ drop (sum_by length (p ∷ ps)) text
 dropped text p ps = drop-drop (sum_by length ps) (length p) text ∙ ap (λ k. drop k text) (omega (arith, sum_by-cons length p ps))
@@ -83,7 +83,7 @@ pub chain_more : (ps : List (List ℕ)) (p text rest : List ℕ) → ArePieces p
 chain_more [] p text rest s f e = (subst (λ z. IsFirstPiece z (length p)) (sym s) f, subst (λ z. p ≡ take (length p) z) (sym s) e, ap (drop (length p)) s)
 chain_more (q ∷ ps) p text rest s f e = (s.0, s.1, chain_more ps p (drop (length q) text) rest s.2 f e)
 
--- pieces are a piece together
+-- consecutive pieces together are a piece
 pub chain_piece : (p : List ℕ) (ps : List (List ℕ)) (text rest : List ℕ) → ArePieces (p ∷ ps) text rest → IsPiece text (sum_by length (p ∷ ps))
 chain_piece p [] text rest s = let e : length p ≡ sum_by length (p ∷ []) = omega (arith, sum_by-cons length p []) in subst (IsPiece text) e s.0.piece
 chain_piece p (q ∷ ps) text rest s =

@@ -1,4 +1,4 @@
--- What an edit that lays out pieces of a text keeps of it.
+-- What an edit that lays out pieces of a text preserves.
 use Rattle.std.proofs.Common.{◌≡◌, ◌≤◌, ◌<◌, ◌+◌, ◌-◌, ℕ, ℤ, List, [], ◌∷◌, ◌++◌, length, take, drop, ap, sym, ◌∙◌, subst, arith, inl, inr}
 use Rattle.std.specs.Prelude.{◌⊎◌}
 use Rattle.std.specs.List.{sum_by}
@@ -18,7 +18,7 @@ use Rattle.cedar_ranges.proofs.Chains.{chain_parts, chain_place, chain_piece, pl
 use Rattle.cedar_ranges.proofs.Keeping.{Alike, equal_lists, laid_out_alike, same_alike}
 use Rattle.cedar_ranges.proofs.Standing.{stands_in_output}
 
--- what a range touches are whole pieces
+-- a range touches whole pieces
 pub touched_pieces : (text : List ℕ) (range span : Span) → IsTouchedSpan text range span → HoldsPieces text span
 touched_pieces text range span t = record { first = subst (EndsPiece text) (sym t.start) (chain_place t.before text (drop (sum_by length t.before) text) before.0); pieces = go t.touched inner.0 t.end }
   where
@@ -64,7 +64,7 @@ pieces_of text span h l = elim h.pieces [ inl e ↦ absurd (omega (arith, l, e))
 pub pieces_accepted : (text : List ℕ) (span : Span) → Accepted text → HoldsPieces text span → span.start < span.end → Accepted (within text span)
 pieces_accepted text span a h l = (place_accepted (drop span.start text) (span.end - span.start) (inr (pieces_of text span h l)) (place_accepted text span.start h.first a).1).0
 
--- what is laid out of a span
+-- what is laid out for a span
 pub lays_out : (w : ℕ) (i : ℤ) (text : List ℕ) (span : Span) (out bytes : List ℕ) → IsUtf8 text → Accepted text → HoldsPieces text span → span.start < span.end → IsOutputOf w i (within text span) out → bytes ≡ feeds_after (take span.start text) ++ out → LaysOut w i text span bytes
 lays_out w i text span out bytes u a h l o e = record {
   out = out;
@@ -73,7 +73,7 @@ lays_out w i text span out bytes u a h l o e = record {
   parted = e;
 }
 
--- the text with the edit made is accepted and has the list of the text
+-- the text with the edit applied is accepted and has the list of the text
 pub edit_alike : (w : ℕ) (i : ℤ) (text : List ℕ) (range span : Span) (bytes : List ℕ) → IsUtf8 text → Accepted text → IsTouchedSpan text range span → LaysOutPolicies w i text span bytes → Alike text (edited text span bytes)
 edit_alike w i text range span bytes u a t (inl (e, n)) =
     let same : text ≡ edited text span bytes = sym (take-append-drop span.start text) ∙ (ap (λ k. take span.start text ++ drop k text) e ∙ ap (λ z. take span.start text ++ (z ++ drop span.end text)) (sym n)) in

@@ -1,4 +1,4 @@
--- Texts that end in a line feed, and texts with a line feed between.
+-- Texts that end in a line feed, and texts joined by a line feed.
 use Rattle.std.proofs.Common.{◌≡◌, ◌<◌, ℕ, Bool, true, false, cond, ◌||◌, ◌==◌, List, [], ◌∷◌, ◌++◌, length, drop, refl, ap, sym, ◌∙◌, subst, arith, inl, inr, append_assoc, append-nil, length-append}
 use Rattle.std.specs.Prelude.{◌⊎◌}
 use Rattle.std.specs.List.{list_any}
@@ -66,7 +66,7 @@ pub front_splits : (us : List (List ℕ)) (x : List ℕ) → SplitsInto (x ++ (1
 front_splits [] x s = absurd (no_bytes x s)
 front_splits (u ∷ us) x s = go (past x u s.0.begins) (λ t. front_splits us t)
   where
-    -- a unit of the text lies within the front, or is all of the text
+    -- a unit of the text lies within the first part, or is all of the text
     past : (x u : List ℕ) → BeginsWith (x ++ (10 ∷ [])) u → BeginsWith x u ⊎ (u ≡ x ++ (10 ∷ []))
     past x [] g = inl (x, refl)
     past [] (c ∷ u) (r, e) = let f : 10 ≡ c = cc in let n : [] ≡ u ++ r = cc in inr (ap (λ z. z ∷ u) (sym f) ∙ ap (λ z. 10 ∷ z) (none u r n))
@@ -100,7 +100,7 @@ empty_list : IsListing [] (record { tokens = []; closing = [] })
 unfolding listing decorate gaps
 empty_list = record { units = []; split = refl; value = ap (λ z. record { tokens = []; closing = z }) (sym comments_nil) }
 
--- a line feed at its end is none of a text's list
+-- a line feed at the end of a text is not in its list
 pub front_list : (x : List ℕ) (l : Listing) → IsListing (x ++ (10 ∷ [])) l → IsListing x l
 front_list x l s =
     let f = front_splits s.units x s.split in
@@ -109,7 +109,7 @@ front_list x l s =
     let same : l ≡ m = listing_unique (x ++ (10 ∷ [])) l (follow m (record { tokens = []; closing = [] })) s (joined x [] m (record { tokens = []; closing = [] }) is_m empty_list) ∙ none_follow m in
     subst (IsListing x) (sym same) is_m
 
--- behind a list without closing comments stands the other
+-- after a list without closing comments comes the other
 follow_closed : (ts : List Decorated) (m : Listing) → follow (record { tokens = ts; closing = [] }) m ≡ record { tokens = ts ++ m.tokens; closing = m.closing }
 follow_closed ts m = go m.tokens m.closing
   where
@@ -134,7 +134,7 @@ feed_fits = refl
 fitting_fed : (us vs : List (List ℕ)) → list_any is_too_large us ≡ false → list_any is_too_large vs ≡ false → list_any is_too_large (us ++ ((10 ∷ []) ∷ vs)) ≡ false
 fitting_fed us vs a b = list_any-append is_too_large us ((10 ∷ []) ∷ vs) ∙ (ap (λ z. z || (is_too_large (10 ∷ []) || list_any is_too_large vs)) a ∙ (ap (λ z. z || list_any is_too_large vs) feed_fits ∙ b))
 
--- accepted texts with a line feed between are accepted
+-- accepted texts joined by a line feed are accepted
 pub fed_accepted : (x y : List ℕ) → Accepted x → Accepted y → Accepted (x ++ (10 ∷ y))
 fed_accepted x y (f, a) (g, b) =
     let us = a.units ++ ((10 ∷ []) ∷ b.units) in

@@ -1,4 +1,4 @@
--- A text keeps its list where pieces of it are laid out.
+-- A text keeps its list when pieces of it are laid out.
 use Rattle.std.proofs.Common.{◌≡◌, ◌<◌, ◌+◌, ℕ, ℤ, Bool, true, false, cond, List, [], ◌∷◌, ◌++◌, length, take, drop, map, refl, ap, sym, ◌∙◌, subst, arith, inl, inr, append_assoc, append-nil}
 use Rattle.std.specs.Prelude.{◌==◌, codes}
 use Rattle.std.specs.List.{AllByRecursion}
@@ -72,7 +72,7 @@ has_last : (ts : List Decorated) (t : Decorated) → ts ++ (t ∷ []) ≡ [] →
 has_last [] t h = absurd cc
 has_last (x ∷ ts) t h = absurd cc
 
--- ---- a piece laid out in its place
+-- ---- a piece laid out in place
 
 module _ (w : ℕ) (i : ℤ) (text : List ℕ) (n : ℕ) (out : List ℕ) (accepted : Accepted text) (p : IsPiece text n) (utf8 : IsUtf8 (take n text)) (o : IsOutputOf w i (take n text) out) where
   abbrev front : List ℕ
@@ -133,7 +133,7 @@ module _ (w : ℕ) (i : ℤ) (text : List ℕ) (n : ℕ) (out : List ℕ) (accep
         keeps = subst Accepted whole (fed_accepted front rest (front_accepted front (subst Accepted bytes (output_accepted w i (take n text) out utf8 o))) rest_accepted);
       }
 
--- ---- what stands before stays
+-- ---- what comes before stays
 
 fed_alike : (x y : List ℕ) → Alike x y → Alike x (10 ∷ y)
 fed_alike x y k = record {
@@ -167,7 +167,7 @@ behind_alike text n y a p k =
       keeps = fed_accepted (take n text) y front_accepted k.keeps;
     }
 
--- after what stands before, the line feeds of an empty line may come
+-- after what comes before, the line feeds of an empty line may come
 parted_alike : (text : List ℕ) (n : ℕ) (b : ℕ) (bs y : List ℕ) → take n text ≡ b ∷ bs → Accepted text → IsPiece text n → Alike (drop n text) y → Alike text (take n text ++ (feeds_after (take n text) ++ y))
 parted_alike text n b bs y e a p k = subst (λ z. Alike text (take n text ++ (feeds_after z ++ y))) (sym e) (go (last_byte_or b bs == 10))
   where

@@ -8,7 +8,7 @@ last_byte : (b : ℕ) (bs : List ℕ) → get_or (b ∷ bs) (length bs) 0 ≡ la
 last_byte b [] = refl
 last_byte b (c ∷ bs) = last_byte c bs
 
--- one line feed at a line's start, and else two
+-- one line feed at the start of a line, and otherwise two
 pub feeds_by_test : (before : List ℕ) (empty ends : Bool) → empty ≡ (length before == 0) → empty ≡ false → ends ≡ (slice_index before (length before - 1) == 10) → feeds_after before ≡ cond ends (10 ∷ []) (10 ∷ (10 ∷ []))
 feeds_by_test [] empty ends e f h = absurd (let z : false ≡ true = sym f ∙ e in cc)
 feeds_by_test (b ∷ bs) empty ends e f h =

@@ -1,4 +1,4 @@
--- Policies begin with no closing bracket, so no list of an accepted text begins with a trailing comma.
+-- Policies do not begin with a closing bracket, so no list of an accepted text begins with a trailing comma.
 use Rattle.std.proofs.Common.{◌≡◌, ℕ, Bool, true, false, ◌||◌, List, [], ◌∷◌, ◌++◌, refl, ap, arith, sym, ◌∙◌, subst}
 use Rattle.std.specs.Prelude.{IsTrue, nat_eq, nat_lt}
 use Rattle.std.specs.List.{AllByRecursion}

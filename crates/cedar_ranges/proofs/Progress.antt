@@ -65,7 +65,7 @@ module _ (text : List ℕ) (range span : Span) (at : ℕ) (t : TouchedSoFar text
   sums : at ≡ span.end + sum_by length t.after
   sums = omega (arith, t.read, t.start, t.end, sum_by-append length t.before (t.touched ++ t.after), sum_by-append length t.touched t.after)
 
-  -- the range starts no later than what it touches, and where it ends before a piece, that one isn't the next
+  -- the range starts no later than what it touches, and if it ends before a piece, that one isn't the next
   some_touched : (ts : List (List ℕ)) → ts ≡ t.touched → (range.start < at) ⊎ (ts ≡ [])
   some_touched [] e = inr refl
   some_touched (q ∷ qs) e = inl (let m = subst (EachPiece (Touches range) span.start) (sym e) t.met in omega (arith, m.0.0, sums, t.end, ap (sum_by length) e, sum_by-cons length q qs))

@@ -1,4 +1,4 @@
--- What is laid out of a text stands in its output.
+-- What is laid out of a text is found in its output.
 use Rattle.std.proofs.Common.{◌≡◌, ℕ, ℤ, List, [], ◌∷◌, ◌++◌, take, drop, map, refl, ap, sym, ◌∙◌, subst, inl, inr, append_assoc}
 use Rattle.std.specs.Str.{IsUtf8}
 use Rattle.std.proofs.lemmas.Str.{IsUtf8-take, IsUtf8-drop}
@@ -39,7 +39,7 @@ has_last : (ts us : List Decorated) (t : Decorated) → (ts ++ (t ∷ [])) ++ us
 has_last [] us t h = absurd cc
 has_last (x ∷ ts) us t h = absurd cc
 
--- pieces laid out stand in the output of the text
+-- pieces laid out are found in the output of the text
 pub stands_in_output : (w : ℕ) (i : ℤ) (text : List ℕ) (start len : ℕ) (out : List ℕ) → IsUtf8 text → Accepted text → EndsPiece text start → IsPiece (drop start text) len → IsOutputOf w i (take len (drop start text)) out → StandsInOutput w i text out
 stands_in_output w i text start len out u a s p o whole h = go s
   where

@@ -1,3 +1,3 @@
--- What only private contracts cite.
+-- Definitions used only by private contracts.
 pub mod Growing
 pub mod Parts

@@ -1,4 +1,4 @@
--- What edits that keep the list of a text keep of its output.
+-- What edits that preserve the list of a text preserve of its output.
 use Rattle.std.specs.Prelude.{ℕ, ℤ, List}
 use Rattle.std.specs.Str.{IsUtf8}
 use Rattle.cedar_grammar.specs.Texts.{Accepted}
@@ -9,6 +9,6 @@ use Rattle.cedar_policy_formatter.specs.Compared.{HaveEqualLists}
 abbrev pub EqualListsHaveOneOutput : Type 0
 EqualListsHaveOneOutput = (w : ℕ) (i : ℤ) (x y z : List ℕ) → IsUtf8 x → IsUtf8 y → Accepted y → HaveEqualLists x y → IsOutputOf w i x z → IsOutputOf w i y z
 
--- a text has the list of the first where it has the list of one that has it
+-- a text has the list of the first if it has the list of one that has it
 abbrev pub EqualListsFollow : Type 0
 EqualListsFollow = (x y z : List ℕ) → HaveEqualLists x y → HaveEqualLists y z → HaveEqualLists x z

@@ -4,7 +4,7 @@ use Rattle.std.specs.List.{sum_by}
 use Rattle.cedar_tokens.specs.declared.token.Span.{Span}
 use Rattle.cedar_pieces.specs.Pieces.{IsFirstPiece, HasNoPiece}
 
--- the text is these pieces, each the first of what stands from it on, and then the rest
+-- the text is these pieces, each the first one of the text from there on, and then the rest
 abbrev pub ArePieces : List (List ℕ) → List ℕ → List ℕ → Type 0
 ArePieces [] text rest = text ≡ rest
 ArePieces (p ∷ ps) text rest = IsFirstPiece text (length p) × (p ≡ take (length p) text) × ArePieces ps (drop (length p) text) rest
@@ -14,7 +14,7 @@ abbrev pub EachPiece : (ℕ → ℕ → Type 0) → ℕ → List (List ℕ) → 
 EachPiece P at [] = ⊤
 EachPiece P at (p ∷ ps) = P at (at + length p) × EachPiece P (at + length p) ps
 
--- the range touches what stands from `start` to before `end`: it has one of these bytes, or it is empty and stands at one
+-- the range touches the bytes from `start` to before `end`: it contains one of them, or it is empty and at one
 abbrev pub Touches : Span → ℕ → ℕ → Type 0
 Touches range start end = (range.start < end) × ((start < range.end) ⊎ (start ≤ range.start))
 
@@ -25,7 +25,7 @@ StartsAfter range start end = end ≤ range.start
 abbrev pub EndsBefore : Span → ℕ → ℕ → Type 0
 EndsBefore range start end = (range.end ≤ start) × (range.start < start)
 
--- the span is that of the pieces that the range touches; where it touches none, none comes after it, and the span is empty there
+-- the span is that of the pieces that the range touches; if it touches none, none comes after it, and the span is empty there
 pub record IsTouchedSpan (text : List ℕ) (range span : Span) : Type 0 where
   pub before : List (List ℕ)
   pub touched : List (List ℕ)

@@ -1,4 +1,4 @@
-//! The edit of a text that lays out the policies that a range touches.
+//! The edit of a text that lays out the policies touched by a range.
 ghost use Rattle.std.specs.Prelude.{◌≡◌, ◌++◌, IfOk, OnOk, MatchResult, string_bytes};
 ghost use Rattle.cedar_tree.specs.Refusals.{OutOfMemoryOr, Refuses};
 ghost use Rattle.cedar_grammar.specs.Texts.{Accepted};
@@ -15,17 +15,17 @@ use cedar_policy_formatter::token::Span;
 use cedar_policy_formatter::{Config, policies_str_to_pretty};
 use std::alloc::{AllocError, Global};
 
-/// A part of a text, and what is to stand in its place.
+/// A part of a text, and its replacement.
 #[derive(Debug, Drop)]
 pub struct Edit {
-    /// The bytes that go.
+    /// The bytes to remove.
     pub span: Span,
-    /// What comes in their place.
+    /// What replaces them.
     pub text: String,
 }
 
 impl Edit {
-    /// The text with this edit made. The span lies in the text, on boundaries of characters.
+    /// Applies this edit to a text. The span lies in the text, on character boundaries.
     pub fn apply(&self, alloc: Global, text: &str) -> Result<String, AllocError>
         requires { IsPartOf text.now self.now.span }
         ensures { IfOk result (λ r. string_bytes r ≡ edited text.now self.now.span (string_bytes self.now.text)) }
@@ -38,17 +38,17 @@ impl Edit {
     }
 }
 
-/// The edit that lays out the policies of `text` that `range` touches, at the width and the indentation of `config`.
+/// The edit that lays out the policies of `text` touched by `range`, at the width and the indentation of `config`.
 ///
-/// A policy's piece of the text goes from the end of the piece before through the policy's `;` and the rest of its line, so the
-/// comments before the policy belong to it, and the comment behind its `;` too. The range touches a piece that has one of its
-/// bytes; an empty range, or one that ends before it starts, touches the piece of the byte at which it starts. What of the
-/// range is past the last piece touches nothing. The span is that of the pieces touched, and what comes in its place is their
-/// output, after an empty line where a piece stands before. Where no piece is touched, the edit is empty and stands after the
+/// A policy's piece of the text goes from the end of the piece before through the policy's `;` and the rest of its line,
+/// so it includes the comments before the policy and the comment after its `;`. The range touches a piece if it contains
+/// one of its bytes; an empty range, or one that ends before it starts, touches the piece of the byte where it starts.
+/// Whatever lies past the last piece touches nothing. The span is that of the pieces touched, and its replacement is their
+/// output, after an empty line if a piece comes before. If no piece is touched, the edit is empty and comes after the
 /// last piece.
 ///
-/// The text with the edit made is accepted and has the list of `text`, so its output is that of `text`. A text is refused as
-/// `policies_str_to_pretty` refuses it, whatever the range.
+/// The text with the edit applied is accepted and has the list of `text`, so its output is that of `text`. A text is
+/// refused as `policies_str_to_pretty` refuses it, whatever the range.
 pub fn format_range(
     alloc: Global,
     text: &str,
@@ -67,7 +67,7 @@ pub fn format_range(
     Ok(Edit { span, text: edit })
 }
 
-// The span of the pieces that the range touches.
+// The span of the pieces touched by the range.
 fn touched_span(alloc: Global, text: &str, range: Span) -> Result<Span, FormatError>
     ensures answer { MatchResult result (λ _. Accepted text.now) (OutOfMemoryOr (Refuses text.now)) }
     ensures span { IfOk result (λ span. IsTouchedSpan text.now range span) }
@@ -83,7 +83,7 @@ fn touched_span(alloc: Global, text: &str, range: Span) -> Result<Span, FormatEr
     Ok(span)
 }
 
-// The span of the pieces touched so far, with one more piece behind them.
+// The span of the pieces touched so far, with one more piece after them.
 fn with_piece(span: Span, piece: Span, range: Span) -> Span
     ensures { Grows range span piece result }
 {
@@ -99,7 +99,7 @@ fn with_piece(span: Span, piece: Span, range: Span) -> Span
     }
 }
 
-// The policies of a span laid out, after the line feeds that part them from what stands before; nothing for no policies.
+// The policies of a span laid out, after the line feeds that separate them from what comes before; nothing for no policies.
 fn lay_out(alloc: Global, text: &str, span: Span, config: &Config) -> Result<String, FormatError>
     requires accepted { Accepted text.now }
     requires part { IsPartOf text.now span }

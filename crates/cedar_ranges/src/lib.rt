@@ -1,4 +1,4 @@
-//! Formatting of a part of a text: the policies that a range touches, and the edit that lays them out.
+//! Formatting of a part of a text: the policies touched by a range, and the edit that lays them out.
 #![tactic(auto)]
 
 mod edits;

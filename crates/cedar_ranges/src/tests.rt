@@ -1,4 +1,4 @@
-//! What no clause says: worked edits, and that calls succeed with ample memory, over every range of some texts.
+//! What no clause says: worked edits, and that calls succeed with ample memory, for every range of some texts.
 use crate::{Edit, format_range};
 use cedar_policy_formatter::token::Span;
 use cedar_policy_formatter::{Config, FormatError, policies_str_to_pretty, same_layout};
@@ -6,7 +6,7 @@ use std::alloc::Global;
 use std::process::Abort;
 use std::test::Fail;
 
-// What is expected of a text and a range: the span, and what comes in its place.
+// What is expected for a text and a range: the span, and its replacement.
 struct Row {
     text: &'static str,
     range: (usize, usize),
@@ -181,7 +181,7 @@ fn refuses_what_the_formatter_refuses(rt: HostRuntime) {
     assert!(rt; matches!(&refused, Err(FormatError::Grammar { at: 42 })));
 }
 
-// The text with the edit made is accepted, and has the list and the output of the text.
+// The text with the edit applied is accepted, and has the list and the output of the text.
 fn keeps(
     rt: &impl Abort,
     alloc: Global,
@@ -203,7 +203,7 @@ fn keeps(
     Ok(())
 }
 
-// The edits of all ranges of a text that start there: those with one span are one, and each keeps the text's list and output.
+// The edits for all ranges that start there: those with one span are equal, and each keeps the text's list and output.
 fn keep_from(
     rt: &impl Abort,
     alloc: Global,
@@ -225,7 +225,7 @@ fn keep_from(
     Ok(())
 }
 
-// The edits of all ranges of a text.
+// The edits for all ranges of a text.
 fn every_range_keeps(rt: &impl Abort, alloc: Global, text: &str) -> Result<(), Fail> {
     for start in 0..text.len().saturating_add(2) {
         keep_from(rt, alloc, text, start, &config(80))?;
@@ -265,7 +265,7 @@ fn keeps_lone_return(rt: HostRuntime) -> Result<(), Fail> {
     every_range_keeps(&rt, rt.alloc(), LONE_RETURN)
 }
 
-// The edits of a whole text and of an empty range at each of its bytes.
+// The edits for a whole text and for an empty range at each of its bytes.
 fn every_byte_keeps(
     rt: &impl Abort,
     alloc: Global,
@@ -285,7 +285,7 @@ fn every_byte_keeps(
     Ok(())
 }
 
-// A span does not go by the width, so at narrow ones these are enough.
+// A span does not depend on the width, so at narrow ones these are enough.
 #[test]
 fn keeps_at_narrow_widths(rt: HostRuntime) -> Result<(), Fail> {
     for text in TEXTS {

@@ -10,11 +10,11 @@ use Rattle.std.proofs.lemmas.Slice.Eq.{bytes_eq-Decides}
 abbrev pub Texts : Type 0
 Texts = BTreeMap (String Global) (String Global)
 
--- the text of these bytes
+-- the text with these bytes
 abbrev pub text_in : Texts → List ℕ → Option (List ℕ)
 text_in m q = option_map string_bytes (get_by_text m q)
 
--- the map holds what it held but at these bytes
+-- the map holds what it held, except at these bytes
 abbrev pub IsUpdated : List ℕ → Option (String Global) → Texts → Texts → Type 0
 IsUpdated uri w m n = (q : List ℕ) → get_by_text n q ≡ update bytes_eq (get_by_text m) uri w q
 

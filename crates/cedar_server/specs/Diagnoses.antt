@@ -17,7 +17,7 @@ byte_of (Grammar at) = at
 byte_of (TooDeep at) = at
 byte_of e = 0
 
--- there is nothing wrong with an accepted text; what is wrong with another one is its refusal, at its place
+-- nothing is wrong with an accepted text; what is wrong with any other is its refusal, at its place
 abbrev pub IsDiagnosis : Encoding → List ℕ → Option Diagnosis → Type 0
 IsDiagnosis e text None = Accepted text
 IsDiagnosis e text (Some d) = Refuses text d.error × IsPositionAt e text (byte_of d.error) d.range.start × (d.range.end ≡ d.range.start)

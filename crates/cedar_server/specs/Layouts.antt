@@ -17,20 +17,20 @@ use Rattle.cedar_server.specs.declared.messages.Answer.TheVariants as answer
 use Rattle.cedar_server.specs.declared.messages.Edit.{Edit}
 use Rattle.cedar_server.specs.declared.messages.Indentation.{Indentation}
 
--- the columns of a level: a tab of the client's where it inserts spaces, and else two
+-- the columns of a level: the client's tab size if it inserts spaces, and otherwise two
 abbrev pub indent_of : Indentation → ℤ
 indent_of n = if n.inserts_spaces then pos n.tab_size else pos 2
 
--- the answer for a text, at a width and an indentation: an edit that, made in the text, gives its output; none where the text is
--- its own output; and nothing where it is refused
+-- the answer for a text, at a width and an indentation: an edit that, applied to the text, gives its output; no edit if the text
+-- is its own output; and nothing if it is refused
 abbrev pub LaysOut : Encoding → ℕ → ℤ → List ℕ → Answer → Type 0
 LaysOut e w i text (answer.Edit edit) = (output : List ℕ) × Puts e edit.range (string_bytes edit.text) text output × IsOutputOf w i text output
 LaysOut e w i text answer.NoEdit = IsOutputOf w i text text
 LaysOut e w i text answer.Nothing = (why : FormatError) × Refuses text why
 LaysOut e w i text a = ⊥
 
--- an edit that lays out the policies of a text that a range touches: its range is that of their span, by positions, and the text
--- with it made is accepted and has the list of the text
+-- an edit that lays out the policies of a text touched by a range: its range is that of their span, as positions, and the text
+-- with it applied is accepted and has the list of the text
 pub record LaysOutTouched (e : Encoding) (w : ℕ) (i : ℤ) (range : Range) (text : List ℕ) (edit : Edit) : Type 0 where
   pub touched : Span
   pub first : IsOffsetOf e text range.start touched.start
@@ -43,7 +43,7 @@ pub record LaysOutTouched (e : Encoding) (w : ℕ) (i : ℤ) (range : Range) (te
   pub accepted : Accepted (edited text span (string_bytes edit.text))
   pub lists : HaveEqualLists text (edited text span (string_bytes edit.text))
 
--- the answer for a range of a text: such an edit, and nothing where the text is refused
+-- the answer for a range of a text: such an edit, and nothing if the text is refused
 abbrev pub LaysOutPart : Encoding → ℕ → ℤ → Range → List ℕ → Answer → Type 0
 LaysOutPart e w i range text (answer.Edit edit) = LaysOutTouched e w i range text edit
 LaysOutPart e w i range text answer.Nothing = (why : FormatError) × Refuses text why

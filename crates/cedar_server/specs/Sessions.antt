@@ -1,4 +1,4 @@
--- What the server makes of each message.
+-- What the server does with each message.
 use Rattle.std.specs.Prelude.{◌≡◌, ◌≢◌, ℕ, List, [], ◌∷◌, if◌then◌else◌, Option, Some, None, MatchOption, option_map, unwrap_or, String, string_bytes}
 use Rattle.std.specs.declared.alloc.Global.{Global}
 use Rattle.std.specs.BTreeMap.{get_by_text}
@@ -29,7 +29,7 @@ use Rattle.cedar_server.specs.Layouts.{LaysOut, LaysOutPart, indent_of}
 abbrev pub text_of : Server → List ℕ → Option (List ℕ)
 text_of s uri = option_map string_bytes (get_by_text s.documents uri)
 
--- every open document has the text that it had
+-- every open document has the same text as before
 abbrev pub KeepsTexts : Server → Server → Type 0
 KeepsTexts s t = (q : List ℕ) → text_of t q ≡ text_of s q
 
@@ -51,7 +51,7 @@ pub record Becomes (p : Phase) (s t : Server) : Type 0 where
   pub encoding : t.encoding ≡ s.encoding
   pub width : t.line_width ≡ s.line_width
 
--- what the client's characters are counted in: UTF-8 where it can, and else UTF-16
+-- the unit of the client's characters: UTF-8 if it can, and otherwise UTF-16
 abbrev pub encoding_of : ClientOptions → Encoding
 encoding_of o = if o.counts_utf8 then Utf8 else Utf16
 
@@ -70,19 +70,19 @@ pub record Sets (uri : List ℕ) (text : Option (List ℕ)) (s t : Server) : Typ
   pub encoding : t.encoding ≡ s.encoding
   pub width : t.line_width ≡ s.line_width
 
--- one message, that says what is wrong with the document of this URI
+-- one message, which says what is wrong with the document with this URI
 abbrev pub Diagnoses : (Option Diagnosis → Type 0) → List ℕ → List ServerMessage → Type 0
 Diagnoses Holds uri told = (name : String Global) × (d : Option Diagnosis) × (told ≡ Diagnostics name d ∷ []) × (string_bytes name ≡ uri) × Holds d
 
--- the document has this text, and what is wrong with it is said
+-- the document has this text, and what is wrong with it is reported
 abbrev pub Opens : List ℕ → List ℕ → Server → Server → List ServerMessage → Type 0
 Opens uri text s t told = Sets uri (Some text) s t × Diagnoses (IsDiagnosis s.encoding text) uri told
 
--- the document isn't open, and what was said of it is cleared
+-- the document isn't open, and what was reported about it is cleared
 abbrev pub Closes : List ℕ → Server → Server → List ServerMessage → Type 0
 Closes uri s t told = Sets uri None s t × Diagnoses (λ d. d ≡ None) uri told
 
--- the changes are made in an open document, and what is wrong with it is said; a document that isn't open is passed over
+-- the changes are applied to an open document, and what is wrong with it is reported; a document that isn't open is ignored
 abbrev pub Changes : List ℕ → List Change → Server → Server → List ServerMessage → Type 0
 Changes uri changes s t told = MatchOption (text_of s uri) (IsSame s t × (told ≡ [])) (λ old. (new : List ℕ) × MakeInTurn s.encoding changes old new × Opens uri new s t told)
 
@@ -113,7 +113,7 @@ Turns p r s t = IsSame s t
 abbrev pub Passes : Server → Server → List ServerMessage → Type 0
 Passes s t told = IsSame s t × (told ≡ [])
 
--- the program is to end with this status after `exit`, and anything else is passed over
+-- the program is to end with this status after `exit`, and anything else is ignored
 abbrev pub TakesExit : ℕ → Notification → Server → Server → List ServerMessage → Type 0
 TakesExit status note.Exit s t told = Becomes (Ended status) s t × (told ≡ [])
 TakesExit status n s t told = Passes s t told
@@ -129,7 +129,7 @@ Takes Running note.Other s t told = Passes s t told
 Takes ShutDown n s t told = TakesExit 0 n s t told
 Takes (Ended k) n s t told = Passes s t told
 
--- a message, and what the server says to it
+-- a message, and what the server says in response
 abbrev pub Steps : ClientMessage → Server → Server → List ServerMessage → Type 0
 Steps (client.Request id r) s t told = (a : Answer) × (told ≡ Response id a ∷ []) × Gives s.phase r s a × Turns s.phase r s t
 Steps (client.Notification n) s t told = Takes s.phase n s t told

@@ -9,7 +9,7 @@ use cedar_policy_formatter::{FormatError, explain};
 use cedar_positions::{Encoding, Range, position_at};
 use std::alloc::{AllocError, Global};
 
-/// Why the text is refused, and where; nothing where it is accepted.
+/// Why the text is refused, and where; nothing if it is accepted.
 pub(crate) fn diagnose(
     alloc: Global,
     text: &str,

@@ -11,7 +11,7 @@ use cedar_positions::{Encoding, Range, offset_at, position_at};
 use cedar_ranges::format_range;
 use std::alloc::{AllocError, Global};
 
-/// The configuration that a client asks for: a level is a tab of its size where it inserts spaces, and else two columns.
+/// The configuration that a client asks for: a level is a tab of its size if it inserts spaces, and otherwise two columns.
 pub(crate) fn config_of(line_width: usize, indentation: Indentation) -> Config
     ensures width { result.line_width ≡ line_width }
     ensures indent { result.indent_width ≡ indent_of indentation }
@@ -52,7 +52,7 @@ pub(crate) fn format_whole(
     }
 }
 
-/// The edit that lays the policies out that a range touches.
+/// The edit that lays out the policies touched by a range.
 pub(crate) fn format_part(
     alloc: Global,
     text: &str,

@@ -1,4 +1,4 @@
-//! A language server for policies, without its input and output: what it answers to each message.
+//! A language server for policies, without input and output: what it answers to each message.
 #![tactic(auto)]
 
 mod diagnosis;

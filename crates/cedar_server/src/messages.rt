@@ -2,19 +2,19 @@
 use cedar_policy_formatter::FormatError;
 use cedar_positions::{Change, Encoding, Range};
 
-/// What names a request, as its client chose it.
+/// The id of a request, as its client chose it.
 #[derive(Debug, PartialEq, Drop)]
 pub enum Id {
     Number(i64),
     Text(String),
 }
 
-/// What a client says of itself.
+/// What a client says about itself.
 #[derive(Clone, Copy, Debug, PartialEq, Eq)]
 pub struct ClientOptions {
     /// It can count characters in bytes of UTF-8.
     pub counts_utf8: bool,
-    /// The columns of a line that it wants.
+    /// The width of a line that it wants, in columns.
     pub line_width: Option<usize>,
 }
 
@@ -27,7 +27,7 @@ pub struct Indentation {
     pub inserts_spaces: bool,
 }
 
-/// What wants an answer.
+/// A request, which wants an answer.
 #[derive(Debug, Drop)]
 pub enum Request {
     Initialize(ClientOptions),
@@ -37,27 +37,27 @@ pub enum Request {
         uri: String,
         indentation: Indentation,
     },
-    /// The layout of the policies that a range touches.
+    /// The layout of the policies touched by a range.
     RangeFormatting {
         uri: String,
         range: Range,
         indentation: Indentation,
     },
-    /// One of these whose parameters can't be read.
+    /// One of these, with parameters that can't be read.
     Malformed,
-    /// Any other one.
+    /// Any other request.
     Other,
 }
 
-/// What wants none.
+/// A notification, which wants no answer.
 #[derive(Debug, Drop)]
 pub enum Notification {
     Exit,
     DidOpen { uri: String, text: String },
-    /// The changes are made one after the other.
+    /// The changes are applied one after the other.
     DidChange { uri: String, changes: Vec<Change> },
     DidClose { uri: String },
-    /// Any other one.
+    /// Any other notification.
     Other,
 }
 
@@ -75,7 +75,7 @@ pub struct Edit {
     pub text: String,
 }
 
-/// Why a request isn't done.
+/// Why a request fails.
 #[derive(Clone, Copy, Debug, PartialEq, Eq)]
 pub enum Failure {
     /// It came before `initialize`.
@@ -93,11 +93,11 @@ pub enum Failure {
 /// The answer to a request.
 #[derive(Debug, Drop)]
 pub enum Answer {
-    /// The server is there, and counts characters so.
+    /// The server is ready, and counts characters this way.
     Ready(Encoding),
-    /// There is nothing to say: after `shutdown`, and where a document to be formatted is refused.
+    /// There is nothing to say: after `shutdown`, and if a document to be formatted is refused.
     Nothing,
-    /// The document, or its part, is formatted already.
+    /// The document, or its part, is already formatted.
     NoEdit,
     /// This edit formats it.
     Edit(Edit),
@@ -121,7 +121,7 @@ pub enum ServerMessage {
         id: Id,
         answer: Answer,
     },
-    /// What is wrong with a document: nothing where it is accepted, or not open any more.
+    /// What is wrong with a document: nothing if it is accepted, or no longer open.
     Diagnostics {
         uri: String,
         diagnosis: Option<Diagnosis>,

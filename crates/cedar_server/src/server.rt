@@ -16,7 +16,7 @@ use std::collections::BTreeMap;
 /// The text of each open document, by its URI.
 pub type Documents = BTreeMap<String, String>;
 
-/// How far the client and the server are.
+/// How far the session is.
 #[derive(Clone, Copy, PartialEq, Eq, Debug)]
 pub enum Phase {
     /// Before `initialize`.
@@ -33,14 +33,14 @@ pub enum Phase {
 #[derive(Debug, Drop)]
 pub struct Server {
     pub phase: Phase,
-    /// What it counts characters in.
+    /// The unit it counts characters in.
     pub encoding: Encoding,
     /// The columns of a line.
     pub line_width: usize,
     pub documents: Documents,
 }
 
-// The columns of a line where the client names none.
+// The columns of a line if the client names none.
 const LINE_WIDTH: usize = 80;
 
 impl Server {
@@ -57,8 +57,8 @@ impl Server {
         }
     }
 
-    /// What the server says to a message, in order: the answer to a request, and what is wrong with a document that was opened,
-    /// changed or closed. An error is out of memory alone, and then nothing has changed.
+    /// What the server says in response to a message, in order: the answer to a request, and what is wrong with a document
+    /// that was opened, changed or closed. The only error is out of memory, and then nothing has changed.
     pub fn step(
         &mut self,
         alloc: Global,
@@ -160,7 +160,7 @@ impl Server {
         }
     }
 
-    // Begins to run.
+    // Starts running.
     fn start(&mut self, options: ClientOptions)
         ensures { Starts options self.old self.new }
     {
@@ -169,7 +169,7 @@ impl Server {
         self.line_width = options.line_width.unwrap_or(LINE_WIDTH);
     }
 
-    // Takes a notification.
+    // Handles a notification.
     fn take(
         &mut self,
         alloc: Global,
@@ -186,7 +186,7 @@ impl Server {
         }
     }
 
-    // Takes `exit`, and passes over anything else.
+    // Handles `exit`, and ignores anything else.
     fn take_exit(
         &mut self,
         alloc: Global,
@@ -202,7 +202,7 @@ impl Server {
         Ok(Vec::new(alloc))
     }
 
-    // Takes a notification between `initialize` and `shutdown`.
+    // Handles a notification between `initialize` and `shutdown`.
     fn take_running(
         &mut self,
         alloc: Global,
@@ -236,7 +236,7 @@ impl Server {
         Ok(told)
     }
 
-    // Makes the changes of a document. One that isn't open is passed over.
+    // Applies the changes to a document. One that isn't open is ignored.
     fn change(
         &mut self,
         alloc: Global,
@@ -254,7 +254,7 @@ impl Server {
         Ok(told)
     }
 
-    // Closes a document, and clears what was said of it.
+    // Closes a document, and clears what was reported about it.
     fn close(&mut self, alloc: Global, uri: String) -> Result<Vec<ServerMessage>, AllocError>
         ensures ok { IfOk result (λ told. Closes (string_bytes uri) self.old self.new told.items) }
         ensures err { OnErr result (IsSame self.old self.new) }
@@ -265,7 +265,7 @@ impl Server {
     }
 }
 
-// What a client is counted in.
+// The unit that a client's characters are counted in.
 fn encoding_of(options: ClientOptions) -> Encoding
     ensures { result ≡ encoding_of options }
 {
@@ -276,7 +276,7 @@ fn encoding_of(options: ClientOptions) -> Encoding
     }
 }
 
-// A message alone.
+// Only this message.
 fn tell(alloc: Global, message: ServerMessage) -> Result<Vec<ServerMessage>, AllocError>
     ensures { IfOk result (λ told. told.items ≡ message ∷ []) }
 {
@@ -285,7 +285,7 @@ fn tell(alloc: Global, message: ServerMessage) -> Result<Vec<ServerMessage>, All
     Ok(told)
 }
 
-// What is wrong with a document, alone.
+// Only what is wrong with a document.
 fn tell_diagnosis(
     alloc: Global,
     uri: &str,

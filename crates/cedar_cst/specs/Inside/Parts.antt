@@ -1,4 +1,4 @@
--- A part of a text, parsed with the places of the whole text. Only contracts of private functions cite these.
+-- A part of a text, parsed with the places of the whole text. Only contracts of private functions use these.
 use Rattle.std.specs.Prelude.{◌≡◌, ◌+◌, ◌-◌, ℕ, true, false, List, [], ◌∷◌, length, map, take, drop}
 use Rattle.std.specs.List.{list_any, slice_get}
 use Rattle.std.specs.Str.{IsCharBoundary}
@@ -33,19 +33,19 @@ moved_span n s = record { start = n + s.start; end = n + s.end }
 abbrev pub moved_lexeme : ℕ → Lexeme → Lexeme
 moved_lexeme n l = record { kind = l.kind; text = l.text; span = moved_span n l.span }
 
--- where the token starts from which on so many are left; or the end
+-- where the token starts from which so many are left, or the end
 abbrev pub place_before : ℕ → List Lexeme → ℕ → ℕ
 place_before end lexemes left = start_or end (slice_get lexemes (length lexemes - left))
 
--- the tokens of a part that has these units and begins at this byte, with their places
+-- the tokens, with their places, of a part that has these units and starts at this byte
 abbrev pub placed_from : ℕ → List (List ℕ) → List Placed
 placed_from from units = with_places (only_tokens units) (token_spans from units)
 
--- these are the lexemes of the part, with the places of a text in which it begins at this byte
+-- these are the lexemes of the part, with the places of a text in which it starts at this byte
 abbrev pub AreLexemesFrom : ℕ → List ℕ → List Lexeme → Type 0
 AreLexemesFrom from part lexemes = (own : List Lexeme) × AreLexemes part own × (lexemes ≡ map (moved_lexeme from) own)
 
--- the part is accepted, and these are its policies, with the places of a text in which it begins at this byte
+-- the part is accepted, and these are its policies, with the places of a text in which it starts at this byte
 pub record HasPoliciesFrom (from : ℕ) (part : List ℕ) (policies : List (Nodes.Node Policies.Policy)) : Type 0 where
   pub units : List (List ℕ)
   pub split : SplitsInto part units
@@ -67,6 +67,6 @@ pub record IsNext (reader : Position) (piece : List ℕ) : Type 0 where
   pub bytes : piece ≡ take (length piece) (drop reader.at reader.text)
   pub boundary : IsCharBoundary reader.text (reader.at + length piece)
 
--- the part is accepted, and this is its only policy, with the places of a text in which the part begins at this byte
+-- the part is accepted, and this is its only policy, with the places of a text in which the part starts at this byte
 abbrev pub IsPolicyFrom : ℕ → List ℕ → Nodes.Node Policies.Policy → Type 0
 IsPolicyFrom from part policy = (p : Trees.Policies) × HasPoliciesFrom from part p.policies.items × (p.policies.items ≡ policy ∷ [])

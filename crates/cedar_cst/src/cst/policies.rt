@@ -24,7 +24,7 @@ use cedar_tokens::token::Span;
 use cedar_tree::tree::{Annotation, Cond, Node, Policies, Policy};
 use std::alloc::Global;
 
-/// How many brackets and `if`s may stand inside each other in a condition.
+/// How many brackets and `if`s may be nested in a condition.
 const MAX_NESTING: usize = 128;
 
 /// The policies that the tokens are.

@@ -1,4 +1,4 @@
-//! The scope of a policy: its three variables, and what stands behind them.
+//! The scope of a policy: its three variables, and what follows them.
 ghost use Rattle.std.specs.Prelude.{◌≡◌, ◌<◌, ◌≤◌, length, IfOk, MatchResult, box_value};
 ghost use Rattle.cedar_grammar.specs.Trees.{Label};
 ghost use Rattle.cedar_tokens.specs.Kinds.{is};
@@ -133,7 +133,7 @@ fn parse_variable<'t, 'src>(
     Ok((variable_node(variable, None, None), rest))
 }
 
-// An operand without any operator.
+// An operand without operators.
 fn lone_or<'src>(alloc: Global, operand: Node<Add<'src>>) -> Result<Box<Node<Or<'src>>>, Refusal>
     ensures { MatchResult result (λ b. IsLoneOrOf operand.entry (box_value b)) (λ e. e ≡ OutOfMemory) }
 {
@@ -154,7 +154,7 @@ fn parse_entity_expr<'t, 'src>(
     Ok((or_expr(lone_or(alloc, entity)?), rest))
 }
 
-// Entities with commas between them, and perhaps one behind the last; or none.
+// Entities with commas between them, and perhaps one after the last; or none.
 fn parse_entities<'t, 'src>(
     alloc: Global,
     tokens: &'t [Lexeme<'src>],
@@ -222,7 +222,7 @@ fn parse_action<'t, 'src>(
     Ok((variable_node(variable, None, None), rest))
 }
 
-/// The three variables in brackets, and perhaps a comma behind the last.
+/// The three variables in brackets, and perhaps a comma after the last.
 pub fn parse_scope<'t, 'src>(
     alloc: Global,
     tokens: &'t [Lexeme<'src>],

@@ -22,7 +22,7 @@ form_in (call_empty l r m) = Some called
 form_in (call l a r m) = Some called
 form_in (index l x r m) = Some indexed
 
--- whether there is a place to break between one access and the next: not before the first, not behind the last, and not
+-- whether there is a place to break between one access and the next: not before the first, not after the last, and not
 -- between a method's name and its call
 abbrev pub breaks : Option Access → Option Access → Bool
 breaks None next = false

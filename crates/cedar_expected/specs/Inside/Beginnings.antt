@@ -16,7 +16,7 @@ OfTokens text P = (units : List (List ℕ)) × SplitsInto text units × P (only_
 abbrev pub TokensBegin : List ℕ → Type 0
 TokensBegin text = OfTokens text (Begins greatest_depth)
 
--- with the text's tokens and these
+-- some accepted list begins with the text's tokens and these
 abbrev pub TokensBeginWith : List ℕ → List (List ℕ) → Type 0
 TokensBeginWith text more = OfTokens text (λ front. Begins greatest_depth (front ++ more))
 
@@ -28,7 +28,7 @@ HasTree text = OfTokens text IsList
 abbrev pub KindsFollow : List ℕ → List Kind → Type 0
 KindsFollow text kinds = OfTokens text (λ front. AreAllAfter front kinds)
 
--- where a text that is so refused leaves the grammar, if it does; nothing is known of it where memory is wanting
+-- where a text with this refusal leaves the grammar, if it does; nothing is known if out of memory
 abbrev pub IsPlaceOf : FormatError → Option ℕ → Type 0
 IsPlaceOf (Grammar n) at = at ≡ Some n
 IsPlaceOf (TooDeep n) at = at ≡ Some n

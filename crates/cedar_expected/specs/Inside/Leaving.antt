@@ -1,10 +1,10 @@
--- Where a text leaves the grammar, behind policies that are whole.
+-- Where a text leaves the grammar, after whole policies.
 use Rattle.std.specs.Prelude.{◌≡◌, ℕ, Bool, List, take, drop}
 use Rattle.cedar_grammar.specs.Texts.{Accepted, LeavesGrammar}
 use Rattle.cedar_cst.specs.PolicyReaders.{EndsPiece}
 use Rattle.cedar_expected.specs.declared.expected.Leaving.{Leaving}
 
--- the text leaves the grammar there, and what stands before `rest` is accepted and ends a piece
+-- the text leaves the grammar there, and what comes before `rest` is accepted and ends a piece
 pub record LeavesBehind (text : List ℕ) (l : Leaving) : Type 0 where
   pub deep : Bool
   pub leaves : LeavesGrammar text l.at deep

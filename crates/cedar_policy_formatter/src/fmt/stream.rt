@@ -36,11 +36,11 @@ impl From<ReadFault> for RunFault {
     }
 }
 
-/// Reads a text to its end, formats it, and writes the result, once all of it is there.
+/// Reads a text to its end, formats it, and then writes the result as a whole.
 ///
-/// The first failed read or write ends the run, also an interrupted one. `NotUtf8` is answered where the bytes that were
-/// read aren't UTF-8, and `Format` where they are a text that `policies_str_to_pretty` refuses, with its reason, or for want
-/// of memory. With `Read`, `NotUtf8` and `Format` nothing is written, with `Write` a beginning of the result.
+/// The first failed read or write ends the run, even an interrupted one. `NotUtf8` is returned if the bytes that were
+/// read aren't UTF-8, and `Format` if they are a text that `policies_str_to_pretty` refuses, with its reason, or if out of
+/// memory. With `Read`, `NotUtf8` and `Format` nothing is written, with `Write` a prefix of the result.
 pub fn format_stream<R: Read, W: Write>(
     alloc: Global,
     input: &mut Watched<R>,
@@ -62,9 +62,9 @@ pub fn format_stream<R: Read, W: Write>(
     }
 }
 
-/// Reads a text to its end, and answers whether it is as `format_stream` would write it.
+/// Reads a text to its end, and returns whether it is as `format_stream` would write it.
 ///
-/// The faults are those of `format_stream`, but for `Write`.
+/// The faults are those of `format_stream`, except for `Write`.
 pub fn check_stream<R: Read>(
     alloc: Global,
     input: &mut Watched<R>,

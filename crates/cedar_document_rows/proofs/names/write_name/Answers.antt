@@ -13,7 +13,7 @@ use Rattle.cedar_document_rows.proofs.names.write_name.Goals as goal
 abbrev no_word : Node Ident
 no_word = record { inner = record { 0 = record { ref_ptr = (0, 0); now = [] } }; span = record { start = 0; end = 0 } }
 
--- the word at an index, and those behind it
+-- the word at an index, and those after it
 word_at : (path items : List (Node Ident)) (j : ℕ) → items ≡ path → j < length items → drop j path ≡ get_or items j no_word ∷ drop (j + 1) path
 word_at path items j e h = ap (drop j) (sym e) ∙ drop-cons items j no_word h ∙ ap (λ k. get_or items j no_word ∷ drop k items) (sym (add-one j)) ∙ ap (λ z. get_or items j no_word ∷ drop (j + 1) z) e
 

@@ -18,7 +18,7 @@ use Rattle.cedar_documents.proofs.policies.write_policy.Goals as goal
 pub returns-clause-writes : goal.returns-clause-writes
 returns-clause-writes x (policy_of ns e l p c a d r q cs s) at tree =
     let policy = x.args.policy.now in
-    -- what the tree tells
+    -- what the tree says
     let behind_q = join (part_parts kind_of_shown cs) (leaf s none) in
     let behind_d = branch Label.variable (part_parts kind_of_shown r) (leaf q behind_q) in
     let behind_c = branch Label.variable (part_parts kind_of_shown a) (leaf d behind_d) in

@@ -53,7 +53,7 @@ returns-in_default-clause-writes c (variable_is_op x w n p a) e =
     let q = compared v.ineq p a (typed v.entity_type v.ineq w n behind o.3).behind in
     absurd (not_both c.in_default.is q.is)
 
--- a variable's word and its type are written, and then the operator and what follows it
+-- a variable's word and its type are written, then the operator and what follows it
 operator_writes : (c : goal.After-drop-comment-2) (ts : List Shown) (left : Doc) (p : Shown) (a : Tree Shown kind.add) → IsCompared c.args.variable.now.ineq p a
     → WritesWhere {U = ⊤} {E = NoDocument} (Behind c.args.variable.now.variable.span.end) (Ok tt) c.comment_at_start.new.tokens c.write_left-2.new.tokens c.group-2.new.self c.write_left-2.new.sheet ts left
     → ((b : List Shown) → Behind c.args.variable.now.variable.span.end b → Behind (span_before c.args.variable.now).end (b ++ map emptied ts))

@@ -438,7 +438,7 @@ parse_inits-returns-clause-reads _ c =
     let i = c.inits.invariant.1 in
     (i.row, items_end Label.rec_init init_parts (λ x. is_ident x || is K.Str x) (at_depth (suc c.args.depth) init) _ _ _ i (sym c.begins_key.ensures ∙ c.inits-test.false), i.stands.closed)
 
--- Members behind signs.
+-- Members after signs.
 pub parse_unary-returns-clause-reads : goal.parse_unary-returns-clause-reads
 parse_unary-returns-clause-reads _ c =
     unary_gives (at_depth c.args.depth member_rule) _ c.read_signs-op.result.0 c.read_signs-op.result.1 c.parse_member.result c.unary_node.result c.read_signs-op.ensures.reads c.parse_member.ensures.reads c.unary_node.ensures.passes c.unary_node.ensures.made
