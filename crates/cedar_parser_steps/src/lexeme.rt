@@ -70,8 +70,8 @@ fn fault_at(text: &str, at: usize) -> FormatError
     }
 }
 
-/// Whether `text` has tokens that can be parsed, which takes no memory. Refuses the first place where no unit begins; and
-/// where there is none, the first number above 18446744073709551615.
+/// Whether `text` has tokens that can be parsed. Refuses the first place where no unit begins; and where there is none, the
+/// first number above 18446744073709551615. Allocates nothing.
 pub fn check_tokens(text: &str) -> Result<(), FormatError>
     ensures tokens { MatchResult result (λ _. HasTokens text.now) (RefusesTokens text.now) }
     ensures memory { IfErr result (λ e. e ≢ OutOfMemory) }

@@ -147,7 +147,7 @@ pub fn kind_of(text: &str) -> Kind
     }
 }
 
-// The kind of the keyword, slot or punctuator whose source text is `text`. What it can be is told by its length first.
+// The kind of the keyword, slot or punctuator whose source text is `text`. Its length is looked at first.
 #[tactic(auto, unfolding(crate::specs::Units::keywords, crate::specs::Units::slots, crate::specs::Units::punctuators))]
 fn fixed_kind(text: &str) -> Option<Kind>
     ensures fixed { IfSome result (λ k. k ≡ kind_of text.now) }

@@ -18,7 +18,8 @@ use crate::lexer::first_fault;
 use crate::token::{Comment, Comments, Span, WrappedToken, get_comment, token_of};
 use std::alloc::{AllocError, Global};
 
-/// The token of this kind whose source text is `text`, at its place, with the comments of the text before it and its trailing text.
+/// The token of this kind whose source text is `text`, at its place, with the comments of the text before it and its
+/// trailing text.
 pub fn commented_token<'src>(
     alloc: Global,
     kind: Kind,
@@ -72,7 +73,7 @@ fn first_token<'src>(ahead: &Ahead<'src>) -> Option<FirstToken<'src>>
 }
 
 /// The tokens of a text with their comments, one after the other, and the closing comments: those of
-/// `get_token_stream`, with memory for one token at a time.
+/// `get_token_stream`, holding one token at a time.
 #[derive(Debug, Drop)]
 pub struct TokenReader<'src> {
     text: &'src str,
@@ -86,7 +87,7 @@ pub struct TokenReader<'src> {
 impl<'src> TokenReader<'src> {
     ghost use Rattle.cedar_tokens.specs.TokenReaders.{HasLeft, GivesFirst, bytes_left};
 
-    /// A reader that has given nothing of `text`; `None` where `text` does not split into units. It takes no memory.
+    /// A reader that has given nothing of `text`; `None` where `text` does not split into units. Allocates nothing.
     pub fn new(text: &'src str) -> Option<TokenReader<'src>>
         ensures splits { MatchOption result (¬ (Splits text.now)) (λ r. Splits text.now) }
         ensures whole { IfSome result (λ r. (l : Listing) (spans : List Span) → IsListing text.now l → AreTokenSpans text.now spans → HasLeft text.now r l spans) }
@@ -110,7 +111,7 @@ impl<'src> TokenReader<'src> {
         }
     }
 
-    /// The next token with its comments; `None` where none is left. It can find no memory, and the reader is then as
+    /// The next token with its comments; `None` where none is left. When out of memory, the reader is left as
     /// before.
     pub fn next(&mut self, alloc: Global) -> Result<Option<WrappedToken<'src>>, AllocError>
         ensures next { IfOk result (λ o. (text : List ℕ) (l : Listing) (spans : List Span) → HasLeft text self.old l spans → MatchOption o ((l.tokens ≡ []) × (spans ≡ [])) (λ w. GivesFirst text w self.new l spans)) }
@@ -131,8 +132,8 @@ impl<'src> TokenReader<'src> {
         Ok(Some(token))
     }
 
-    /// The closing comments of the text, those behind its last token; tokens that are left are passed over. It takes no
-    /// memory.
+    /// The closing comments of the text, those after its last token; tokens that are left are skipped. Allocates
+    /// nothing.
     pub fn closing(&self) -> Comments<'src>
         ensures { (text : List ℕ) (l : Listing) (spans : List Span) → HasLeft text self.now l spans → comments_left result ≡ l.closing }
     {
