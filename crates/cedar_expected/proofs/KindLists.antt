@@ -11,7 +11,7 @@ use Rattle.std.proofs.lemmas.Map.Made.{is_member-Decides}
 use Rattle.std.proofs.lemmas.Bool.Decides.{nat_tests}
 use denote.Enum.Bare.{sameb}
 use Rattle.cedar_tokens.specs.declared.kind.Kind.{Kind}
-use Rattle.cedar_grammar.specs.contracts.kind.Kind.{the_type}
+use Rattle.cedar_tokens.specs.contracts.kind.Kind.{the_type}
 use Rattle.cedar_tokens.specs.declared.kind.Kind.TheVariants as K
 use Rattle.cedar_tokens.specs.Kinds.{is, code}
 use Rattle.cedar_grammar.proofs.KindSets.{every_kind, and_left, and_right}

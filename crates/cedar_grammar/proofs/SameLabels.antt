@@ -1,10 +1,10 @@
 -- The tree of typed policies under two ways to determine the kinds of tokens.
-use Rattle.std.proofs.Common.{◌≡◌, ℕ, List, [], ◌∷◌, Bool, true, false, refl, ap, sym, ◌∙◌}
+use Rattle.std.proofs.Common.{◌≡◌, ℕ, List, [], ◌∷◌, refl, ap, sym, ◌∙◌}
 use Rattle.std.specs.Prelude.{if◌then◌else◌}
 use Rattle.cedar_tokens.specs.declared.kind.Kind.{Kind}
 use Rattle.cedar_tokens.specs.declared.kind.Kind.TheVariants as K
 use Rattle.cedar_tokens.specs.Kinds.{is}
-use Rattle.cedar_grammar.specs.Trees.{Label, Forest, none, leaf, branch, join}
+use Rattle.cedar_grammar.specs.Trees.{Label, none, leaf, branch}
 use Rattle.cedar_tokens.specs.TokenKinds.{fixed_tokens, other_kind, kind_of}
 use Rattle.cedar_grammar.specs.TypedTrees.{Tree, NodeKind, PartKind, Clause, policy, name_one, name_more, ref_of, args_one, args_more, init_of, inits_one, inits_more, literal, slot, reference, named, parens, list_empty, list_of, record_empty, record_of, no_access, field, call_empty, call, index, member_of, unsigned, signed, products_one, products_more, mult_of, sums_one, sums_more, add_of, single, compare, has_or_like, is_type, is_in, ands_one, ands_more, ors_one, ors_more, ors_expr, if_expr, variable_bare, variable_is, variable_op, variable_is_op, cond_of, no_cond, conds_more, annotation_bare, annotation_value, no_annotation, annotations_more, policy_of, parts, part_parts, policy_trees, set_tree, literal_label}
 use Rattle.cedar_grammar.proofs.TextTests.{agrees}

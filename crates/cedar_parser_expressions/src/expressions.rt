@@ -19,7 +19,6 @@ use crate::nodes::{
     lone_relation, member_node, mult_node, or_expr, or_node, parens_node, record_key, record_node,
     type_and_operand, unary_node, uncalled,
 };
-use cedar_tokens::kind::Kind;
 use cedar_parser_steps::accesses::{begins_access, begins_call, parse_access};
 use cedar_parser_steps::lexeme::Lexeme;
 use cedar_parser_steps::literals::parse_literal;
@@ -34,6 +33,7 @@ use cedar_parser_steps::reading::{
 use cedar_parser_steps::signs::{
     begins_comparison, parse_comparison_sign, past_sum_sign, read_signs,
 };
+use cedar_tokens::kind::Kind;
 use cedar_tree::tree::{
     Add, And, Expr, MemAccess, Member, Mult, MultOp, Name, Node, Or, Primary, RecInit, RelOp,
     Relation, Unary,

@@ -11,12 +11,12 @@ ghost use Rattle.cedar_parser_expressions.specs.Boxed.{unboxed, signed, IsNotLon
 ghost use Rattle.cedar_parser_expressions.specs.ReadingItems.{IsListOf};
 ghost use Rattle.cedar_parser_expressions.specs.ReadingExprs.{end_of_last, IsOrOf, IsAndOf, IsAddOf, IsMultOf, IsMemberOf, IsUnaryOf, IsLoneRelationOf, IsComparedOf, IsTypeTestOf, IsCallOf, IsParensOf, IsRecordOf, IsInitOf, IsIfOf, IsBeside, IsTyped, IsUncalled, IsCalled, type_test_end};
 
-use cedar_tokens::kind::Kind;
 use cedar_parser_steps::accesses::{accesses_end, parse_has_field, parse_pattern};
 use cedar_parser_steps::lexeme::Lexeme;
 use cedar_parser_steps::names::{name_primary, parse_key};
 use cedar_parser_steps::reading::{Parsed, Refusal, followed_by};
 use cedar_parser_steps::signs::signed_start;
+use cedar_tokens::kind::Kind;
 use cedar_tokens::token::Span;
 use cedar_tree::tree::{
     Add, AddOp, And, Expr, MemAccess, Member, Mult, MultOp, Name, NegOp, Node, Or, Primary,

@@ -1,10 +1,12 @@
 -- The commented tokens made from lexemes so far, and the lexemes that are left.
-use Rattle.std.proofs.Common.{◌≡◌, ◌≤◌, ◌<◌, ◌-◌, ◌+◌, List, [], ◌∷◌, ℕ, length, drop, take, get_or, map, sym, ap, ◌∙◌, arith}
+use Rattle.std.proofs.Common.{◌≡◌, ◌≤◌, ◌<◌, ◌-◌, ◌+◌, List, [], ◌∷◌, ℕ, zero, suc, length, drop, take, get_or, map, sym, ap, ◌∙◌, arith}
 use Rattle.std.proofs.Math.Seq.{drop-cons}
 use Rattle.std.proofs.lemmas.List.{take_all, drop_all, drop-drop, length-drop}
 use Rattle.std.proofs.Math.Numerals.{add-one}
+use Rattle.std.specs.List.{AllByRecursion}
 use Rattle.std.specs.Str.{IsUtf8, IsCharBoundary}
 use Rattle.cedar_tokens.specs.Units.{IsToken}
+use Rattle.cedar_tokens.specs.TokenKinds.{kind_of}
 use Rattle.cedar_tokens.specs.Inside.Between.{first_start, text_at, text_before}
 use Rattle.cedar_tokens.specs.declared.token.Span.{Span}
 use Rattle.cedar_tokens.specs.declared.token.WrappedToken.{WrappedToken}
@@ -68,3 +70,9 @@ pub next_token : (text : List ℕ) (tokens : List WrappedToken) (leading : List 
 next_token text tokens leading lexemes at d l h =
     let n = next_left text tokens leading lexemes at d l h in
     rw n.here n.so_far.places.0.token
+
+-- the kind of a lexeme
+pub lexeme_kind : (lexemes : List Lexeme) (at : ℕ) (d : Lexeme) → AllByRecursion (λ l. l.kind ≡ kind_of l.text.now) lexemes → at < length lexemes → (get_or lexemes at d).kind ≡ kind_of (get_or lexemes at d).text.now
+lexeme_kind [] at d h l = absurd (omega (arith, l))
+lexeme_kind (x ∷ xs) zero d h l = h.0
+lexeme_kind (x ∷ xs) (suc at) d h l = lexeme_kind xs at d h.1 (omega (arith, l))

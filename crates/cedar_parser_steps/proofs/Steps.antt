@@ -3,7 +3,7 @@ use Rattle.std.specs.Prelude.{◌≡◌, ℕ, not, Bool, true, false, List, [], 
 use Rattle.std.proofs.Common.{refl, sym, ap, ◌∙◌, arith, subst}
 use denote.Enum.Bare.{sameb, same_true}
 use Rattle.cedar_tokens.specs.declared.kind.Kind.{Kind}
-use Rattle.cedar_grammar.specs.contracts.kind.Kind.{the_type}
+use Rattle.cedar_tokens.specs.contracts.kind.Kind.{the_type}
 use Rattle.cedar_tokens.specs.declared.kind.Kind.TheVariants as K
 use Rattle.cedar_tokens.specs.declared.kind.Words.{Words}
 use Rattle.cedar_tokens.specs.Kinds.{is, is_any_word, is_ident, is_effect, is_cond_word, set_of, begins}

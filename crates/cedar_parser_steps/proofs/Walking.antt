@@ -1,6 +1,6 @@
 -- The lexemes and the large numbers among the units so far.
-use Rattle.std.proofs.Common.{◌≡◌, ◌<◌, ◌+◌, ◌-◌, ◌&&◌, ℕ, Bool, true, false, List, [], ◌∷◌, ◌++◌, length, take, drop, refl, ap, sym, ◌∙◌, arith, Option, Some, None, cond, get_or, append_assoc, Result, Ok, Err, nat_lt}
-use Rattle.std.specs.Prelude.{slice_range, is_some, is_err, ◌≢◌}
+use Rattle.std.proofs.Common.{◌≡◌, ◌<◌, ◌+◌, ◌&&◌, ℕ, Bool, true, false, List, [], ◌∷◌, ◌++◌, length, refl, ap, sym, ◌∙◌, arith, Option, Some, None, cond, get_or, append_assoc, Result, Ok, Err, nat_lt}
+use Rattle.std.specs.Prelude.{is_some, is_err, ◌≢◌}
 use Rattle.std.specs.List.{list_any, list_all, sum_by, filter, AllByRecursion}
 use Rattle.std.specs.Char.{is_ascii_digit, digit_value}
 use Rattle.std.specs.Str.Parse.{ParsesUnsigned, AllDigits, IsNumeral}

@@ -6,8 +6,8 @@ ghost use Rattle.cedar_parser_steps.specs.Lexemes.{AreLexemes};
 ghost use Rattle.cedar_pieces.specs.Pieces.{IsFirstPiece, HasNoPiece};
 ghost use Rattle.cedar_pieces.specs.Inside.Steps.{EndsLine, LexesToSemicolon};
 
-use cedar_tokens::kind::kind_of;
 use cedar_parser_steps::lexeme::Lexeme;
+use cedar_tokens::kind::kind_of;
 use cedar_tokens::lexer::UnitKind;
 use cedar_tokens::token::Span;
 use cedar_tokens::units::Units;

@@ -12,7 +12,6 @@ ghost use Rattle.cedar_cst.specs.Inside.ReadingSet.{GivesSet};
 ghost use Rattle.cedar_parser_steps.specs.Reading.{kind, flat, GivesNode, GivesMany};
 
 use crate::cst::scopes::parse_scope;
-use cedar_tokens::kind::{Kind, Words};
 use cedar_parser_expressions::expressions::parse_expr;
 use cedar_parser_steps::lexeme::Lexeme;
 use cedar_parser_steps::literals::parse_str;
@@ -20,6 +19,7 @@ use cedar_parser_steps::names::parse_word;
 use cedar_parser_steps::reading::{
     Parsed, Refusal, begins, expect, followed_by, keep, past, refuse, start_of,
 };
+use cedar_tokens::kind::{Kind, Words};
 use cedar_tokens::token::Span;
 use cedar_tree::tree::{Annotation, Cond, Node, Policies, Policy};
 use std::alloc::Global;

@@ -12,7 +12,6 @@ ghost use Rattle.cedar_parser_expressions.specs.Boxed.{unboxed};
 ghost use Rattle.cedar_parser_expressions.specs.ReadingItems.{GivesItems, GivesScope};
 ghost use Rattle.cedar_parser_steps.specs.Reading.{flat, GivesNode, ident_parts};
 
-use cedar_tokens::kind::Kind;
 use cedar_parser_expressions::nodes::{and_node, list_node, lone_relation, or_expr, or_node};
 use cedar_parser_steps::accesses::lone_operand;
 use cedar_parser_steps::lexeme::Lexeme;
@@ -20,6 +19,7 @@ use cedar_parser_steps::names::{
     begins_identifier, ident_node, parse_entity, parse_path, parse_slot_or_entity,
 };
 use cedar_parser_steps::reading::{Parsed, Refusal, begins, expect, followed_by, keep, past, skip};
+use cedar_tokens::kind::Kind;
 use cedar_tree::tree::{Add, Expr, Ident, Name, Node, Or, Primary, RelOp, Slot, VariableDef};
 use std::alloc::Global;
 

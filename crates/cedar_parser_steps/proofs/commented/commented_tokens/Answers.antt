@@ -4,7 +4,7 @@ use Rattle.std.proofs.lemmas.Str.{IsCharBoundary-start}
 use Rattle.cedar_tokens.specs.Places.{AreTokenSpans}
 use Rattle.cedar_tokens.proofs.Between.{first_boundary, commented_more, commented_list, commented_spans}
 use Rattle.cedar_tokens.proofs.Collecting.{spans_in_order}
-use Rattle.cedar_parser_steps.proofs.Commenting.{lexemes_between, none_left, next_left, next_token, boundary_after, to_end, after_last}
+use Rattle.cedar_parser_steps.proofs.Commenting.{lexemes_between, none_left, next_left, next_token, lexeme_kind, boundary_after, to_end, after_last}
 use Rattle.cedar_parser_steps.proofs.commented.commented_tokens.Goals as goal
 
 pub text_before-leading-requires-clause-from : goal.text_before-leading-requires-clause-from
@@ -28,8 +28,11 @@ text_before-gap-requires-clause-to c = rw to_end (boundary_after _ _ _ c.args.le
 pub text_before-gap-requires-clause-order : goal.text_before-gap-requires-clause-order
 text_before-gap-requires-clause-order c = rw to_end (next_left _ _ _ _ _ _ c.loop-at.invariant.left c.loop-at-test.true).so_far.places.0.order
 
-pub commented_token-requires : goal.commented_token-requires
-commented_token-requires c = next_token _ _ _ _ _ _ c.loop-at.invariant.left c.loop-at-test.true
+pub commented_token-requires-clause-token : goal.commented_token-requires-clause-token
+commented_token-requires-clause-token c = next_token _ _ _ _ _ _ c.loop-at.invariant.left c.loop-at-test.true
+
+pub commented_token-requires-clause-kind : goal.commented_token-requires-clause-kind
+commented_token-requires-clause-kind c = lexeme_kind c.args.lexemes.now c.loop-at.at _ c.requires.kinds c.loop-at-test.true
 
 pub loop-at-preserved : goal.loop-at-preserved
 loop-at-preserved c =
