@@ -105,7 +105,7 @@ fn formats(rt: HostRuntime) -> Result<(), AllocError> {
             ["cedar", "--version"].as_slice(),
             PACKED,
             (
-                "cedar 4.14.1 (noblesilk 1.0.0, proved with rattle-kit-13b logic dac8208d650f15bf)\n",
+                "cedar 4.14.1 (noblesilk 1.0.0, proved with rattle-kit-13f logic dac8208d650f15bf)\n",
                 "",
                 0,
             ),
