@@ -20,11 +20,11 @@ use Rattle.cedar_parser_steps.specs.Tokens.{HasTokens}
 use Rattle.cedar_pieces.specs.Pieces.{IsPiece, HasNoPiece, IsFirstPiece}
 use Rattle.cedar_pieces.proofs.Accepted.{accepted_join, accepted_empty}
 use Rattle.cedar_pieces.proofs.Scans.{piece_more}
-use Rattle.cedar_pieces.proofs.Prefixes.{through, piece_positive, piece_inside, piece_before, piece_behind, piece_within, units_of}
+use Rattle.cedar_pieces.proofs.Prefixes.{through, piece_positive, piece_inside, piece_before, piece_after, piece_within, units_of}
 use Rattle.cedar_pieces.proofs.Lists.{piece_splits, units_follow}
 use Rattle.cedar_pieces.proofs.Refusals.{parts_fit, rest_is_empty, piece_refused, rest_refused}
 use Rattle.cedar_cst.specs.Inside.Parts.{HasPoliciesFrom, RefusesFrom, IsNext, IsPolicyFrom}
-use Rattle.cedar_cst.specs.PolicyReaders.{Position, EndsPiece, HasPolicies, HasRead, HasEnded, GoesOn, IsBehindPolicies}
+use Rattle.cedar_cst.specs.PolicyReaders.{Position, EndsPiece, HasPolicies, HasRead, HasEnded, GoesOn, IsAfterPolicies}
 use Rattle.cedar_cst.proofs.PartLaws.{parts_join, from_start, to_start, none_from, no_units, part_accepted, has_one, has_some}
 
 -- ---- two parts of a text
@@ -67,17 +67,17 @@ ends_within text at n (inr p) q = (inr (piece_within text at n p q), piece_befor
 accepted_more : (text : List ℕ) (at n : ℕ) → EndsPiece text at → IsPiece (drop at text) n → Accepted (take at text) → Accepted (take n (drop at text)) → Accepted (take (at + n) text)
 accepted_more text at n e q a b =
     let w = ends_within text at n e q in
-    accepted_both (through text at n) at w.0 (subst Accepted (sym w.1) a) (subst Accepted (sym (piece_behind text at n)) b)
+    accepted_both (through text at n) at w.0 (subst Accepted (sym w.1) a) (subst Accepted (sym (piece_after text at n)) b)
 
 reads_more : (text : List ℕ) (at n : ℕ) (ps qs : List (Node Policy)) → EndsPiece text at → IsPiece (drop at text) n → HasPoliciesFrom 0 (take at text) ps → HasPoliciesFrom at (take n (drop at text)) qs → HasPoliciesFrom 0 (take (at + n) text) (ps ++ qs)
 reads_more text at n ps qs e q a b =
     let w = ends_within text at n e q in
-    reads_join (through text at n) at ps qs w.0 (subst (λ x. HasPoliciesFrom 0 x ps) (sym w.1) a) (subst (λ x. HasPoliciesFrom at x qs) (sym (piece_behind text at n)) b)
+    reads_join (through text at n) at ps qs w.0 (subst (λ x. HasPoliciesFrom 0 x ps) (sym w.1) a) (subst (λ x. HasPoliciesFrom at x qs) (sym (piece_after text at n)) b)
 
 -- ---- readers
 
 -- nothing is read yet
-pub reader_begins : (text : List ℕ) → HasTokens text → IsCharBoundary text 0 → IsBehindPolicies text 0
+pub reader_begins : (text : List ℕ) → HasTokens text → IsCharBoundary text 0 → IsAfterPolicies text 0
 reader_begins text t b = record { tokens = t; inside = omega arith; boundary = b; ends = inl refl; accepted = accepted_empty [] [] refl refl refl }
 
 pub read_none : (text : List ℕ) → HasRead (record { text = text; at = 0 }) text []
@@ -88,7 +88,7 @@ pub next_inside : (text : List ℕ) (at : ℕ) (piece : List ℕ) → at ≤ len
 next_inside text at piece b x = omega (arith, piece_inside (drop at text) (length piece) x.first.piece, length-drop at text, b)
 
 -- the reader continues with the next piece, which has a policy
-pub reader_goes_on : (text : List ℕ) (at by : ℕ) (piece : List ℕ) (q : Node Policy) → IsBehindPolicies text at → IsNext (record { text = text; at = at }) piece → IsPolicyFrom by piece q → IsBehindPolicies text (at + length piece)
+pub reader_goes_on : (text : List ℕ) (at by : ℕ) (piece : List ℕ) (q : Node Policy) → IsAfterPolicies text at → IsNext (record { text = text; at = at }) piece → IsPolicyFrom by piece q → IsAfterPolicies text (at + length piece)
 reader_goes_on text at by piece q b x (p, h, e) = record {
   tokens = b.tokens;
   inside = next_inside text at piece b.inside x;
@@ -124,7 +124,7 @@ read_all text at ps all r x =
     (subst (HasPolicies text) (append-nil ps) (from_start text (ps ++ []) (reads_join text at ps [] (ends_of text at ps all r) (reads_of text at ps all r) none)))
 
 -- if no piece follows and the rest is accepted, the reader has ended
-pub reader_ends : (text : List ℕ) (at by : ℕ) (qs : List (Node Policy)) → IsBehindPolicies text at → HasNoPiece (drop at text) → HasPoliciesFrom by (drop at text) qs → HasEnded (record { text = text; at = at })
+pub reader_ends : (text : List ℕ) (at by : ℕ) (qs : List (Node Policy)) → IsAfterPolicies text at → HasNoPiece (drop at text) → HasPoliciesFrom by (drop at text) qs → HasEnded (record { text = text; at = at })
 reader_ends text at by qs b n h =
     let rest = part_accepted by (drop at text) qs h in
     record { none = n; rest = rest; accepted = accepted_both text at b.ends b.accepted rest }
@@ -160,7 +160,7 @@ only_grammar from part text vs s f h OutOfMemory r = tt
 abbrev Fitting : List ℕ → Type 0
 Fitting text = (vs : List (List ℕ)) × SplitsInto text vs × (list_any is_too_large vs ≡ false)
 
-module _ (text : List ℕ) (at : ℕ) (b : IsBehindPolicies text at) where
+module _ (text : List ℕ) (at : ℕ) (b : IsAfterPolicies text at) where
   rest_fits : EndsPiece text at → Fitting (drop at text)
   rest_fits (inl e) = subst (λ k. Fitting (drop k text)) (sym e) (b.tokens.units, b.tokens.split, b.tokens.fitting)
   rest_fits (inr p) = (parts_fit text at b.tokens.units p b.tokens.split b.tokens.fitting).1

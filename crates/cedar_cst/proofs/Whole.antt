@@ -45,15 +45,15 @@ right_leaves none h = tt
 right_leaves (leaf t f) h = (h.0, right_leaves f h.1)
 right_leaves (branch l f g) h = let k = split_right (yield f) (yield g) h in (right_leaves f k.0, right_leaves g k.1)
 
-get_behind : (front : List Lexeme) (t : Lexeme) (r : List Lexeme) → slice_get (front ++ (t ∷ r)) (length front) ≡ Some t
-get_behind [] t r = refl
-get_behind (x ∷ front) t r = get_behind front t r
+get_after : (front : List Lexeme) (t : Lexeme) (r : List Lexeme) → slice_get (front ++ (t ∷ r)) (length front) ≡ Some t
+get_after [] t r = refl
+get_after (x ∷ front) t r = get_after front t r
 
 place_at : (text : List ℕ) (front : List Lexeme) (t : Lexeme) (r : List Lexeme) → place_of text (front ++ (t ∷ r)) (length (t ∷ r)) ≡ t.span.start
 place_at text front t r =
     let n = length-append front (t ∷ r) in
     let e : length (front ++ (t ∷ r)) - length (t ∷ r) ≡ length front = omega (arith, n) in
-    ap (λ z. start_or (length text) (slice_get (front ++ (t ∷ r)) z)) e ∙ ap (start_or (length text)) (get_behind front t r)
+    ap (λ z. start_or (length text) (slice_get (front ++ (t ∷ r)) z)) e ∙ ap (start_or (length text)) (get_after front t r)
 
 place_end : (text : List ℕ) (ls : List Lexeme) → place_of text ls 0 ≡ length text
 place_end text ls = ap (start_or (length text)) (slice_get_past ls (length ls - 0) (omega arith))

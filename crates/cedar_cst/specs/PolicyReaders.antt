@@ -31,7 +31,7 @@ abbrev pub EndsPiece : List ℕ → ℕ → Type 0
 EndsPiece text at = (at ≡ 0) ⊎ IsPiece text at
 
 -- policies may be read from here on: the text's tokens can be parsed, and what comes before is accepted
-pub record IsBehindPolicies (text : List ℕ) (at : ℕ) : Type 0 where
+pub record IsAfterPolicies (text : List ℕ) (at : ℕ) : Type 0 where
   pub tokens : HasTokens text
   pub inside : at ≤ length text
   pub boundary : IsCharBoundary text at

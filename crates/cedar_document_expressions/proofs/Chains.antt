@@ -18,7 +18,7 @@ use Rattle.cedar_tree.specs.NodeTrees.{is_node}
 use Rattle.cedar_tree.specs.declared.tree.Node.{Node}
 use Rattle.cedar_laws.specs.Table.{C}
 use Rattle.cedar_laws.specs.Table as table
-use Rattle.cedar_document_rows.specs.NodeDocuments.{IsAt, IsNodeOf, Writes, WritesBehind, as_leaf, document, end_of_tokens, kind_of_shown, nodes_of, text_of}
+use Rattle.cedar_document_rows.specs.NodeDocuments.{IsAt, IsNodeOf, Writes, WritesAfter, as_leaf, document, end_of_tokens, kind_of_shown, nodes_of, text_of}
 use Rattle.cedar_document_rows.specs.Found.{has_its_tokens, has_own, places}
 use Rattle.cedar_document_rows.specs.Kept.{KeepsTokens}
 use Rattle.cedar_document_rows.proofs.Found.{and_false, and_true, as_before}
@@ -199,7 +199,7 @@ module _ {m k : NodeKind} (f : Form m k) {i : ℤ} {whole : Erased} {old : List 
       pub next_missed : operand_has f.label place p (places mid) ≡ false → has_its_tokens (places old) whole ≡ false
       next_missed q = next_and_rest ∙ and_false _ _ (next_has false q)
 
-      module _ {U E V F : Type 0} {u : U} {v : V} {more end : List Sign} {new : List WrappedToken} (sign : (o : Shown) → text ≡ token_value (text_of o) → WritesBehind {U = U} {E = E} last.end (Ok u) now mid sheet more (o ∷ []) (f.sign o))
+      module _ {U E V F : Type 0} {u : U} {v : V} {more end : List Sign} {new : List WrappedToken} (sign : (o : Shown) → text ≡ token_value (text_of o) → WritesAfter {U = U} {E = E} last.end (Ok u) now mid sheet more (o ∷ []) (f.sign o))
           (operand : (x : Tree Shown k) → IsAt place (tree_yield x) → IsNodeOf p x → Writes {U = V} {E = F} (Ok v) mid new more end (tree_yield x) (document i x)) where
         grown : (ts : List Shown) (d : Doc) (those : List Shown) (made : Doc) (rest : Rest k) → ts ≡ those ++ rest_yield rest → d ≡ made · rest_document f.sign i rest → left ≡ nodes_of (rest_parts f.label rest) → ((b : List Shown) → end_of_tokens (b ++ map emptied those) ≡ last.end)
             → Writes {U = ⊤} {E = ⊤} (Ok tt) old now start sheet those made → Part k f.label f.sign i ts d old start place end new others

@@ -20,7 +20,7 @@ use Rattle.cedar_tree.specs.declared.tree.Expr as Expr
 use Rattle.cedar_tree.specs.declared.tree.RecInit as RecInit
 use Rattle.cedar_document_rows.specs.Found.{has_its_tokens, has_own}
 use Rattle.cedar_laws.specs.Table as table
-use Rattle.cedar_document_rows.specs.NodeDocuments.{IsAt, IsNodeOf, Writes, WritesBehind, as_leaf, nodes_of, text_of, kind_of_shown, end_of_tokens, document}
+use Rattle.cedar_document_rows.specs.NodeDocuments.{IsAt, IsNodeOf, Writes, WritesAfter, as_leaf, nodes_of, text_of, kind_of_shown, end_of_tokens, document}
 use Rattle.cedar_document_rows.proofs.InTurn.{always_ok, and_then}
 use Rattle.cedar_document_rows.proofs.Opened.{opened_tree, opened_token, ends_here}
 
@@ -59,7 +59,7 @@ module _ (X : Type 0) (k : NodeKind) (l : Label) (inside : X → Erased) (i : �
   IsItem r n old new sheet more = (f : Tree Shown k) → IsAt n.span (tree_yield f) → IsNodeOf (inside n.inner) f → Writes r old new sheet more (tree_yield f) (document i f)
 
   abbrev IsComma : {U E : Type 0} → Result U E → Span → List WrappedToken → List WrappedToken → List Sign → List Sign → Type 0
-  IsComma r s old new sheet more = (t : Shown) → codes "," ≡ token_value (text_of t) → WritesBehind s.end r old new sheet more (t ∷ []) (table.printed (as_leaf t) · line)
+  IsComma r s old new sheet more = (t : Shown) → codes "," ≡ token_value (text_of t) → WritesAfter s.end r old new sheet more (t ∷ []) (table.printed (as_leaf t) · line)
 
   module _ {V F : Type 0} {v : V} where
     first_stage : (n : Node X) (ns : List (Node X)) (start more : List Sign) (old new : List WrappedToken) → IsItem {U = V} {E = F} (Ok v) n old new start more → (f : Tree Shown k) (row : List (Shown × Tree Shown k))

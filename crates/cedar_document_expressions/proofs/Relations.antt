@@ -47,8 +47,8 @@ pub view_is_in : (a : Node Add.Add) (n : Node Name) (b : Node Add.Add)
 view_is_in a n b = search (rules, Or.the_lemmas)
 
 -- the label of a variant after an operand
-label_behind : (l m : Label) (s : Span) (p q r : Erased) (a : Tree Shown add) (f : Forest Label Shown) → branch (Label.add, Some s) p (branch (l, None) q r) ≡ nodes_of (branch Label.add (parts kind_of_shown a) (branch m f none)) → l ≡ m
-label_behind l m s p q r a f e =
+label_after : (l m : Label) (s : Span) (p q r : Erased) (a : Tree Shown add) (f : Forest Label Shown) → branch (Label.add, Some s) p (branch (l, None) q r) ≡ nodes_of (branch Label.add (parts kind_of_shown a) (branch m f none)) → l ≡ m
+label_after l m s p q r a f e =
     let o = opened_tree Label.add s p (branch (l, None) q r) a (branch m f none) refl e in
     let k : branch (l, None) q r ≡ branch (m, if is_node m then span_of text_of (λ t. t.span) (forest.yield f) else None) (nodes_of f) none = o.2 in
     let h : ◌≡◌ {A = Label × Option Span} (l, None) (m, if is_node m then span_of text_of (λ t. t.span) (forest.yield f) else None) = cc in
@@ -86,23 +86,23 @@ module _ {E : Type 0} {result : Result E NoDocument} {old new : List WrappedToke
         let v = opened_variant Label.compare _ _ (leaf o (branch Label.add (parts kind_of_shown b) none)) none x.2 in
         let w = opened_token text _ o (branch Label.add (parts kind_of_shown b) none) v.0 in
         k a o b x.1 x.0 w.0 (opened_tree Label.add at q none b none refl w.1).0
-    compared (has_or_like a o b) e k = let h = label_behind Label.compare Label.has_or_like s p _ _ a (leaf o (branch Label.add (parts kind_of_shown b) none)) e in absurd cc
-    compared (is_type a o n) e k = let h = label_behind Label.compare Label.is_type s p _ _ a (leaf o (branch Label.name (parts kind_of_shown n) none)) e in absurd cc
-    compared (is_in a o n x b) e k = let h = label_behind Label.compare Label.is_type s p _ _ a (leaf o (branch Label.name (parts kind_of_shown n) (leaf x (branch Label.add (parts kind_of_shown b) none)))) e in absurd cc
+    compared (has_or_like a o b) e k = let h = label_after Label.compare Label.has_or_like s p _ _ a (leaf o (branch Label.add (parts kind_of_shown b) none)) e in absurd cc
+    compared (is_type a o n) e k = let h = label_after Label.compare Label.is_type s p _ _ a (leaf o (branch Label.name (parts kind_of_shown n) none)) e in absurd cc
+    compared (is_in a o n x b) e k = let h = label_after Label.compare Label.is_type s p _ _ a (leaf o (branch Label.name (parts kind_of_shown n) (leaf x (branch Label.add (parts kind_of_shown b) none)))) e in absurd cc
 
     -- `has` or `like`
     pub worded : (t : Tree Shown relation) → branch (Label.add, Some s) p (branch (Label.has_or_like, None) (leaf text (branch (Label.add, Some at) q none)) none) ≡ nodes_of (parts kind_of_shown t)
         → ((a : Tree Shown add) (o : Shown) (b : Tree Shown add) → IsAt s (tree_yield a) → IsNodeOf p a → text ≡ token_value (text_of o) → IsNodeOf q b → Writes result old new sheet more (tree_yield a ++ o ∷ tree_yield b) (group (document i a · line · table.printed (as_leaf o) · line · nest i (document i b))))
         → Writes result old new sheet more (tree_yield t) (document i t)
     worded (single a) e k = absurd cc
-    worded (compare a o b) e k = let h = label_behind Label.has_or_like Label.compare s p _ _ a (leaf o (branch Label.add (parts kind_of_shown b) none)) e in absurd cc
+    worded (compare a o b) e k = let h = label_after Label.has_or_like Label.compare s p _ _ a (leaf o (branch Label.add (parts kind_of_shown b) none)) e in absurd cc
     worded (has_or_like a o b) e k =
         let x = opened_tree Label.add s p _ a (branch Label.has_or_like (leaf o (branch Label.add (parts kind_of_shown b) none)) none) refl e in
         let v = opened_variant Label.has_or_like _ _ (leaf o (branch Label.add (parts kind_of_shown b) none)) none x.2 in
         let w = opened_token text _ o (branch Label.add (parts kind_of_shown b) none) v.0 in
         k a o b x.1 x.0 w.0 (opened_tree Label.add at q none b none refl w.1).0
-    worded (is_type a o n) e k = let h = label_behind Label.has_or_like Label.is_type s p _ _ a (leaf o (branch Label.name (parts kind_of_shown n) none)) e in absurd cc
-    worded (is_in a o n x b) e k = let h = label_behind Label.has_or_like Label.is_type s p _ _ a (leaf o (branch Label.name (parts kind_of_shown n) (leaf x (branch Label.add (parts kind_of_shown b) none)))) e in absurd cc
+    worded (is_type a o n) e k = let h = label_after Label.has_or_like Label.is_type s p _ _ a (leaf o (branch Label.name (parts kind_of_shown n) none)) e in absurd cc
+    worded (is_in a o n x b) e k = let h = label_after Label.has_or_like Label.is_type s p _ _ a (leaf o (branch Label.name (parts kind_of_shown n) (leaf x (branch Label.add (parts kind_of_shown b) none)))) e in absurd cc
 
   module _ {path : Erased} {type : Span} {is_text : List ℕ} where
     -- `is` and a type
@@ -110,8 +110,8 @@ module _ {E : Type 0} {result : Result E NoDocument} {old new : List WrappedToke
         → ((a : Tree Shown add) (o : Shown) (n : Tree Shown name) → IsAt s (tree_yield a) → IsNodeOf p a → is_text ≡ token_value (text_of o) → IsNodeOf path n → Writes result old new sheet more (tree_yield a ++ o ∷ tree_yield n) (group (document i a · space · table.printed (as_leaf o) · space · nest i (document i n))))
         → Writes result old new sheet more (tree_yield t) (document i t)
     typed (single a) e k = absurd cc
-    typed (compare a o b) e k = let h = label_behind Label.is_type Label.compare s p _ _ a (leaf o (branch Label.add (parts kind_of_shown b) none)) e in absurd cc
-    typed (has_or_like a o b) e k = let h = label_behind Label.is_type Label.has_or_like s p _ _ a (leaf o (branch Label.add (parts kind_of_shown b) none)) e in absurd cc
+    typed (compare a o b) e k = let h = label_after Label.is_type Label.compare s p _ _ a (leaf o (branch Label.add (parts kind_of_shown b) none)) e in absurd cc
+    typed (has_or_like a o b) e k = let h = label_after Label.is_type Label.has_or_like s p _ _ a (leaf o (branch Label.add (parts kind_of_shown b) none)) e in absurd cc
     typed (is_type a o n) e k =
         let x = opened_tree Label.add s p _ a (branch Label.is_type (leaf o (branch Label.name (parts kind_of_shown n) none)) none) refl e in
         let v = opened_variant Label.is_type _ _ (leaf o (branch Label.name (parts kind_of_shown n) none)) none x.2 in
@@ -132,8 +132,8 @@ module _ {E : Type 0} {result : Result E NoDocument} {old new : List WrappedToke
           → Writes result old new sheet more (tree_yield a ++ o ∷ (tree_yield n ++ x ∷ tree_yield b)) (group (document i a · space · table.printed (as_leaf o) · space · nest i (document i n) · line · table.printed (as_leaf x) · space · nest i (document i b))))
           → Writes result old new sheet more (tree_yield t) (document i t)
       placed (single a) e k = absurd cc
-      placed (compare a o b) e k = let h = label_behind Label.is_type Label.compare s p _ _ a (leaf o (branch Label.add (parts kind_of_shown b) none)) e in absurd cc
-      placed (has_or_like a o b) e k = let h = label_behind Label.is_type Label.has_or_like s p _ _ a (leaf o (branch Label.add (parts kind_of_shown b) none)) e in absurd cc
+      placed (compare a o b) e k = let h = label_after Label.is_type Label.compare s p _ _ a (leaf o (branch Label.add (parts kind_of_shown b) none)) e in absurd cc
+      placed (has_or_like a o b) e k = let h = label_after Label.is_type Label.has_or_like s p _ _ a (leaf o (branch Label.add (parts kind_of_shown b) none)) e in absurd cc
       placed (is_type a o n) e k =
           let x = opened_tree Label.add s p _ a (branch Label.is_type (leaf o (branch Label.name (parts kind_of_shown n) none)) none) refl e in
           let v = opened_variant Label.is_type _ _ (leaf o (branch Label.name (parts kind_of_shown n) none)) none x.2 in

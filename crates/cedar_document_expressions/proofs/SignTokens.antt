@@ -74,9 +74,9 @@ module _ (s : Span) where
       let k = h.1 in
       (grind (arith, nat_tests), within_it y.span.end b c m (omega (arith, l, j, k)) e h.2)
 
-  behind_it : (p : ℕ) (b : List Shown) → s.end ≤ p → InOrderFrom p (places b) → AllByRecursion Outside b
-  behind_it p [] l h = tt
-  behind_it p (y ∷ b) l h = let j = h.0 in let k = h.1 in (grind (arith, nat_tests), behind_it y.span.end b (omega (arith, l, j, k)) h.2)
+  after_it : (p : ℕ) (b : List Shown) → s.end ≤ p → InOrderFrom p (places b) → AllByRecursion Outside b
+  after_it p [] l h = tt
+  after_it p (y ∷ b) l h = let j = h.0 in let k = h.1 in (grind (arith, nat_tests), after_it y.span.end b (omega (arith, l, j, k)) h.2)
 
   rest_of : (p : ℕ) (b c : List Shown) (x : Shown) → InOrderFrom p (places (b ++ (x ∷ c))) → InOrderFrom x.span.start (places (x ∷ c))
   rest_of p [] c x h = (omega arith, h.1, h.2)
@@ -96,12 +96,12 @@ module _ (s : Span) where
     inside : AllByRecursion Inside (x ∷ ss)
     inside = within_it x.span.start (x ∷ ss) a m (omega (arith, first)) last from_first
 
-    outside_behind : AllByRecursion Outside (m ∷ a)
-    outside_behind = behind_it m.span.start (m ∷ a) (omega (arith, last)) (rest_of x.span.start (x ∷ ss) a m from_first)
+    outside_after : AllByRecursion Outside (m ∷ a)
+    outside_after = after_it m.span.start (m ∷ a) (omega (arith, last)) (rest_of x.span.start (x ∷ ss) a m from_first)
 
     pub those_between : (filter (stands_in s) (b ++ (x ∷ (ss ++ (m ∷ a)))) ≡ x ∷ ss) × (emptied_in s (b ++ (x ∷ (ss ++ (m ∷ a)))) ≡ (b ++ map emptied (x ∷ ss)) ++ (m ∷ a))
     those_between =
-        let r = nothing_more (m ∷ a) outside_behind in (
+        let r = nothing_more (m ∷ a) outside_after in (
           none_kept b (x ∷ (ss ++ (m ∷ a))) outside_before ∙ all_kept (x ∷ ss) (m ∷ a) inside ∙ ap (λ z. (x ∷ ss) ++ z) r.0 ∙ append-nil (x ∷ ss),
           none_emptied b (x ∷ (ss ++ (m ∷ a))) outside_before ∙ ap (λ z. b ++ z) (all_emptied (x ∷ ss) (m ∷ a) inside ∙ ap (λ z. map emptied (x ∷ ss) ++ z) r.1) ∙ sym (append_assoc b (map emptied (x ∷ ss)) (m ∷ a)),
         )
@@ -141,14 +141,14 @@ before_times : (n : ℕ) (sign : List ℕ) (s : Span) (p : Erased) → signs_bef
 before_times zero sign s p = refl
 before_times (suc n) sign s p = ap suc (before_times n sign s p)
 
-start_behind : (n : ℕ) (sign : List ℕ) (s : Span) (p : Erased) → start_of_node (times n sign (node Label.member s p none)) ≡ s.start
-start_behind zero sign s p = refl
-start_behind (suc n) sign s p = start_behind n sign s p
+start_after : (n : ℕ) (sign : List ℕ) (s : Span) (p : Erased) → start_of_node (times n sign (node Label.member s p none)) ≡ s.start
+start_after zero sign s p = refl
+start_after (suc n) sign s p = start_after n sign s p
 
 signs_or_need : (ps : List Span) (l : Label) (n : ℕ) (sign : List ℕ) (span s : Span) (p : Erased) → has_own ps Label.unary (Some span) (signs_or l n sign (node Label.member s p none)) ≡ (n == 0 || count_between span.start s.start ps == n)
 signs_or_need ps l zero sign span s p = refl
 signs_or_need ps l (suc n) sign span s p =
-    ap (λ k. suc k == 0 || count_between span.start (start_of_node (times n sign (node Label.member s p none))) ps == suc k) (before_times n sign s p) ∙ ap (λ q. suc n == 0 || count_between span.start q ps == suc n) (start_behind n sign s p)
+    ap (λ k. suc k == 0 || count_between span.start (start_of_node (times n sign (node Label.member s p none))) ps == suc k) (before_times n sign s p) ∙ ap (λ q. suc n == 0 || count_between span.start q ps == suc n) (start_after n sign s p)
 
 -- what signs need
 pub signs_need : (ps : List Span) (op : NegOp) (span s : Span) (p : Erased) → has_own ps Label.unary (Some span) (sign_leaves (Some op) (node Label.member s p none)) ≡ (sign_count op == 0 || count_between span.start s.start ps == sign_count op)

@@ -13,7 +13,7 @@ ghost use Rattle.cedar_layout.specs.Layout.{◌·◌, line, nest, nil};
 ghost use Rattle.cedar_layout.specs.Lookups.{AreInOrder, Shown};
 ghost use Rattle.cedar_document_rows.specs.Found.{Finds, has_its_tokens, has_own, places};
 ghost use Rattle.cedar_document_rows.specs.Kept.{KeepsTokens};
-ghost use Rattle.cedar_document_rows.specs.NodeDocuments.{IsAt, IsNodeOf, Writes, WritesBehind, as_leaf, document, text_of};
+ghost use Rattle.cedar_document_rows.specs.NodeDocuments.{IsAt, IsNodeOf, Writes, WritesAfter, as_leaf, document, text_of};
 ghost use Rattle.cedar_laws.specs.Table.{space};
 ghost use Rattle.cedar_laws.specs.Table.{printed as leaf_of};
 
@@ -199,7 +199,7 @@ fn write_comparison<'src>(
     ensures kept { KeepsTokens tokens.old tokens.new }
     ensures found { Finds result (has_its_tokens (places tokens.old) (add_parts right.now.inner)) }
     ensures writes { (o : Shown) (b : Tree Shown kind.add) → relop_text op ≡ token_value (text_of o) → IsNodeOf (add_parts right.now.inner) b
-        → WritesBehind before.end result tokens.old tokens.new sheet.old sheet.new (o ∷ tree_yield b) (space · leaf_of (as_leaf o) · space · document indent b) }
+        → WritesAfter before.end result tokens.old tokens.new sheet.old sheet.new (o ∷ tree_yield b) (space · leaf_of (as_leaf o) · space · document indent b) }
 {
     sheet.text(" ")?;
     token_after(sheet, rel_op_text(op), before, Next::Nothing, tokens)?;
@@ -221,7 +221,7 @@ fn write_keyword<'src>(
     ensures kept { KeepsTokens tokens.old tokens.new }
     ensures found { Finds result (has_its_tokens (places tokens.old) (add_parts right.now.inner)) }
     ensures writes { (o : Shown) (b : Tree Shown kind.add) → keyword.now ≡ token_value (text_of o) → IsNodeOf (add_parts right.now.inner) b
-        → WritesBehind before.end result tokens.old tokens.new sheet.old sheet.new (o ∷ tree_yield b) (line · leaf_of (as_leaf o) · line · nest indent (document indent b)) }
+        → WritesAfter before.end result tokens.old tokens.new sheet.old sheet.new (o ∷ tree_yield b) (line · leaf_of (as_leaf o) · line · nest indent (document indent b)) }
 {
     sheet.line()?;
     token_after(sheet, keyword, before, Next::Nothing, tokens)?;
@@ -244,7 +244,7 @@ fn write_in<'src>(
     ensures kept { KeepsTokens tokens.old tokens.new }
     ensures found { Finds result (has_its_tokens (places tokens.old) (add_parts entity.now.inner)) }
     ensures writes { (o : Shown) (b : Tree Shown kind.add) → codes "in" ≡ token_value (text_of o) → IsNodeOf (add_parts entity.now.inner) b
-        → WritesBehind before.end result tokens.old tokens.new sheet.old sheet.new (o ∷ tree_yield b) (line · leaf_of (as_leaf o) · space · nest indent (document indent b)) }
+        → WritesAfter before.end result tokens.old tokens.new sheet.old sheet.new (o ∷ tree_yield b) (line · leaf_of (as_leaf o) · space · nest indent (document indent b)) }
 {
     sheet.line()?;
     token_after(sheet, "in", before, Next::Nothing, tokens)?;
@@ -266,7 +266,7 @@ fn write_type<'src>(
     ensures kept { KeepsTokens tokens.old tokens.new }
     ensures found { Finds result (has_its_tokens (places tokens.old) (path_parts entity_type.now.inner.path.items entity_type.now.inner.name)) }
     ensures writes { (o : Shown) (n : Tree Shown kind.name) → codes "is" ≡ token_value (text_of o) → IsNodeOf (path_parts entity_type.now.inner.path.items entity_type.now.inner.name) n
-        → WritesBehind before.end result tokens.old tokens.new sheet.old sheet.new (o ∷ tree_yield n) (space · leaf_of (as_leaf o) · space · nest indent (document indent n)) }
+        → WritesAfter before.end result tokens.old tokens.new sheet.old sheet.new (o ∷ tree_yield n) (space · leaf_of (as_leaf o) · space · nest indent (document indent n)) }
 {
     sheet.text(" ")?;
     token_after(sheet, "is", before, Next::Nothing, tokens)?;

@@ -104,16 +104,16 @@ none_from : (q : ℕ) (b : List Shown) → AllByRecursion (StartsBefore q) b →
 none_from q [] h = tt
 none_from q (y ∷ b) h = let i = h.0 in (grind (arith, nat_tests), none_from q b h.1)
 
-none_behind : (p : ℕ) (b : List Shown) (x : Shown) (a : List Shown) → InOrderFrom p (places (b ++ (x ∷ a))) → AllByRecursion (λ t. IsFalse (starts_from (end_of_tokens b) t)) b
-none_behind p b x a h = none_from (end_of_tokens b) b (before_the_end p b (first_part p b (x ∷ a) h))
+none_after : (p : ℕ) (b : List Shown) (x : Shown) (a : List Shown) → InOrderFrom p (places (b ++ (x ∷ a))) → AllByRecursion (λ t. IsFalse (starts_from (end_of_tokens b) t)) b
+none_after p b x a h = none_from (end_of_tokens b) b (before_the_end p b (first_part p b (x ∷ a) h))
 
 ends_early : (p : ℕ) (b : List Shown) (x : Shown) (a : List Shown) → InOrderFrom p (places (b ++ (x ∷ a))) → end_of_tokens b ≤ x.span.start
 ends_early p [] x a h = omega arith
 ends_early p (y ∷ []) x a h = h.2.0
 ends_early p (y ∷ (z ∷ b)) x a h = ends_early y.span.end (z ∷ b) x a h.2
 
-starts_behind : (p : ℕ) (b : List Shown) (x : Shown) (a : List Shown) → InOrderFrom p (places (b ++ (x ∷ a))) → IsTrue (starts_from (end_of_tokens b) x)
-starts_behind p b x a h = let i = ends_early p b x a h in grind (arith, nat_tests)
+starts_after : (p : ℕ) (b : List Shown) (x : Shown) (a : List Shown) → InOrderFrom p (places (b ++ (x ∷ a))) → IsTrue (starts_from (end_of_tokens b) x)
+starts_after p b x a h = let i = ends_early p b x a h in grind (arith, nat_tests)
 
 is_itself : (n : ℕ) → IsTrue (n == n)
 is_itself n = grind (arith, nat_tests)
@@ -130,5 +130,5 @@ module _ (ts : List WrappedToken) (order : AreInOrder ts) (b : List Shown) (x : 
   pub first_at_end : (p : ℕ) → x.span.end ≡ p → AllByRecursion (λ t. IsFalse (ends_at p t)) b × IsTrue (ends_at p x)
   first_at_end p f = rw (sym f) (none_ends b x (is_long 0 b x a in_order) (precede 0 b x a in_order), is_itself x.span.end)
 
-  pub first_behind : (p : ℕ) → end_of_tokens b ≡ p → AllByRecursion (λ t. IsFalse (starts_from p t)) b × IsTrue (starts_from p x)
-  first_behind p f = rw (sym f) (none_behind 0 b x a in_order, starts_behind 0 b x a in_order)
+  pub first_after : (p : ℕ) → end_of_tokens b ≡ p → AllByRecursion (λ t. IsFalse (starts_from p t)) b × IsTrue (starts_from p x)
+  first_after p f = rw (sym f) (none_after 0 b x a in_order, starts_after 0 b x a in_order)

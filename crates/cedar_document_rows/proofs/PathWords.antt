@@ -14,7 +14,7 @@ use Rattle.cedar_layout.specs.Lookups.{Shown, emptied, shown}
 use Rattle.cedar_tree.specs.Erased.{path_parts}
 use Rattle.cedar_tree.specs.declared.tree.Ident.{Ident}
 use Rattle.cedar_tree.specs.declared.tree.Node.{Node}
-use Rattle.cedar_document_rows.specs.NodeDocuments.{IsNodeOf, Writes, WritesBehind, kind_of_shown, as_leaf, document, text_of}
+use Rattle.cedar_document_rows.specs.NodeDocuments.{IsNodeOf, Writes, WritesAfter, kind_of_shown, as_leaf, document, text_of}
 use Rattle.cedar_laws.specs.Table as table
 use Rattle.cedar_sheet.specs.Marks.{Sign, written}
 use Rattle.cedar_sheet.proofs.Written.{written-dot}
@@ -37,7 +37,7 @@ module _ (i : ℤ) (whole : Tree Shown kind.name) (start : List Sign) (before af
   -- a word and the `::` after it
   pub name_goes_on : {U V E F : Type 0} {u : U} {v : V} (word : Node Ident) (rest : List (Node Ident)) (sheet named more : List Sign) (old mid new : List WrappedToken) → NameSoFar i whole start before after last (word ∷ rest) sheet old
       → ((x : Shown) → x.span.start ≡ word.span.start → word.inner.0.now ≡ token_value (text_of x) → Writes {U = U} {E = E} (Ok u) old mid sheet named (x ∷ []) (table.printed (as_leaf x)))
-      → ((c : Shown) → codes "::" ≡ token_value (text_of c) → WritesBehind {U = V} {E = F} word.span.end (Ok v) mid new named more (c ∷ []) (table.printed (as_leaf c)))
+      → ((c : Shown) → codes "::" ≡ token_value (text_of c) → WritesAfter {U = V} {E = F} word.span.end (Ok v) mid new named more (c ∷ []) (table.printed (as_leaf c)))
       → NameSoFar i whole start before after last rest more new
   name_goes_on word rest sheet named more old mid new h f g = go h.left h.nodes h.tokens h.state h.writes
     where

@@ -52,8 +52,8 @@ IsAt span ts = span_of text_of (λ t. t.span) ts ≡ Some span
 abbrev pub Anywhere : List Shown → Type 0
 Anywhere before = ⊤
 
-abbrev pub Behind : ℕ → List Shown → Type 0
-Behind place before = end_of_tokens before ≡ place
+abbrev pub RightAfter : ℕ → List Shown → Type 0
+RightAfter place before = end_of_tokens before ≡ place
 
 -- If the tokens ts are consecutive among the others, after tokens that satisfy P, they are written as this document after the sheet's contents, if they are
 -- written at all; then they have no comments, and nothing else has changed.
@@ -64,5 +64,5 @@ pub record WritesWhere {U E : Type 0} (P : List Shown → Type 0) (result : Resu
 abbrev pub Writes : {U E : Type 0} → Result U E → List WrappedToken → List WrappedToken → List Sign → List Sign → List Shown → Doc → Type 0
 Writes result old new sheet more ts doc = WritesWhere Anywhere result old new sheet more ts doc
 
-abbrev pub WritesBehind : {U E : Type 0} → ℕ → Result U E → List WrappedToken → List WrappedToken → List Sign → List Sign → List Shown → Doc → Type 0
-WritesBehind place result old new sheet more ts doc = WritesWhere (Behind place) result old new sheet more ts doc
+abbrev pub WritesAfter : {U E : Type 0} → ℕ → Result U E → List WrappedToken → List WrappedToken → List Sign → List Sign → List Shown → Doc → Type 0
+WritesAfter place result old new sheet more ts doc = WritesWhere (RightAfter place) result old new sheet more ts doc

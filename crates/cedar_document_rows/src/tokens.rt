@@ -12,7 +12,7 @@ ghost use Rattle.cedar_sheet.specs.Marks.{written};
 ghost use Rattle.cedar_sheet.specs.Next.{next_document};
 ghost use Rattle.cedar_document_rows.specs.Found.{Finds, places, starts};
 ghost use Rattle.cedar_document_rows.specs.Kept.{KeepsTokens};
-ghost use Rattle.cedar_document_rows.specs.NodeDocuments.{Writes, WritesBehind, as_leaf, text_of};
+ghost use Rattle.cedar_document_rows.specs.NodeDocuments.{Writes, WritesAfter, as_leaf, text_of};
 ghost use Rattle.cedar_laws.specs.Table.{C, printed, space};
 
 use crate::written::NoDocument;
@@ -96,7 +96,7 @@ pub fn token_after<'src>(
 ) -> Result<(), AllocError>
     requires { AreInOrder tokens.old }
     ensures kept { KeepsTokens tokens.old tokens.new }
-    ensures writes { (t : Shown) → text.now ≡ token_value (text_of t) → WritesBehind span.end result tokens.old tokens.new sheet.old sheet.new (t ∷ []) (C (as_leaf t) (next_document next)) }
+    ensures writes { (t : Shown) → text.now ≡ token_value (text_of t) → WritesAfter span.end result tokens.old tokens.new sheet.old sheet.new (t ∷ []) (C (as_leaf t) (next_document next)) }
 {
     let comment = get_comment_after_end(span, tokens);
     commented(sheet, text, comment, next)
@@ -111,7 +111,7 @@ pub fn breaking_sign<'src>(
 ) -> Result<(), AllocError>
     requires { AreInOrder tokens.old }
     ensures kept { KeepsTokens tokens.old tokens.new }
-    ensures writes { (t : Shown) → text.now ≡ token_value (text_of t) → WritesBehind span.end result tokens.old tokens.new sheet.old sheet.new (t ∷ []) (space · C (as_leaf t) line) }
+    ensures writes { (t : Shown) → text.now ≡ token_value (text_of t) → WritesAfter span.end result tokens.old tokens.new sheet.old sheet.new (t ∷ []) (space · C (as_leaf t) line) }
 {
     sheet.text(" ")?;
     token_after(sheet, text, span, Next::Line, tokens)
@@ -126,7 +126,7 @@ pub fn sign_and_line<'src>(
 ) -> Result<(), AllocError>
     requires { AreInOrder tokens.old }
     ensures kept { KeepsTokens tokens.old tokens.new }
-    ensures writes { (t : Shown) → text.now ≡ token_value (text_of t) → WritesBehind span.end result tokens.old tokens.new sheet.old sheet.new (t ∷ []) (space · printed (as_leaf t) · line) }
+    ensures writes { (t : Shown) → text.now ≡ token_value (text_of t) → WritesAfter span.end result tokens.old tokens.new sheet.old sheet.new (t ∷ []) (space · printed (as_leaf t) · line) }
 {
     sheet.text(" ")?;
     token_after(sheet, text, span, Next::Nothing, tokens)?;
@@ -142,7 +142,7 @@ pub fn comma<'src>(
     requires { AreInOrder tokens.old }
     ensures kept { KeepsTokens tokens.old tokens.new }
     ensures none { before ≡ None → OnOk result ((sheet.new ≡ sheet.old) × (tokens.new ≡ tokens.old)) }
-    ensures writes { (span : Span) → before ≡ Some span → (t : Shown) → codes "," ≡ token_value (text_of t) → WritesBehind span.end result tokens.old tokens.new sheet.old sheet.new (t ∷ []) (printed (as_leaf t) · line) }
+    ensures writes { (span : Span) → before ≡ Some span → (t : Shown) → codes "," ≡ token_value (text_of t) → WritesAfter span.end result tokens.old tokens.new sheet.old sheet.new (t ∷ []) (printed (as_leaf t) · line) }
 {
     let Some(span) = before else {
         return Ok(());

@@ -8,10 +8,10 @@ use Rattle.cedar_tree.specs.Erased.{Erased}
 use Rattle.cedar_document_rows.specs.NodeDocuments.{end_of_tokens, nodes_of}
 
 -- after one token, with or without its comments
-pub behind_token : (p : ℕ) (x : Shown) → x.span.end ≡ p → (b : List Shown) → end_of_tokens (b ++ map emptied (x ∷ [])) ≡ p
-behind_token p x e [] = e
-behind_token p x e (y ∷ []) = e
-behind_token p x e (y ∷ (z ∷ b)) = behind_token p x e (z ∷ b)
+pub after_token : (p : ℕ) (x : Shown) → x.span.end ≡ p → (b : List Shown) → end_of_tokens (b ++ map emptied (x ∷ [])) ≡ p
+after_token p x e [] = e
+after_token p x e (y ∷ []) = e
+after_token p x e (y ∷ (z ∷ b)) = after_token p x e (z ∷ b)
 
 -- no part is without tokens
 pub no_token : (x : Shown) (g : Forest Label Shown) → ◌≡◌ {A = Erased} forest.none (nodes_of (leaf x g)) → ⊥

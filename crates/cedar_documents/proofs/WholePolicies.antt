@@ -13,7 +13,7 @@ use Rattle.cedar_tree.specs.declared.tree.Node.{Node}
 use Rattle.cedar_tree.specs.declared.tree.Policy.{Policy}
 use Rattle.cedar_document_rows.specs.Found.{has_its_tokens, has_own, starts}
 use Rattle.cedar_document_rows.specs.NodeDocuments.{IsAt, end_of_tokens, kind_of_shown, nodes_of}
-use Rattle.cedar_documents.proofs.PolicyParts.{behind_token}
+use Rattle.cedar_documents.proofs.PolicyParts.{after_token}
 
 -- trees with different labels differ
 two_labels : (k l : Label) (s u : Option Span) (p q r o : Erased) → (k ≡ l → ⊥) → branch (k, s) p q ≡ branch (l, u) r o → ⊥
@@ -65,7 +65,7 @@ policy_ends ns xs ys zs cs e l c d q s =
     ends_after p ns (e ∷ (l ∷ (xs ++ (c ∷ (ys ++ (d ∷ ts))))))
     (ends_after p (e ∷ l ∷ []) (xs ++ (c ∷ (ys ++ (d ∷ ts))))
     (scope_ends p xs ys ts c d
-    (ends_after p zs (q ∷ us) (ends_after p (q ∷ []) us (ends_after p cs (s ∷ []) (behind_token p s refl))))))
+    (ends_after p zs (q ∷ us) (ends_after p (q ∷ []) us (ends_after p cs (s ∷ []) (after_token p s refl))))))
 
 -- ---- the tokens that a policy needs
 

@@ -15,7 +15,7 @@ ghost use Rattle.cedar_sheet.specs.Next.{next_document};
 ghost use Rattle.cedar_document_rows.specs.Found.{Finds, has_its_tokens, places};
 ghost use Rattle.cedar_document_rows.specs.Kept.{KeepsTokens};
 ghost use Rattle.cedar_laws.specs.Leaves.{part_map};
-ghost use Rattle.cedar_document_rows.specs.NodeDocuments.{IsAt, IsNodeOf, Writes, WritesBehind, as_leaf, text_of};
+ghost use Rattle.cedar_document_rows.specs.NodeDocuments.{IsAt, IsNodeOf, Writes, WritesAfter, as_leaf, text_of};
 ghost use Rattle.cedar_documents.specs.PartDocuments.{IsPartOf, body_document, braced_document, part_document};
 ghost use Rattle.cedar_laws.specs.Table as table;
 
@@ -98,7 +98,7 @@ fn write_block<'src>(
     ensures kept { KeepsTokens tokens.old tokens.new }
     ensures found { Finds result (has_its_tokens (places tokens.old) (expr_parts expr.now.inner)) }
     ensures writes { (l : Shown) (t : Tree Shown kind.expr) (r : Shown) → codes "{" ≡ token_value (text_of l) → IsAt expr.now.span (tree_yield t) → IsNodeOf (expr_parts expr.now.inner) t → r.span.end ≡ span.end → codes "}" ≡ token_value (text_of r)
-        → WritesBehind before.end result tokens.old tokens.new sheet.old sheet.new (l ∷ tree_yield t ++ r ∷ []) (braced_document indent l t r) }
+        → WritesAfter before.end result tokens.old tokens.new sheet.old sheet.new (l ∷ tree_yield t ++ r ∷ []) (braced_document indent l t r) }
 {
     let comment = get_comment_after_end(before, tokens);
     write_brace(sheet, comment, indent)?;

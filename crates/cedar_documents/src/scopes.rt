@@ -16,7 +16,7 @@ ghost use Rattle.cedar_sheet.specs.Next.{next_document};
 ghost use Rattle.cedar_document_rows.specs.Found.{Finds, has_its_tokens, places};
 ghost use Rattle.cedar_document_rows.specs.Kept.{KeepsTokens};
 ghost use Rattle.cedar_laws.specs.Leaves.{part_map};
-ghost use Rattle.cedar_document_rows.specs.NodeDocuments.{IsNodeOf, Writes, WritesBehind, as_leaf, document, text_of};
+ghost use Rattle.cedar_document_rows.specs.NodeDocuments.{IsNodeOf, Writes, WritesAfter, as_leaf, document, text_of};
 ghost use Rattle.cedar_documents.specs.PartDocuments.{IsPartOf, WritesScope, part_document, scope_document, span_before, variables_document};
 ghost use Rattle.cedar_laws.specs.Table as table;
 
@@ -135,7 +135,7 @@ fn write_left<'src>(
     ensures found { Finds result (has_its_tokens (places tokens.old) (type_parts variable.now.entity_type none)) }
     ensures bare { variable.now.entity_type ≡ None → Writes result tokens.old tokens.new sheet.old sheet.new [] (text variable.now.variable.inner.0.now · trail_of (trailing_text comment.now) nil) }
     ensures writes { (name : Node Name) → variable.now.entity_type ≡ Some name → (w : Shown) (t : Tree Shown kind.name) → codes "is" ≡ token_value (text_of w) → IsNodeOf (path_parts name.inner.path.items name.inner.name) t
-        → WritesBehind variable.now.variable.span.end result tokens.old tokens.new sheet.old sheet.new (w ∷ tree_yield t)
+        → WritesAfter variable.now.variable.span.end result tokens.old tokens.new sheet.old sheet.new (w ∷ tree_yield t)
         (text variable.now.variable.inner.0.now · trail_of (trailing_text comment.now) nil · table.type_part indent (as_leaf w) (document indent t)) }
 {
     sheet.text(variable.variable.inner.0)?;
@@ -168,7 +168,7 @@ fn write_type_part<'src>(
     ensures kept { KeepsTokens tokens.old tokens.new }
     ensures found { Finds result (has_its_tokens (places tokens.old) (path_parts name.now.inner.path.items name.now.inner.name)) }
     ensures writes { (w : Shown) (t : Tree Shown kind.name) → codes "is" ≡ token_value (text_of w) → IsNodeOf (path_parts name.now.inner.path.items name.now.inner.name) t
-        → WritesBehind before.end result tokens.old tokens.new sheet.old sheet.new (w ∷ tree_yield t) (table.type_part indent (as_leaf w) (document indent t)) }
+        → WritesAfter before.end result tokens.old tokens.new sheet.old sheet.new (w ∷ tree_yield t) (table.type_part indent (as_leaf w) (document indent t)) }
 {
     sheet.group()?;
     sheet.nest(indent)?;

@@ -8,4 +8,4 @@ mod Begun
 mod Rests
 mod Probed
 mod FirstUnits
-mod Behind
+mod RightAfter

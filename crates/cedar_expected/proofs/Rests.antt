@@ -33,9 +33,9 @@ tokens_both : (x y : List (List ℕ)) → AreTokens (λ t. t) x → AreTokens (�
 tokens_both [] y h k = k
 tokens_both (t ∷ x) y h k = (h.0, tokens_both x y h.1 k)
 
-tokens_behind : (x y : List (List ℕ)) → AreTokens (λ t. t) (x ++ y) → AreTokens (λ t. t) y
-tokens_behind [] y h = h
-tokens_behind (t ∷ x) y h = tokens_behind x y h.1
+tokens_after : (x y : List (List ℕ)) → AreTokens (λ t. t) (x ++ y) → AreTokens (λ t. t) y
+tokens_after [] y h = h
+tokens_after (t ∷ x) y h = tokens_after x y h.1
 
 -- Lists that begin with a whole one, whose last token is a `;`.
 module _ (front : List (List ℕ)) (tokens : AreTokens (λ t. t) (front ++ (codes ";" ∷ []))) (whole : IsList (front ++ (codes ";" ∷ []))) where
@@ -53,7 +53,7 @@ module _ (front : List (List ℕ)) (tokens : AreTokens (λ t. t) (front ++ (code
       let a : AreTokens (λ t. t) (all ++ ts) = begins_tokens greatest_depth (all ++ ts) b in
       let k = (beginnings_agree greatest_depth (all ++ ts) a).0 b in
       let q = parts k.tree (ts ++ k.rest) (subst (λ z. G kind_of greatest_depth k.tree z) (append_assoc all ts k.rest) k.grammar) in
-      (beginnings_agree greatest_depth ts (tokens_behind all ts a)).1 (record { rest = k.rest; tree = q.0; grammar = q.1 })
+      (beginnings_agree greatest_depth ts (tokens_after all ts a)).1 (record { rest = k.rest; tree = q.0; grammar = q.1 })
 
   begins_rest : (ts : List (List ℕ)) → Begins greatest_depth ts → Begins greatest_depth (all ++ ts)
   begins_rest ts b =
@@ -67,7 +67,7 @@ module _ (front : List (List ℕ)) (tokens : AreTokens (λ t. t) (front ++ (code
   rest_list ts (f, g) =
       let a : AreTokens (λ t. t) (all ++ ts) = texts_are_tokens (λ t. t) greatest_depth (all ++ ts) f g in
       let q = parts f ts ((grammars_agree (λ t. t) greatest_depth (all ++ ts) f a).0 g) in
-      (q.0, (grammars_agree (λ t. t) greatest_depth ts q.0 (tokens_behind all ts a)).1 q.1)
+      (q.0, (grammars_agree (λ t. t) greatest_depth ts q.0 (tokens_after all ts a)).1 q.1)
 
   list_rest : (ts : List (List ℕ)) → IsList ts → IsList (all ++ ts)
   list_rest ts (f, g) =

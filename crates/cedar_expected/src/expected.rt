@@ -1,7 +1,7 @@
 //! What could come at the place where a text leaves the grammar.
 ghost use Rattle.std.specs.Prelude.{IfOk, MatchOption};
 ghost use Rattle.cedar_expected.specs.Inside.Firsts.{BeginsWithFirst};
-ghost use Rattle.cedar_expected.specs.Inside.Leaving.{LeavesBehind};
+ghost use Rattle.cedar_expected.specs.Inside.Leaving.{LeavesAfter};
 ghost use Rattle.cedar_expected.specs.Expectations.{IsExpected, NeverLeaves};
 
 use crate::expectation::Expected;
@@ -45,7 +45,7 @@ struct Leaving<'src> {
 
 // Where `text` leaves the grammar, if it does.
 fn leave<'src>(alloc: Global, text: &'src str) -> Result<Option<Leaving<'src>>, AllocError>
-    ensures { IfOk result (λ leaving. MatchOption leaving (NeverLeaves text.now) (LeavesBehind text.now)) }
+    ensures { IfOk result (λ leaving. MatchOption leaving (NeverLeaves text.now) (LeavesAfter text.now)) }
 {
     refusal_is_unique();
     accepted_is_not_refused();

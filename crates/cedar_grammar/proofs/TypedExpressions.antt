@@ -288,14 +288,14 @@ module _ {A : Type 0} (kind : A → Kind) where
           (n.2.2, t.2, f.2.2),
         )
 
-    abbrev Behind : Lang A
-    Behind = Branch L.compare (Of kind is_comparison ⋄ G.Add kind room E) ∪ Branch L.has_or_like (G.One kind K.Has ⋄ (G.StrOperand kind ∪ G.HasField kind)) ∪ Branch L.has_or_like (G.One kind K.Like ⋄ G.StrOperand kind)
+    abbrev RightAfter : Lang A
+    RightAfter = Branch L.compare (Of kind is_comparison ⋄ G.Add kind room E) ∪ Branch L.has_or_like (G.One kind K.Has ⋄ (G.StrOperand kind ∪ G.HasField kind)) ∪ Branch L.has_or_like (G.One kind K.Like ⋄ G.StrOperand kind)
         ∪ Branch L.is_type (G.One kind K.Is ⋄ G.Path kind ⋄ Maybe (G.One kind K.In ⋄ G.Add kind room E))
 
-    related : (f : Forest Label A) → (G.Add kind room E ⋄ Maybe Behind) f → Typed kind T.relation f
+    related : (f : Forest Label A) → (G.Add kind room E ⋄ Maybe RightAfter) f → Typed kind T.relation f
     related f (u, v, e, x, y) = let r = go v (sum u x) y in (r.0, ap (without_trailing kind) e ∙ r.1, r.2)
       where
-        go : (v : Forest Label A) → Node L.add T.add u → Maybe Behind v → Typed kind T.relation (join u v)
+        go : (v : Forest Label A) → Node L.add T.add u → Maybe RightAfter v → Typed kind T.relation (join u v)
         go v n (inl (inl y)) = binary u v L.compare T.compare (λ t a r. refl) (λ t a r h k. (h, k)) n (operator_kept (G.Add kind room E) sum is_comparison (G.Add kind room E) L.add L.compare v sum y)
         go v n (inl (inr (inl y))) = binary u v L.has_or_like T.has_or_like (λ t a r. refl) (λ t a r h k. (h, k)) n (operator_kept (G.Add kind room E) sum (is K.Has) (G.StrOperand kind ∪ G.HasField kind) L.add L.has_or_like v has_operand y)
         go v n (inl (inr (inr (inl y)))) = binary u v L.has_or_like T.has_or_like (λ t a r. refl) (λ t a r h k. (h, k)) n (operator_kept (G.Add kind room E) sum (is K.Like) (G.StrOperand kind) L.add L.has_or_like v like_operand y)
@@ -303,7 +303,7 @@ module _ {A : Type 0} (kind : A → Kind) where
         go v n (inr z) = (T.single n.2.0, ap (without_trailing kind) (ap (λ q. join q v) n.1 ∙ ap (branch L.add n.0) z) ∙ ap (λ q. branch L.add q none) n.2.1, n.2.2)
 
     expression : (f : Forest Label A) → G.ExprIn kind room E f → Node L.expr T.expr f
-    expression f (g, e, inr (h, d, x)) = let t = ors (G.Add kind room E ⋄ Maybe Behind) related h x in (g, e, (T.ors_expr t.0, ap (without_trailing kind) d ∙ ap (λ z. branch L.or z none) t.1, t.2))
+    expression f (g, e, inr (h, d, x)) = let t = ors (G.Add kind room E ⋄ Maybe RightAfter) related h x in (g, e, (T.ors_expr t.0, ap (without_trailing kind) d ∙ ap (λ z. branch L.or z none) t.1, t.2))
     expression f (g, e, inl (o, (u, v, d, (a, b, h), (x, y, c, p, (i, j, k, (l, m, n), (q, r, s, w, (i2, j2, k2, (l2, m2, n2), p2))))))) =
         let e1 = typed_expr x p in
         let e2 = typed_expr q w in

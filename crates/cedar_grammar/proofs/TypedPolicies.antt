@@ -197,14 +197,14 @@ module _ {A : Type 0} (kind : A → Kind) where
       let ta = action u6 a in
       let tr = scoped K.Resource K.ResourceSlot refl refl u8 r in
       let tc = conds d u11 (leaf s none) cs in
-      let behind_scope : v8 ≡ join u9 (leaf q (join u11 (leaf s none))) = d9 ∙ ap (join u9) (d10 ∙ ap (λ z. join z v10) q' ∙ ap (leaf q) (d11 ∙ ap (join u11) s')) in
+      let after_scope : v8 ≡ join u9 (leaf q (join u11 (leaf s none))) = d9 ∙ ap (join u9) (d10 ∙ ap (λ z. join z v10) q' ∙ ap (leaf q) (d11 ∙ ap (join u11) s')) in
       let scope : v2 ≡ leaf l (branch L.variable tp.0 (leaf c (branch L.variable ta.0 (leaf o (branch L.variable tr.0 v8))))) =
       one_then v2 u3 v3 l d3 l' ∙ ap (leaf l) (node_then v3 u4 v4 tp.0 L.variable d4 tp.1 ∙ ap (branch L.variable tp.0) (one_then v4 u5 v5 c d5 c'
       ∙ ap (leaf c) (node_then v5 u6 v6 ta.0 L.variable d6 ta.1 ∙ ap (branch L.variable ta.0) (one_then v6 u7 v7 o d7 o' ∙ ap (leaf o) (node_then v7 u8 v8 tr.0 L.variable d8 tr.1))))) in
       let word = word_then v1 u2 v2 i k d2 j m in
       let tn = annotations u1 v1 ns in
       let last : without_trailing kind v8 ≡ leaf q (join (part_parts kind tc.0) (leaf s none)) =
-      ap (without_trailing kind) behind_scope ∙ before_bracket q u9 (join u11 (leaf s none)) hq w ∙ ap (leaf q) (tc.1 ∙ ap (join (part_parts kind tc.0)) (lone kind s)) in
+      ap (without_trailing kind) after_scope ∙ before_bracket q u9 (join u11 (leaf s none)) hq w ∙ ap (leaf q) (tc.1 ∙ ap (join (part_parts kind tc.0)) (lone kind s)) in
       let inside : without_trailing kind v2 ≡ leaf l (branch L.variable (part_parts kind tp.2.0) (leaf c (branch L.variable (part_parts kind ta.2.0) (leaf o (branch L.variable (part_parts kind tr.2.0) (leaf q (join (part_parts kind tc.0) (leaf s none)))))))) =
       ap (without_trailing kind) scope ∙ before_variable l tp.0 (leaf c (branch L.variable ta.0 (leaf o (branch L.variable tr.0 v8)))) tp.2.0 tp.2.1
       ∙ ap (λ z. leaf l (branch L.variable (part_parts kind tp.2.0) z)) (before_variable c ta.0 (leaf o (branch L.variable tr.0 v8)) ta.2.0 ta.2.1

@@ -104,10 +104,10 @@ drop_twice (c ∷ cs) = go (is_whitespace c) refl (drop_trailing_whitespace cs) 
     go false h ds e k = rw (stays_black c cs h) (stays_black c (drop_trailing_whitespace cs) h ∙ ap (λ z. c ∷ z) k)
 
 -- what ends in a non-blank stays, whatever comes before it
-pub drop_behind : (cs : List ℕ) (d : ℕ) (ds : List ℕ) → drop_trailing_whitespace (d ∷ ds) ≡ d ∷ ds → drop_trailing_whitespace (cs ++ (d ∷ ds)) ≡ cs ++ (d ∷ ds)
-drop_behind [] d ds h = h
-drop_behind (c ∷ []) d ds h = stays_before c d (d ∷ ds) ds h
-drop_behind (c ∷ (b ∷ cs)) d ds h = stays_before c b (b ∷ (cs ++ (d ∷ ds))) (cs ++ (d ∷ ds)) (drop_behind (b ∷ cs) d ds h)
+pub drop_after : (cs : List ℕ) (d : ℕ) (ds : List ℕ) → drop_trailing_whitespace (d ∷ ds) ≡ d ∷ ds → drop_trailing_whitespace (cs ++ (d ∷ ds)) ≡ cs ++ (d ∷ ds)
+drop_after [] d ds h = h
+drop_after (c ∷ []) d ds h = stays_before c d (d ∷ ds) ds h
+drop_after (c ∷ (b ∷ cs)) d ds h = stays_before c b (b ∷ (cs ++ (d ∷ ds))) (cs ++ (d ∷ ds)) (drop_after (b ∷ cs) d ds h)
 
 pub scalars_drop : (cs : List ℕ) → scalars cs ≡ true → scalars (drop_trailing_whitespace cs) ≡ true
 scalars_drop [] h = refl
@@ -152,4 +152,4 @@ pub trim_same : (x k : List ℕ) (d : ℕ) (ds : List ℕ) → IsUtf8 x → IsUt
 trim_same x k d ds u v s e h =
     let w = IsUtf8-append x k u v in
     let c : chars (x ++ k) ≡ chars x ++ (d ∷ ds) = chars-append x k u ∙ ap (λ z. chars x ++ z) e in
-    trim_is (x ++ k) w ∙ (ap encode_utf8_all (ap drop_trailing_whitespace (s ∙ c) ∙ (drop_behind (chars x) d ds h ∙ sym c)) ∙ encodes-chars (x ++ k) w)
+    trim_is (x ++ k) w ∙ (ap encode_utf8_all (ap drop_trailing_whitespace (s ∙ c) ∙ (drop_after (chars x) d ds h ∙ sym c)) ∙ encodes-chars (x ++ k) w)

@@ -64,12 +64,12 @@ front_apart : (c d : ℕ) (ls : List (List ℕ)) (g : List ℕ) → Prints (lead
 front_apart c d [] g p_nil e = e
 front_apart c d (l ∷ ls) g (p_hard n p) e = blank_apart d
 
-record Behind (w tr : List ℕ) (ts : List Decorated) (r : List ℕ) : Type 0 where
+record RightAfter (w tr : List ℕ) (ts : List Decorated) (r : List ℕ) : Type 0 where
   rest : List ℕ
   is : r ≡ back tr ++ rest
   spells : Spelled (after_of w tr) ts rest
 
-trail_print : (w tr : List ℕ) {ts : List Decorated} {xs : List Atom} {r : List ℕ} → ((s : List ℕ) → Prints xs s → Spelled (after_of w tr) ts s) → Prints (trail_atoms tr ++ xs) r → Behind w tr ts r
+trail_print : (w tr : List ℕ) {ts : List Decorated} {xs : List Atom} {r : List ℕ} → ((s : List ℕ) → Prints xs s → Spelled (after_of w tr) ts s) → Prints (trail_atoms tr ++ xs) r → RightAfter w tr ts r
 trail_print w [] {r = r} f p = record { rest = r; is = refl; spells = f r p }
 trail_print w (c ∷ cs) f (p_word (p_word (p_hard {s = s} n p))) =
     record {

@@ -163,12 +163,12 @@ after_other (field d x m) q = maybe_then q
 after_other (index l x r m) q = maybe_then q
 
 -- a token, followed by a break or a space where it has no trailing text
-record Behind (n : Doc) (w tr : List ℕ) : Type 0 where
+record RightAfter (n : Doc) (w tr : List ℕ) : Type 0 where
   rest : List Atom
   is : atoms (trail_of tr n) ≡ trail_atoms tr ++ rest
   blank : Weave (after_of w tr) [] rest 32
 
-behind : (n : Doc) (w tr : List ℕ) → ((c : ℕ) → Weave c [] (atoms n) 32) → Behind n w tr
+behind : (n : Doc) (w tr : List ℕ) → ((c : ℕ) → Weave c [] (atoms n) 32) → RightAfter n w tr
 behind n w [] b = record { rest = atoms n; is = refl; blank = b (last_byte_or 32 w) }
 behind n w (c ∷ cs) b = record { rest = []; is = sym (append-nil (trail_atoms (c ∷ cs))); blank = done }
 

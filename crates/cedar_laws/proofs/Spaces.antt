@@ -52,16 +52,16 @@ comment_then (a ∷ (b ∷ v)) r h e =
 comment_more : (u : List ℕ) (d : ℕ) → is_comment u ≡ true → is_comment_byte d ≡ true → is_comment (u ++ (d ∷ [])) ≡ true
 comment_more [] d h k = absurd cc
 comment_more (a ∷ []) d h k = absurd cc
-comment_more (a ∷ (b ∷ v)) d h k = let p = comment_parts a b v h in rw (p.0, p.1) (all_behind v p.2)
+comment_more (a ∷ (b ∷ v)) d h k = let p = comment_parts a b v h in rw (p.0, p.1) (all_after v p.2)
   where
-    all_behind : (v : List ℕ) → list_all is_comment_byte v ≡ true → list_all is_comment_byte (v ++ (d ∷ [])) ≡ true
-    all_behind [] h = rw k refl
-    all_behind (c ∷ v) h = let p = and_parts (is_comment_byte c) (list_all is_comment_byte v) h in rw p.0 (all_behind v p.1)
+    all_after : (v : List ℕ) → list_all is_comment_byte v ≡ true → list_all is_comment_byte (v ++ (d ∷ [])) ≡ true
+    all_after [] h = rw k refl
+    all_after (c ∷ v) h = let p = and_parts (is_comment_byte c) (list_all is_comment_byte v) h in rw p.0 (all_after v p.1)
 
 -- the longest comment ends at a line end
-pub ended_behind : (u r : List ℕ) → is_comment u ≡ true → IsFirstUnit (u ++ r) u → Ended r
-ended_behind u [] h f = tt
-ended_behind u (d ∷ r) h f = go (is_comment_byte d) refl
+pub ended_after : (u r : List ℕ) → is_comment u ≡ true → IsFirstUnit (u ++ r) u → Ended r
+ended_after u [] h f = tt
+ended_after u (d ∷ r) h f = go (is_comment_byte d) refl
   where
     go : (t : Bool) → is_comment_byte d ≡ t → is_comment_byte d ≡ false
     go false e = e
@@ -72,7 +72,7 @@ pub units_comments : (us : List (List ℕ)) → Parted us → NoTokens us → co
 units_comments [] p a = comments_nil
 units_comments (u ∷ us) p a = elim p.0.kind [
   | blank k ↦ comments_pass u (concat us) (blank_no_slash u k) ∙ (units_comments us (parted_parts (u ∷ []) us p).1 a.1 ∙ rw (blank_no_comment u k) refl)
-  | comment k ↦ comment_then u (concat us) k (ended_behind u (concat us) k p.0) ∙ rw (k, units_comments us (parted_parts (u ∷ []) us p).1 a.1) refl
+  | comment k ↦ comment_then u (concat us) k (ended_after u (concat us) k p.0) ∙ rw (k, units_comments us (parted_parts (u ∷ []) us p).1 a.1) refl
   | token k ↦ absurd (let e = a.0 in cc)
 ]
 

@@ -24,7 +24,7 @@ use Rattle.cedar_laws.proofs.Joined.{before_cons, before_join, comments_after_jo
 use Rattle.cedar_laws.proofs.Listed.{gaps_skip, all_append, one_token, trim_nil, comment_no_token}
 use Rattle.cedar_laws.proofs.BlankLines.{lined, lined_append, is_feed, token_solid, comment_solid, blank_not_solid, thinned_same, thinned_append, thinned_blanks, blank_no_comment, Parted, parted_parts, concat_append, AllBlank, blanks_no_token, feedless, feedless_append, chars_low, class_low, blank_feed}
 use Rattle.cedar_laws.proofs.TrimmedUnits.{trim_blank, front_blank_goes, before_free, after_free, blanks_after, same_front, token_end}
-use Rattle.cedar_laws.proofs.Ends.{trim_back, chars_trim, trim_utf8, StartsBlack, trimmed_tail, trim_same, drop_twice, drop_behind, stays_black}
+use Rattle.cedar_laws.proofs.Ends.{trim_back, chars_trim, trim_utf8, StartsBlack, trimmed_tail, trim_same, drop_twice, drop_after, stays_black}
 use Rattle.cedar_laws.proofs.Spaces.{NoTokens, concat_utf8, units_comments, comment_feedless, AtFeed, no_feed, at_feed, find_feed, scans_shorter}
 
 -- ---- the last character of a token
@@ -113,7 +113,7 @@ token_black (b ∷ v) t u =
       first = b;
       rest = chars v;
       is = n;
-      stays = subst (λ z. drop_trailing_whitespace z ≡ z) (sym c ∙ n) (drop_behind (chars e.0) e.1 [] (stays_black e.1 [] (is_false (is_whitespace e.1) p.1)));
+      stays = subst (λ z. drop_trailing_whitespace z ≡ z) (sym c ∙ n) (drop_after (chars e.0) e.1 [] (stays_black e.1 [] (is_false (is_whitespace e.1) p.1)));
     }
   where
     is_false : (t : Bool) → not t ≡ true → t ≡ false
@@ -341,8 +341,8 @@ lined_less (u ∷ us) e h = go (is_solid u) (is_feed u) (λ k. lined_less us e k
     go false true ih h = absurd cc
     go false false ih h = ih h
 
-lined_behind : (u : List ℕ) (us : List (List ℕ)) (e : Bool) → IsBlank u → lined false (u ∷ us) ≡ Some e → (d : Bool) × (lined false us ≡ Some d)
-lined_behind u us e k h = go (is_feed u) (rw (blank_not_solid u k) at h)
+lined_after : (u : List ℕ) (us : List (List ℕ)) (e : Bool) → IsBlank u → lined false (u ∷ us) ≡ Some e → (d : Bool) × (lined false us ≡ Some d)
+lined_after u us e k h = go (is_feed u) (rw (blank_not_solid u k) at h)
   where
     go : (f : Bool) → cond f (lined true us) (lined false us) ≡ Some e → (d : Bool) × (lined false us ≡ Some d)
     go true h = lined_less us e h
@@ -495,7 +495,7 @@ trims (u ∷ us) p a = elim p.0.kind [
           units = r.units;
           last = r.last;
           thinned = blank_goes u k r.thinned;
-          stays_lined = λ e l. let d = lined_behind u us e k l in r.stays_lined d.0 d.1;
+          stays_lined = λ e l. let d = lined_after u us e k l in r.stays_lined d.0 d.1;
           is = r.is ∙ sym (trim_blank u (concat us) k);
           parted = r.parted;
           list = r.list ∙ g.1;

@@ -19,10 +19,10 @@ use Rattle.cedar_layout.specs.declared.utils.lookups.Edge.TheVariants.{Start, En
 abbrev pub OrderedFrom : ℕ → List WrappedToken → Type 0
 OrderedFrom p ts = InOrderFrom p (map (λ t. t.span) ts)
 
-starts_behind : (p : ℕ) (ts : List WrappedToken) (k : ℕ) (d : WrappedToken) → OrderedFrom p ts → k < length ts → (p ≤ (get_or ts k d).span.start) × ((get_or ts k d).span.start < (get_or ts k d).span.end)
-starts_behind p [] k d o h = absurd (omega arith)
-starts_behind p (t ∷ ts) zero d o h = (o.0, o.1)
-starts_behind p (t ∷ ts) (suc k) d o h = let i = starts_behind t.span.end ts k d o.2 (omega arith) in (omega (arith, o.0, o.1, i.0), i.1)
+starts_after : (p : ℕ) (ts : List WrappedToken) (k : ℕ) (d : WrappedToken) → OrderedFrom p ts → k < length ts → (p ≤ (get_or ts k d).span.start) × ((get_or ts k d).span.start < (get_or ts k d).span.end)
+starts_after p [] k d o h = absurd (omega arith)
+starts_after p (t ∷ ts) zero d o h = (o.0, o.1)
+starts_after p (t ∷ ts) (suc k) d o h = let i = starts_after t.span.end ts k d o.2 (omega arith) in (omega (arith, o.0, o.1, i.0), i.1)
 
 edge_within : (e : Edge) (s : Span) → s.start < s.end → (s.start ≤ edge_of e s) × (edge_of e s ≤ s.end)
 edge_within Start s h = (omega arith, omega arith)
@@ -33,7 +33,7 @@ pub edges_grow : (e : Edge) (p : ℕ) (ts : List WrappedToken) (j k : ℕ) (c d 
 edges_grow e p [] j k c d o l h = absurd (omega arith)
 edges_grow e p (t ∷ ts) zero zero c d o l h = omega arith
 edges_grow e p (t ∷ ts) zero (suc k) c d o l h =
-    let b = starts_behind t.span.end ts k d o.2 (omega arith) in
+    let b = starts_after t.span.end ts k d o.2 (omega arith) in
     let x = edge_within e t.span o.1 in
     let y = edge_within e (get_or ts k d).span b.1 in
     omega (arith, b.0, x.1, y.0)

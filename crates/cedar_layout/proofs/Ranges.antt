@@ -85,10 +85,10 @@ behind p q t h l m true = grind (arith, nat_tests)
 behind p q t h l m false = refl
 
 -- no token that starts after the span is in it
-none_behind : (s : Span) (p : ℕ) (ts : List WrappedToken) → s.end < p → OrderedFrom p ts → NoneIn s ts
-none_behind s p [] h o k d l = absurd (omega arith)
-none_behind s p (t ∷ ts) h o zero d l = behind p s.end t h o.0 o.1 (nat_le s.start t.span.start)
-none_behind s p (t ∷ ts) h o (suc k) d l = none_behind s t.span.end ts (omega (arith, o.0, o.1)) o.2 k d (omega arith)
+none_after : (s : Span) (p : ℕ) (ts : List WrappedToken) → s.end < p → OrderedFrom p ts → NoneIn s ts
+none_after s p [] h o k d l = absurd (omega arith)
+none_after s p (t ∷ ts) h o zero d l = behind p s.end t h o.0 o.1 (nat_le s.start t.span.start)
+none_after s p (t ∷ ts) h o (suc k) d l = none_after s t.span.end ts (omega (arith, o.0, o.1)) o.2 k d (omega arith)
 
 abbrev ends_by : Span → WrappedToken → Bool
 ends_by s t = nat_le t.span.end s.end
@@ -115,7 +115,7 @@ first_taken s p (t ∷ ts) h o = go (first_taken s t.span.end ts (omega (arith, 
     go i false q =
         let outside : stands_in s (shown t) ≡ false = rw (start, q) refl in
         let l : s.end < t.span.end = grind (arith, nat_tests) in
-        let r = none_taken s ts (none_behind s t.span.end ts l o.2) in
+        let r = none_taken s ts (none_after s t.span.end ts l o.2) in
         (rw outside r.0, rw outside (ap (λ r. shown t ∷ r) r.1))
 
 -- ---- the tokens from the first that starts in or after the span
@@ -128,9 +128,9 @@ from_there p q (t ∷ ts) (suc i) d o h l = from_there t.span.end q ts i d o.2 (
 above : (n q : ℕ) → nat_le q n ≡ true → q ≤ n
 above n q h = grind (arith, nat_tests)
 
-pub ordered_behind : (q : ℕ) (ts : List WrappedToken) (i : ℕ) → AreInOrder ts → Some i ≡ position (λ t. starts_from q (shown t)) ts → OrderedFrom q (drop i ts)
-ordered_behind q [] i o e = cc
-ordered_behind q (t ∷ ts) i o e = let p = position-Some (λ t. starts_from q (shown t)) (t ∷ ts) i t (sym e) in from_there 0 q (t ∷ ts) i t o p.0 (above (get_or (t ∷ ts) i t).span.start q p.1)
+pub ordered_after : (q : ℕ) (ts : List WrappedToken) (i : ℕ) → AreInOrder ts → Some i ≡ position (λ t. starts_from q (shown t)) ts → OrderedFrom q (drop i ts)
+ordered_after q [] i o e = cc
+ordered_after q (t ∷ ts) i o e = let p = position-Some (λ t. starts_from q (shown t)) (t ∷ ts) i t (sym e) in from_there 0 q (t ∷ ts) i t o p.0 (above (get_or (t ∷ ts) i t).span.start q p.1)
 
 none_before : (s : Span) (ts : List WrappedToken) (i : ℕ) → Some i ≡ position (λ t. starts_from s.start (shown t)) ts → NoneIn s (take i ts)
 none_before s ts i e k d h =
@@ -139,8 +139,8 @@ none_before s ts i e k d h =
     let q : starts_from s.start (shown (get_or (take i ts) k d)) ≡ false = rw (get_or-take i ts k d n) (p.2 k n) in
     rw q refl
 
-pub taken_behind : (s : Span) (ts : List WrappedToken) (i : ℕ) → Some i ≡ position (λ t. starts_from s.start (shown t)) ts → (comments_in s (map shown ts) ≡ comments_in s (map shown (drop i ts))) × (emptied_in s (map shown ts) ≡ map shown (take i ts) ++ emptied_in s (map shown (drop i ts)))
-taken_behind s ts i e =
+pub taken_after : (s : Span) (ts : List WrappedToken) (i : ℕ) → Some i ≡ position (λ t. starts_from s.start (shown t)) ts → (comments_in s (map shown ts) ≡ comments_in s (map shown (drop i ts))) × (emptied_in s (map shown ts) ≡ map shown (take i ts) ++ emptied_in s (map shown (drop i ts)))
+taken_after s ts i e =
     let n = none_taken s (take i ts) (none_before s ts i e) in
     let parts : map shown ts ≡ map shown (take i ts) ++ map shown (drop i ts) = ap (map shown) (sym (take-append-drop i ts)) ∙ map-append shown (take i ts) (drop i ts) in (
       ap (comments_in s) parts ∙ (comments_in-append s (map shown (take i ts)) (map shown (drop i ts)) ∙ ap (λ r. r ++ comments_in s (map shown (drop i ts))) n.0),
@@ -159,7 +159,7 @@ rest_put : {X : Type 0} (i : ℕ) (xs ys : List X) → put_mid i (length xs - i)
 rest_put i xs ys = ap (λ r. take i xs ++ (ys ++ r)) (drop_all (length xs - i) (drop i xs) (omega (arith, length-drop i xs))) ∙ ap (λ r. take i xs ++ r) (append-nil ys)
 
 pub ordered_rest : (q : ℕ) (ts : List WrappedToken) (i : ℕ) → AreInOrder ts → Some i ≡ position (λ t. starts_from q (shown t)) ts → OrderedFrom q (take (length ts - i) (drop i ts))
-ordered_rest q ts i o e = subst (λ us. OrderedFrom q us) (sym (rest_is i ts)) (ordered_behind q ts i o e)
+ordered_rest q ts i o e = subst (λ us. OrderedFrom q us) (sym (rest_is i ts)) (ordered_after q ts i o e)
 
 -- ---- the clauses of the calls; parts says what an answer holds
 
@@ -182,13 +182,13 @@ until_refused (Err x) ts new n h = map-append shown new (drop n ts) ∙ (ap (λ 
 
 pub from_answer : {V E : Type 0} (r : Result V E) (parts : V → List Parts) (s : Span) (ts : List WrappedToken) (i : ℕ) → Some i ≡ position (λ t. starts_from s.start (shown t)) ts → IfOk r (λ v. parts v ≡ comments_in s (map shown (take (length ts - i) (drop i ts)))) → IfOk r (λ v. parts v ≡ comments_in s (map shown ts))
 from_answer r parts s ts i e h =
-    let q : comments_in s (map shown (take (length ts - i) (drop i ts))) ≡ comments_in s (map shown ts) = ap (λ us. comments_in s (map shown us)) (rest_is i ts) ∙ sym (taken_behind s ts i e).0 in
+    let q : comments_in s (map shown (take (length ts - i) (drop i ts))) ≡ comments_in s (map shown ts) = ap (λ us. comments_in s (map shown us)) (rest_is i ts) ∙ sym (taken_after s ts i e).0 in
     subst (λ z. IfOk r (λ v. parts v ≡ z)) q h
 
 pub from_left : {V E : Type 0} (r : Result V E) (s : Span) (ts new : List WrappedToken) (i : ℕ) → Some i ≡ position (λ t. starts_from s.start (shown t)) ts → IfOk r (λ _. map shown new ≡ emptied_in s (map shown (take (length ts - i) (drop i ts)))) → IfOk r (λ _. map shown (put_mid i (length ts - i) ts new) ≡ emptied_in s (map shown ts))
 from_left (Err x) s ts new i e h = tt
 from_left (Ok v) s ts new i e h =
-    ap (map shown) (rest_put i ts new) ∙ (map-append shown (take i ts) new ∙ (ap (λ z. map shown (take i ts) ++ z) (h ∙ ap (λ us. emptied_in s (map shown us)) (rest_is i ts)) ∙ sym (taken_behind s ts i e).1))
+    ap (map shown) (rest_put i ts new) ∙ (map-append shown (take i ts) new ∙ (ap (λ z. map shown (take i ts) ++ z) (h ∙ ap (λ us. emptied_in s (map shown us)) (rest_is i ts)) ∙ sym (taken_after s ts i e).1))
 
 pub from_refused : {V E : Type 0} (r : Result V E) (ts new : List WrappedToken) (i : ℕ) → OnErr r (map shown new ≡ map shown (take (length ts - i) (drop i ts))) → OnErr r (map shown (put_mid i (length ts - i) ts new) ≡ map shown ts)
 from_refused (Ok v) ts new i h = tt

@@ -158,8 +158,8 @@ first_line text l r i e f g =
 pub only_line : (text : List ℕ) → None ≡ position (λ b. b == 10) text → IsFirstLine text text []
 only_line text e = inr (no_line text (λ k h. none_passes (λ b. b == 10) text (sym e) k 0 h), refl)
 
-pub cut_behind : (text : List ℕ) (i : ℕ) → IsUtf8 text → Some i ≡ position (λ b. b == 10) text → IsCharBoundary text (i + 1)
-cut_behind text i u e =
+pub cut_after : (text : List ℕ) (i : ℕ) → IsUtf8 text → Some i ≡ position (λ b. b == 10) text → IsCharBoundary text (i + 1)
+cut_after text i u e =
     let p = position-Some (λ b. b == 10) text i 0 (sym e) in
     let q = (Decides-eqb (get_or text i 0) 10).0 p.1 in
     IsCharBoundary-after_ascii text i u p.0 (omega (arith, q))

@@ -9,7 +9,7 @@ use Rattle.cedar_grammar.specs.Trees.{Label, Forest, none, leaf, branch}
 use Rattle.cedar_grammar.specs.Reader.Reading.{Answer, Reader, done, stuck, choice, both, skip, tree, one}
 use Rattle.cedar_grammar.proofs.ReadingLaws.{tree_done, tree_fails, both_first, both_done, both_fails, both_then_fails, choice_yes, choice_no, token_yes, token_no, token_end, onto}
 use Rattle.cedar_tree.specs.Erased.{expr_parts, add_parts, primary_parts}
-use Rattle.cedar_parser_steps.specs.Reading.{kind, Stands, PassesOn, FollowedBy, GivesNode, GivesBehind, first_place, name_parts}
+use Rattle.cedar_parser_steps.specs.Reading.{kind, Stands, PassesOn, FollowedBy, GivesNode, GivesAfter, first_place, name_parts}
 use Rattle.cedar_parser_steps.specs.ReadingParts.{Makes}
 use Rattle.cedar_parser_expressions.specs.Boxed.{unboxed}
 use Rattle.cedar_parser_expressions.specs.ReadingItems.{Boxed}
@@ -65,8 +65,8 @@ module _ (E : Reader Lexeme) where
   if_no_fails ts u v f g b r e d i = tree_fails Label.expr _ ts b r
       (both_assoc (one kind K.If) E two ts ∙ both_then_fails (branch_reader K.If) two ts f u b r e (both_assoc (one kind K.Then) E (branch_reader K.Else) u ∙ both_then_fails (branch_reader K.Then) (branch_reader K.Else) u g v b r d i))
 
-  pub if_gives : (start : ℕ) (a b c n : Node Expr.Expr) (ts : List Lexeme) (u v w : Bor (List Lexeme)) → start ≡ first_place ts → GivesBehind K.If Label.expr expr_parts (Ok (a, u)) (branch_reader K.If ts)
-      → GivesBehind K.Then Label.expr expr_parts (Ok (b, v)) (branch_reader K.Then u.now) → GivesBehind K.Else Label.expr expr_parts (Ok (c, w)) (branch_reader K.Else v.now) → IsIfOf start a b c n → GivesNode Label.expr expr_parts (Ok (n, w)) (if_reader ts)
+  pub if_gives : (start : ℕ) (a b c n : Node Expr.Expr) (ts : List Lexeme) (u v w : Bor (List Lexeme)) → start ≡ first_place ts → GivesAfter K.If Label.expr expr_parts (Ok (a, u)) (branch_reader K.If ts)
+      → GivesAfter K.Then Label.expr expr_parts (Ok (b, v)) (branch_reader K.Then u.now) → GivesAfter K.Else Label.expr expr_parts (Ok (c, w)) (branch_reader K.Else v.now) → IsIfOf start a b c n → GivesNode Label.expr expr_parts (Ok (n, w)) (if_reader ts)
   if_gives start a b c n ts u v w s g h i m = (
     leaf g.0 (branch Label.expr g.1 (leaf h.0 (branch Label.expr h.1 (leaf i.0 (branch Label.expr i.1 none))))),
     tree_done Label.expr _ ts _ w.now (both_assoc (one kind K.If) E two ts ∙ both_done (branch_reader K.If) two ts _ u.now _ w.now g.2

@@ -6,7 +6,7 @@ use Rattle.cedar_tokens.specs.declared.kind.Kind.{Kind}
 use Rattle.cedar_tokens.specs.declared.kind.Kind.TheVariants as K
 use Rattle.cedar_grammar.specs.Trees.{Label, Forest, none, leaf, branch}
 use Rattle.cedar_grammar.specs.Reader.Reading.{Reader, Answer, done, both, one}
-use Rattle.cedar_parser_steps.specs.Reading.{kind, flat, Fails, Stands, FollowedBy, GivesBehind, PassesOn}
+use Rattle.cedar_parser_steps.specs.Reading.{kind, flat, Fails, Stands, FollowedBy, GivesAfter, PassesOn}
 use Rattle.cedar_parser_steps.specs.ReadingParts.{Makes, key_rule}
 use Rattle.cedar_parser_steps.specs.declared.lexeme.Lexeme.{Lexeme}
 use Rattle.cedar_parser_steps.specs.declared.reading.Refusal.{Refusal}
@@ -43,7 +43,7 @@ MakesClosed {X} k P read result = (closed : Result ((X × ℕ) × Bor (List Lexe
 
 -- what this reads after a word of this kind makes a relation of this operand
 abbrev pub MakesWord : Kind → Reader Lexeme → List ℕ → Boxed Add.Add → List Lexeme → Result (Boxed Relation.Relation × Bor (List Lexeme)) Refusal → Type 0
-MakesWord k R word target ts result = (read : Result (Node Add.Add × Bor (List Lexeme)) Refusal) × GivesBehind k Label.add add_parts read (R ts) × PassesOn read result × Makes (IsWordOf word target) read result
+MakesWord k R word target ts result = (read : Result (Node Add.Add × Bor (List Lexeme)) Refusal) × GivesAfter k Label.add add_parts read (R ts) × PassesOn read result × Makes (IsWordOf word target) read result
 
 -- a record's key and the colon after it
 abbrev pub key_reader : Reader Lexeme

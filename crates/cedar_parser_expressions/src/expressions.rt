@@ -8,7 +8,7 @@ ghost use Rattle.cedar_grammar.specs.Reader.Lines.{◌▸◌, one_of, maybe, pat
 ghost use Rattle.cedar_tree.specs.Erased.{expr_parts, or_parts, relation_parts, add_parts, mult_parts, unary_parts, access_parts, primary_parts};
 ghost use Rattle.cedar_parser_steps.specs.ReadingParts.{literal_rule};
 ghost use Rattle.cedar_parser_expressions.specs.Boxed.{unboxed};
-ghost use Rattle.cedar_parser_steps.specs.Reading.{flat, GivesNode, GivesBehind, relop_kind};
+ghost use Rattle.cedar_parser_steps.specs.Reading.{flat, GivesNode, GivesAfter, relop_kind};
 ghost use Rattle.cedar_parser_expressions.specs.ReadingItems.{GivesItems};
 ghost use Rattle.cedar_parser_expressions.specs.ReadingExprs.{at_depth, if_rule, bracket_rule, GivesSigned, GivesTypeTest, GivesItem};
 ghost use Rattle.cedar_tree.specs.NodeLists.{and_parts, init_parts, member_parts};
@@ -88,7 +88,7 @@ fn parse_branch<'t, 'src>(
     depth: usize,
 ) -> Parsed<'t, 'src, Node<Expr<'src>>>
     ensures shorter { IfOk result (λ x. length x.1.now < length tokens.now) }
-    ensures reads { GivesBehind keyword Label.expr expr_parts result (at_depth (suc depth) (one_of keyword ▸ inner) tokens.now) }
+    ensures reads { GivesAfter keyword Label.expr expr_parts result (at_depth (suc depth) (one_of keyword ▸ inner) tokens.now) }
 {
     match past(tokens, keyword) {
         Some(after) => parse_expr(alloc, after, depth),

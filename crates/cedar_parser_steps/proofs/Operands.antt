@@ -11,7 +11,7 @@ use Rattle.cedar_grammar.specs.Trees.{Label, Forest, none, leaf, branch, join}
 use Rattle.cedar_grammar.specs.Reader.Reading.{Answer, Reader, done, stuck, both, tree, repeat, token, one}
 use Rattle.cedar_grammar.proofs.ReadingLaws.{Takes, tree_done, tree_fails, both_done, both_then_fails, both_takes, tree_takes, token_takes}
 use Rattle.cedar_tree.specs.Erased.{Erased, node, access_parts, primary_parts, add_parts}
-use Rattle.cedar_parser_steps.specs.Reading.{kind, Keeps, Fails, Stands, GivesNode, IsOperandOf, last_end, IsNameOf, IsNamePrimaryOf, GivesBehind, ident_parts}
+use Rattle.cedar_parser_steps.specs.Reading.{kind, Keeps, Fails, Stands, GivesNode, IsOperandOf, last_end, IsNameOf, IsNamePrimaryOf, GivesAfter, ident_parts}
 use Rattle.cedar_tree.specs.NodeLists.{access_items}
 use Rattle.cedar_parser_steps.specs.declared.lexeme.Lexeme.{Lexeme}
 use Rattle.cedar_parser_steps.specs.declared.reading.Refusal.{Refusal}
@@ -92,13 +92,13 @@ pub end_some : (e : ℕ) (ns : List (Node MemAccess.MemAccess)) (n : Node MemAcc
 end_some e ns n l h = end_at e ns (length ns - 1) n (omega (arith, l)) (sym h)
 
 -- where the last of some accesses after others ends
-pub last_behind : (e : ℕ) (ns ms : List (Node MemAccess.MemAccess)) (u : ℕ) → ((z : ℕ) → last_end z ms ≡ u) → last_end e (ns ++ ms) ≡ u
-last_behind e [] ms u h = h e
-last_behind e (x ∷ ns) ms u h = last_behind x.span.end ns ms u h
+pub last_after : (e : ℕ) (ns ms : List (Node MemAccess.MemAccess)) (u : ℕ) → ((z : ℕ) → last_end z ms ≡ u) → last_end e (ns ++ ms) ≡ u
+last_after e [] ms u h = h e
+last_after e (x ∷ ns) ms u h = last_after x.span.end ns ms u h
 
-accesses_behind : (ns ms : List (Node MemAccess.MemAccess)) → access_items (ns ++ ms) ≡ join (access_items ns) (access_items ms)
-accesses_behind [] ms = refl
-accesses_behind (x ∷ ns) ms = ap (node Label.access x.span (access_parts x.inner)) (accesses_behind ns ms)
+accesses_after : (ns ms : List (Node MemAccess.MemAccess)) → access_items (ns ++ ms) ≡ join (access_items ns) (access_items ms)
+accesses_after [] ms = refl
+accesses_after (x ∷ ns) ms = ap (node Label.access x.span (access_parts x.inner)) (accesses_after ns ms)
 
 -- I reads a primary, and P its accesses as long as t holds
 module _ (I : Reader Lexeme) (t : List Lexeme → Bool) (P : Reader Lexeme) where
@@ -118,8 +118,8 @@ module _ (I : Reader Lexeme) (t : List Lexeme → Bool) (P : Reader Lexeme) wher
   accesses_next takes item access extra more ts rest s u g p h e c w l m = rw m (record {
     row = join p.row g;
     chain = chain_next Label.member I t P takes ts p.row rest g s p.chain h e;
-    stands = row_parts _ _ _ _ (ap (node Label.primary item.span (primary_parts item.inner)) (accesses_behind access extra))
-        (row_span _ _ _ _ (ap (λ z. record { start = item.span.start; end = z }) (sym (last_behind item.span.end access extra u.end l))) (row_join _ _ _ _ p.row g c p.stands w));
+    stands = row_parts _ _ _ _ (ap (node Label.primary item.span (primary_parts item.inner)) (accesses_after access extra))
+        (row_span _ _ _ _ (ap (λ z. record { start = item.span.start; end = z }) (sym (last_after item.span.end access extra u.end l))) (row_join _ _ _ _ p.row g c p.stands w));
   })
 
   pub accesses_stuck : (item : Node Primary.Primary) (access : List (Node MemAccess.MemAccess)) (ts rest : List Lexeme) (x : Bool) (s : List Lexeme) → AccessesRead item access ts rest → t rest ≡ true → P rest ≡ stuck x s
@@ -150,7 +150,7 @@ pub lone_name : (n : Node Ident) (name : Node Name) (item : Node Primary.Primary
 lone_name n name item f h i j = row_span _ _ _ _ (sym j.1) (row_parts _ _ _ _ j.0 (row_node Label.name name.span _ _ refl (name_stands [] n name _ i (row_node Label.ident n.span (ident_parts n.inner) f refl h))))
 
 -- a node after a token
-pub gives_behind : {X : Type 0} (k : Kind) (l : Label) (parts : X → Erased) (result : Result (Node X × Bor (List Lexeme)) Refusal) (t : Lexeme) (ts rest : List Lexeme) (P Q : Reader Lexeme) → one kind k ts ≡ done (leaf t none) rest → t.kind ≡ k
-    → GivesNode l parts result (P rest) → Q rest ≡ P rest → GivesBehind k l parts result (both (one kind k) Q ts)
-gives_behind k l parts (Ok x) t ts rest P Q e h g s = (t, g.0, both_done (one kind k) Q ts (leaf t none) rest (branch l g.0 none) x.1.now e (s ∙ g.1), h, g.2)
-gives_behind k l parts (Err f) t ts rest P Q e h g s = passes f (P rest) _ g (λ b r i. both_then_fails (one kind k) Q ts (leaf t none) rest b r e (s ∙ i))
+pub gives_after : {X : Type 0} (k : Kind) (l : Label) (parts : X → Erased) (result : Result (Node X × Bor (List Lexeme)) Refusal) (t : Lexeme) (ts rest : List Lexeme) (P Q : Reader Lexeme) → one kind k ts ≡ done (leaf t none) rest → t.kind ≡ k
+    → GivesNode l parts result (P rest) → Q rest ≡ P rest → GivesAfter k l parts result (both (one kind k) Q ts)
+gives_after k l parts (Ok x) t ts rest P Q e h g s = (t, g.0, both_done (one kind k) Q ts (leaf t none) rest (branch l g.0 none) x.1.now e (s ∙ g.1), h, g.2)
+gives_after k l parts (Err f) t ts rest P Q e h g s = passes f (P rest) _ g (λ b r i. both_then_fails (one kind k) Q ts (leaf t none) rest b r e (s ∙ i))

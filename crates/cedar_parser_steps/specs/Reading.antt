@@ -148,9 +148,9 @@ abbrev pub IsNamePrimaryOf : Node Name → Node Primary.Primary → Type 0
 IsNamePrimaryOf name = IsMade primary_parts (node Label.name name.span (name_parts name.inner) none) name.span
 
 -- the token of this kind and a tree with this label after it, which the node that was read stands for
-abbrev pub GivesBehind : {X : Type 0} → Kind → Label → (X → Erased) → Result (Node X × Bor (List Lexeme)) Refusal → Answer Lexeme → Type 0
-GivesBehind k l parts (Ok x) a = (t : Lexeme) × (f : Forest Label Lexeme) × (a ≡ done (leaf t (branch l f none)) x.1.now) × (t.kind ≡ k) × Stands x.0.span (parts x.0.inner) f
-GivesBehind k l parts (Err e) a = Fails e a
+abbrev pub GivesAfter : {X : Type 0} → Kind → Label → (X → Erased) → Result (Node X × Bor (List Lexeme)) Refusal → Answer Lexeme → Type 0
+GivesAfter k l parts (Ok x) a = (t : Lexeme) × (f : Forest Label Lexeme) × (a ≡ done (leaf t (branch l f none)) x.1.now) × (t.kind ≡ k) × Stands x.0.span (parts x.0.inner) f
+GivesAfter k l parts (Err e) a = Fails e a
 
 -- where the last access ends
 abbrev pub last_end : ℕ → List (Node MemAccess.MemAccess) → ℕ

@@ -5,7 +5,7 @@ ghost use Rattle.cedar_grammar.specs.Trees.{Label};
 ghost use Rattle.cedar_tokens.specs.declared.kind.Kind.TheVariants as K;
 ghost use Rattle.cedar_grammar.specs.Reader.Lines.{◌▸◌, ◌∥◌, one_of, field, index, text_operand, has_field};
 ghost use Rattle.cedar_tree.specs.Erased.{access_parts, add_parts};
-ghost use Rattle.cedar_parser_steps.specs.Reading.{kind, flat, GivesNode, IsOperandOf, GivesBehind, last_end};
+ghost use Rattle.cedar_parser_steps.specs.Reading.{kind, flat, GivesNode, IsOperandOf, GivesAfter, last_end};
 
 use crate::lexeme::Lexeme;
 use crate::literals::{parse_str, parse_text};
@@ -92,7 +92,7 @@ pub fn parse_pattern<'t, 'src>(
     tokens: &'t [Lexeme<'src>],
 ) -> Parsed<'t, 'src, Node<Add<'src>>>
     ensures shorter { IfOk result (λ x. length x.1.now < length tokens.now) }
-    ensures reads { GivesBehind K.Like Label.add add_parts result (flat (one_of K.Like ▸ text_operand) tokens.now) }
+    ensures reads { GivesAfter K.Like Label.add add_parts result (flat (one_of K.Like ▸ text_operand) tokens.now) }
 {
     let (_, rest) = expect(tokens, Kind::Like)?;
     parse_text_operand(alloc, rest)
@@ -184,7 +184,7 @@ pub fn parse_has_field<'t, 'src>(
     tokens: &'t [Lexeme<'src>],
 ) -> Parsed<'t, 'src, Node<Add<'src>>>
     ensures shorter { IfOk result (λ x. length x.1.now < length tokens.now) }
-    ensures reads { GivesBehind K.Has Label.add add_parts result (flat (one_of K.Has ▸ (text_operand ∥ has_field)) tokens.now) }
+    ensures reads { GivesAfter K.Has Label.add add_parts result (flat (one_of K.Has ▸ (text_operand ∥ has_field)) tokens.now) }
 {
     let (_, rest) = expect(tokens, Kind::Has)?;
     if begins(rest, Kind::Str) {

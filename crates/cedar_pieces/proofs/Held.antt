@@ -50,19 +50,19 @@ held_token ws us u w found h t l next v = rw (texts_more us u) (record {
 })
 
 -- what the text has after the units, and the tokens that are left
-record Behind (rest : List ℕ) (ws : List WrappedToken) (found : ℕ) : Type 0 where
+record RightAfter (rest : List ℕ) (ws : List WrappedToken) (found : ℕ) : Type 0 where
   units : List (List ℕ)
   split : SplitsInto rest units
   same : values units ≡ map value_of (drop found ws)
 
-behind : (text rest : List ℕ) (ws : List WrappedToken) (us : List (List ℕ)) (found : ℕ) → Scans us text rest → Held ws us found → HasTheTokens text ws → Behind rest ws found
+behind : (text rest : List ℕ) (ws : List WrappedToken) (us : List (List ℕ)) (found : ℕ) → Scans us text rest → Held ws us found → HasTheTokens text ws → RightAfter rest ws found
 behind text rest ws us found k h x =
     let s = split_after us x.units text rest k x.split in
     let e : values us ++ values s.0 ≡ values us ++ map value_of (drop found ws) = sym (values_append us s.0) ∙ ap values (sym s.1) ∙ x.same ∙ sym h.same in
     record { units = s.0; split = s.2; same = append_cancel_left (values us) (values s.0) (map value_of (drop found ws)) e }
 
 -- a token here has the value of the next one
-next_value : (rest u : List ℕ) (ws : List WrappedToken) (found : ℕ) → Behind rest ws found → IsFirstUnit rest u → is_token u ≡ true → (more : List (List ℕ)) × (token_value u ∷ more ≡ map value_of (drop found ws))
+next_value : (rest u : List ℕ) (ws : List WrappedToken) (found : ℕ) → RightAfter rest ws found → IsFirstUnit rest u → is_token u ≡ true → (more : List (List ℕ)) × (token_value u ∷ more ≡ map value_of (drop found ws))
 next_value rest u ws found b f t = go b.units b.split b.same
   where
     go : (us : List (List ℕ)) → SplitsInto rest us → values us ≡ map value_of (drop found ws) → (more : List (List ℕ)) × (token_value u ∷ more ≡ map value_of (drop found ws))
@@ -101,7 +101,7 @@ held_all text ws us found s h e =
 pub held_end : (text rest : List ℕ) (ws : List WrappedToken) (us : List (List ℕ)) (found : ℕ) → Scans us text rest → Held ws us found → BeginsNoUnit rest → HasTheTokens text ws → (rest ≡ []) × (found ≡ length ws)
 held_end text rest ws us found k h none x = go b.units b.split b.same
   where
-    b : Behind rest ws found
+    b : RightAfter rest ws found
     b = behind text rest ws us found k h x
 
     go : (vs : List (List ℕ)) → SplitsInto rest vs → values vs ≡ map value_of (drop found ws) → (rest ≡ []) × (found ≡ length ws)

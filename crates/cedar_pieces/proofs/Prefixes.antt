@@ -35,8 +35,8 @@ piece_inside text n p =
 abbrev pub through : List ℕ → ℕ → ℕ → List ℕ
 through text at n = take (at + n) text
 
-through_behind : (text : List ℕ) (at n : ℕ) → drop at (through text at n) ≡ take n (drop at text)
-through_behind text at n = drop-take at n text
+through_after : (text : List ℕ) (at n : ℕ) → drop at (through text at n) ≡ take n (drop at text)
+through_after text at n = drop-take at n text
 
 -- a piece begins with a unit
 first_of_piece : (us : List (List ℕ)) (c : List ℕ) (vs : List (List ℕ)) (text rest : List ℕ) → Scans (us ++ (c ∷ vs)) text rest → (u : List ℕ) × IsFirstUnit text u × (length u ≤ sum_by length (us ++ (c ∷ vs)))
@@ -62,8 +62,8 @@ piece_before text at n p q =
     ap (λ k. take k (through text at n)) l ∙ (ap (take (length (concat us))) (through_text text at n p) ∙ take-append_seam (concat us) (take n (drop at text)))
     ∙ sym (ap (λ k. take k text) l ∙ (ap (take (length (concat us))) (scans_concat us text (drop at text) p.scans) ∙ take-append_seam (concat us) (drop at text)))
 
-pub piece_behind : (text : List ℕ) (at n : ℕ) → drop at (through text at n) ≡ take n (drop at text)
-piece_behind text at n = through_behind text at n
+pub piece_after : (text : List ℕ) (at n : ℕ) → drop at (through text at n) ≡ take n (drop at text)
+piece_after text at n = through_after text at n
 
 pub piece_within : (text : List ℕ) (at n : ℕ) → IsPiece text at → IsPiece (drop at text) n → IsPiece (through text at n) at
 piece_within text at n p q =
@@ -76,7 +76,7 @@ piece_within text at n p q =
     record {
       before = p.before;
       line = p.line;
-      scans = subst (λ z. Scans us (through text at n) z) (sym (through_behind text at n)) (subst (λ z. Scans us z (take n r)) (sym (through_text text at n p)) short);
+      scans = subst (λ z. Scans us (through text at n) z) (sym (through_after text at n)) (subst (λ z. Scans us z (take n r)) (sym (through_text text at n p)) short);
       place = p.place;
       behind = record { no_token = p.behind.no_token; ends = go p.behind.ends };
     }
@@ -91,7 +91,7 @@ piece_within text at n p q =
     go : EndInFeed p.line ⊎ (HaveNoFeed p.line × BeginsNoBlank (drop at text)) → EndInFeed p.line ⊎ (HaveNoFeed p.line × BeginsNoBlank (drop at (through text at n)))
     go (inl e) = inl e
     go (inr (h, inl none)) = let v = first_in_piece (drop at text) n q in absurd (none v.0 (v.1).kind (v.1).begins)
-    go (inr (h, inr (u, f, t))) = inr (h, inr (u, subst (λ z. IsFirstUnit z u) (sym (through_behind text at n)) (first u f), t))
+    go (inr (h, inr (u, f, t))) = inr (h, inr (u, subst (λ z. IsFirstUnit z u) (sym (through_after text at n)) (first u f), t))
 
 -- a piece is one of its own bytes
 pub piece_alone : (text : List ℕ) (n : ℕ) → IsPiece text n → IsPiece (take n text) n

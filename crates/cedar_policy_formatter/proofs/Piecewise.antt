@@ -10,7 +10,7 @@ use Rattle.cedar_laws.specs.Canonical.{IsOutputOf}
 use Rattle.cedar_laws.specs.Output.{closing_text, paragraphs}
 use Rattle.cedar_pieces.specs.Pieces.{IsPiece}
 use Rattle.cedar_pieces.proofs.Scans.{piece_more}
-use Rattle.cedar_pieces.proofs.Prefixes.{through, piece_inside, piece_before, piece_behind, piece_within, piece_alone}
+use Rattle.cedar_pieces.proofs.Prefixes.{through, piece_inside, piece_before, piece_after, piece_within, piece_alone}
 use Rattle.cedar_pieces.proofs.Accepted.{accepted_join}
 use Rattle.cedar_pieces.proofs.Refusals.{rest_is_empty}
 use Rattle.cedar_cst.specs.PolicyReaders.{Position, HasRead, GoesOn, HasEnded}
@@ -63,7 +63,7 @@ module _ (w : ℕ) (i : ℤ) (text : List ℕ) where
       let u = through text at n in
       let s : IsPiece u at = piece_within text at n p q in
       let front : take at u ≡ take at text = piece_before text at n p q in
-      let back : drop at u ≡ take n (drop at text) = piece_behind text at n in
+      let back : drop at u ≡ take n (drop at text) = piece_after text at n in
       let whole : (m : ℕ) × IsPiece (drop at u) m × (m ≡ length (drop at u)) = (n, subst (λ z. IsPiece z n) (sym back) (piece_alone (drop at text) n q), sym (ap length back ∙ length-take-le n (drop at text) (piece_inside (drop at text) n q))) in
       let a : IsOutputOf w i (take at u) out = subst (λ x. IsOutputOf w i x out) (sym front) o in
       let b : IsOutputOf w i (drop at u) z = subst (λ x. IsOutputOf w i x z) (sym back) r in

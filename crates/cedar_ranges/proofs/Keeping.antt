@@ -147,8 +147,8 @@ fed_alike x y k = record {
   keeps = fed_accepted [] y empty_accepted k.keeps;
 }
 
-behind_alike : (text : List ℕ) (n : ℕ) (y : List ℕ) → Accepted text → IsPiece text n → Alike (drop n text) y → Alike text (take n text ++ (10 ∷ y))
-behind_alike text n y a p k =
+after_alike : (text : List ℕ) (n : ℕ) (y : List ℕ) → Accepted text → IsPiece text n → Alike (drop n text) y → Alike text (take n text ++ (10 ∷ y))
+after_alike text n y a p k =
     let front_accepted = (place_accepted text n (inr p) a).0 in
     let b = list_of (take n text) front_accepted in
     let e = piece_ends text n b.0 p b.1 in
@@ -172,8 +172,8 @@ parted_alike : (text : List ℕ) (n : ℕ) (b : ℕ) (bs y : List ℕ) → take 
 parted_alike text n b bs y e a p k = subst (λ z. Alike text (take n text ++ (feeds_after z ++ y))) (sym e) (go (last_byte_or b bs == 10))
   where
     go : (t : Bool) → Alike text (take n text ++ (cond t (10 ∷ []) (10 ∷ (10 ∷ [])) ++ y))
-    go true = behind_alike text n y a p k
-    go false = behind_alike text n (10 ∷ y) a p (fed_alike (drop n text) y k)
+    go true = after_alike text n y a p k
+    go false = after_alike text n (10 ∷ y) a p (fed_alike (drop n text) y k)
 
 some_bytes : (xs : List ℕ) → 0 < length xs → (b : ℕ) × (bs : List ℕ) × (xs ≡ b ∷ bs)
 some_bytes [] l = absurd (omega (arith, l))

@@ -14,14 +14,14 @@ use Rattle.cedar_tokens.specs.declared.readers.FirstToken.{FirstToken}
 use Rattle.cedar_tokens.proofs.Prefixes.{longest_unique, begins_fits}
 use Rattle.cedar_tokens.proofs.FirstUnit.{unit_nonempty}
 use Rattle.cedar_tokens.proofs.Scanning.{split_unique}
-use Rattle.cedar_tokens.proofs.Gaps.{behind_gap}
+use Rattle.cedar_tokens.proofs.Gaps.{after_gap}
 
 -- what is ahead after the text's first gap is the whole list
 pub ahead_start : (text : List ℕ) (n : ℕ) (l : Listing) (spans : List Span) → IsGap text n → IsListing text l → AreTokenSpans text spans → IsAhead n (take n text) (drop n text) l spans
 unfolding listing
 ahead_start text n l spans g h k =
     let same : k.units ≡ h.units = split_unique text k.units h.units k.split h.split in
-    let b = behind_gap text n h.units g h.split in
+    let b = after_gap text n h.units g h.split in
     let e : 0 + n ≡ n = omega arith in
     record {
       units = b.units;
@@ -58,7 +58,7 @@ step_units : (at : ℕ) (leading ahead : List ℕ) (t : FirstToken) (us : List (
 unfolding gaps decorate token_spans
 step_units at leading ahead t us f s =
     let behind = drop (length t.text.now) ahead in
-    let b = behind_gap behind f.n us f.gap s.1 in
+    let b = after_gap behind f.n us f.gap s.1 in
     let fits = begins_fits ahead t.text.now f.unit.begins in
     let size : length t.rest.text.now ≡ length ahead - length t.text.now - f.n = ap length f.rest ∙ length-drop f.n behind ∙ ap (λ i. i - f.n) (length-drop (length t.text.now) ahead) in
     let room : f.n ≤ length ahead - length t.text.now = rw (length-drop (length t.text.now) ahead) at f.gap.inside in

@@ -54,7 +54,7 @@ gap_begins text n [] g s = refl
 gap_begins text n (v ∷ vs) g s = rw (g.token v s.0) refl
 
 -- for a text that splits, the units after its first gap
-pub record Behind (text : List ℕ) (n : ℕ) (us : List (List ℕ)) : Type 0 where
+pub record RightAfter (text : List ℕ) (n : ℕ) (us : List (List ℕ)) : Type 0 where
   pub units : List (List ℕ)
   pub split : SplitsInto (drop n text) units
   pub begins : (gaps units).first ≡ []
@@ -62,8 +62,8 @@ pub record Behind (text : List ℕ) (n : ℕ) (us : List (List ℕ)) : Type 0 wh
   pub tokens : (gaps us).tokens ≡ (gaps units).tokens
   pub places : (at : ℕ) → token_spans at us ≡ token_spans (at + n) units
 
-behind_units : (text : List ℕ) (n : ℕ) (us vs : List (List ℕ)) (g : IsGap text n) → us ≡ g.units ++ vs → SplitsInto (drop n text) vs → Behind text n us
-behind_units text n us vs g e s =
+after_units : (text : List ℕ) (n : ℕ) (us vs : List (List ℕ)) (g : IsGap text n) → us ≡ g.units ++ vs → SplitsInto (drop n text) vs → RightAfter text n us
+after_units text n us vs g e s =
     let all : gaps us ≡ record { first = joined g.units ++ (gaps vs).first; tokens = (gaps vs).tokens } = ap gaps e ∙ gaps_after g.units vs g.apart in
     let begins = gap_begins text n vs g s in
     let bytes = gap_joined text n g in
@@ -77,10 +77,10 @@ behind_units text n us vs g e s =
       places = λ at. ap (token_spans at) e ∙ spans_after g.units vs at g.apart ∙ ap (λ i. token_spans (at + i) vs) size;
     }
 
-pub behind_gap : (text : List ℕ) (n : ℕ) (us : List (List ℕ)) → IsGap text n → SplitsInto text us → Behind text n us
-behind_gap text n us g s =
+pub after_gap : (text : List ℕ) (n : ℕ) (us : List (List ℕ)) → IsGap text n → SplitsInto text us → RightAfter text n us
+after_gap text n us g s =
     let more = split_after g.units us text (drop n text) g.scans s in
-    behind_units text n us more.0 g more.1 more.2
+    after_units text n us more.0 g more.1 more.2
 
 -- the units so far are the gap
 pub gap_end : (us : List (List ℕ)) (text rest : List ℕ) (at : ℕ) → EndsAt us text rest at → NoTokens us → ((u : List ℕ) → IsFirstUnit rest u → is_token u ≡ true) → IsGap text at

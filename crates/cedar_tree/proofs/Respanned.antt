@@ -278,7 +278,7 @@ conds_at (n ∷ ns) g (a_node _ s _ (a_node _ t _ (a_leaf _ no_trees) (a_leaf _ 
 abbrev behind : Node Ident → Node VariableDef → Node VariableDef → Node VariableDef → List (Node Cond) → Erased
 behind e p a r cs = ident_tree e (leaf (codes "(") (variable_tree p (leaf (codes ",") (variable_tree a (leaf (codes ",") (variable_tree r (leaf (codes ")") (cond_trees cs (leaf (codes ";") none)))))))))
 
-record Behind (count : ℕ) (f : Erased) : Type 0 where
+record RightAfter (count : ℕ) (f : Erased) : Type 0 where
   effect : Node Ident
   principal : Node VariableDef
   action : Node VariableDef
@@ -287,8 +287,8 @@ record Behind (count : ℕ) (f : Erased) : Type 0 where
   is : behind effect principal action resource conds ≡ f
   size : length conds ≡ count
 
-behind_at : (e : Node Ident) (p a r : Node VariableDef) (cs : List (Node Cond)) {f : Erased} → Alike f (behind e p a r cs) → Behind (length cs) f
-behind_at e p a r cs (a_node _ s _ (a_leaf _ no_trees) (a_leaf _ (a_node _ tp _ {f = fp} kp (a_leaf _ (a_node _ ta _ {f = fa} ka (a_leaf _ (a_node _ tr _ {f = fr} kr (a_leaf _ {f = fc} kc)))))))) =
+after_at : (e : Node Ident) (p a r : Node VariableDef) (cs : List (Node Cond)) {f : Erased} → Alike f (behind e p a r cs) → RightAfter (length cs) f
+after_at e p a r cs (a_node _ s _ (a_leaf _ no_trees) (a_leaf _ (a_node _ tp _ {f = fp} kp (a_leaf _ (a_node _ ta _ {f = fa} ka (a_leaf _ (a_node _ tr _ {f = fr} kr (a_leaf _ {f = fc} kc)))))))) =
     let yp = variable_at p tp kp in
     let ya = variable_at a ta ka in
     let yr = variable_at r tr kr in
@@ -311,7 +311,7 @@ policy_at : (p : Policy) {f : Erased} → Alike f (policy_parts p) → (q : Poli
 policy_at p k =
     let vs = p.variables in
     let a = annotations_at p.annotations.items (behind p.effect vs.0 vs.1 vs.2 p.conds.items) k in
-    let b = behind_at p.effect vs.0 vs.1 vs.2 p.conds.items a.2 in
+    let b = after_at p.effect vs.0 vs.1 vs.2 p.conds.items a.2 in
     let n = p.annotations in
     let c = p.conds in
     let ns = record n { items = a.0; ok = (n.ok.0 ∙ sym a.4, n.ok.1) } in

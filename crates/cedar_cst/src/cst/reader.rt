@@ -48,13 +48,13 @@ pub struct PolicyReader<'src> {
 }
 
 impl<'src> Model for PolicyReader<'src> {
-    ghost use Rattle.cedar_cst.specs.PolicyReaders.{Position, IsBehindPolicies};
+    ghost use Rattle.cedar_cst.specs.PolicyReaders.{Position, IsAfterPolicies};
 
     ghost Value = { Position };
 
     ghost view = { λ r. record { text = r.text.now; at = r.at } };
 
-    ghost invariant = { λ r. IsBehindPolicies r.text.now r.at };
+    ghost invariant = { λ r. IsAfterPolicies r.text.now r.at };
 }
 
 impl<'src> PolicyReader<'src> {

@@ -5,7 +5,7 @@ use Rattle.cedar_cst.specs.PolicyReaders.{EndsPiece}
 use Rattle.cedar_expected.specs.declared.expected.Leaving.{Leaving}
 
 -- the text leaves the grammar there, and what comes before `rest` is accepted and ends a piece
-pub record LeavesBehind (text : List ℕ) (l : Leaving) : Type 0 where
+pub record LeavesAfter (text : List ℕ) (l : Leaving) : Type 0 where
   pub deep : Bool
   pub leaves : LeavesGrammar text l.at deep
   pub from : ℕ

@@ -98,10 +98,10 @@ write_expr-returns-in_ok-end-in-If-clause-writes _ c (if_expr i p t a f b) at e 
     let at2 : IsAt yes (tree_yield a) = o4.1 ∙ ap (λ n. Some n.span) (c.deref-in-If-2.ensures ∙ sym c.deref-in-If-3.ensures) in
     let if_word = c.in_ok-token_at_start-in-If.ensures.writes i (starts_here c.args.span i (tree_yield p ++ (t ∷ (tree_yield a ++ (f ∷ tree_yield b)))) at) o1.0 in
     let else_part = and_then (c.in_ok-token_after-in-If-2.ensures.writes f o5.0) (c.in_ok-write_below-in-If-3.ensures.writes b o6.1 o6.0) in
-    let behind_then = in_turn (c.in_ok-write_below-in-If-2.ensures.writes a o4.1 o4.0) (λ z h. ends_here yes (tree_yield a) at2 z) (first line c.in_ok-line-in-If-2.ensures.ok else_part) in
-    let then_part = and_then (c.in_ok-token_after-in-If.ensures.writes t o3.0) behind_then in
-    let behind_if = in_turn (c.in_ok-write_below-in-If.ensures.writes p o2.1 o2.0) (λ z h. ends_here test (tree_yield p) at1 z) (first line c.in_ok-line-in-If.ensures.ok then_part) in
-    rewritten (ap (λ z. document z (if_expr i p t a f b)) w) (in_group c.in_ok-group-in-If.ensures.ok (and_then if_word behind_if) c.in_ok-end-in-If.ensures.ok)
+    let after_then = in_turn (c.in_ok-write_below-in-If-2.ensures.writes a o4.1 o4.0) (λ z h. ends_here yes (tree_yield a) at2 z) (first line c.in_ok-line-in-If-2.ensures.ok else_part) in
+    let then_part = and_then (c.in_ok-token_after-in-If.ensures.writes t o3.0) after_then in
+    let after_if = in_turn (c.in_ok-write_below-in-If.ensures.writes p o2.1 o2.0) (λ z h. ends_here test (tree_yield p) at1 z) (first line c.in_ok-line-in-If.ensures.ok then_part) in
+    rewritten (ap (λ z. document z (if_expr i p t a f b)) w) (in_group c.in_ok-group-in-If.ensures.ok (and_then if_word after_if) c.in_ok-end-in-If.ensures.ok)
 
 pub write_expr-returns-in-Or-clause-writes : goal.write_expr-returns-in-Or-clause-writes
 write_expr-returns-in-Or-clause-writes _ c (ors_expr o) at e =

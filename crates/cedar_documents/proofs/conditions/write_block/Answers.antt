@@ -12,7 +12,7 @@ use Rattle.cedar_laws.specs.Table.{lead, printed, tok, trail}
 use Rattle.cedar_document_rows.proofs.Found.{as_before, missed}
 use Rattle.cedar_document_rows.proofs.InTurn.{and_then, done, first, in_group, in_nest, rewritten}
 use Rattle.cedar_document_rows.proofs.Keeping.{kept_if_taken, ◌∘◌}
-use Rattle.cedar_document_rows.proofs.LookedUp.{first_behind, taken}
+use Rattle.cedar_document_rows.proofs.LookedUp.{first_after, taken}
 use Rattle.cedar_documents.proofs.PolicyParts.{apart}
 use Rattle.cedar_documents.proofs.WrittenParts.{line_first, word_then}
 use Rattle.cedar_documents.proofs.conditions.write_block.Goals as goal
@@ -24,7 +24,7 @@ returns-clause-writes c l t r is_left at e ends is_right =
     let close = line_first c.in_ok-line.ensures.ok (c.in_ok-token_at_end.ensures.writes r ends is_right) in
     word_then l
     (λ before after p s.
-    let f = first_behind c.args.tokens.now c.requires before l after s c.args.before.end p in
+    let f = first_after c.args.tokens.now c.requires before l after s c.args.before.end p in
     apart (λ v. comment_parts v ≡ l.comment) (map shown new ≡ (before ++ (emptied l ∷ [])) ++ after) c.get_comment_after_end-comment.result
     (taken (starts_from c.args.before.end) before l after f.0 f.1 (map shown c.args.tokens.now) (map shown new) c.get_comment_after_end-comment.result s c.get_comment_after_end-comment.ensures.answer)) (λ b. tt) (λ k.
     let inside = first (trail (as_leaf l) line) (c.in_ok-write_brace.ensures l.comment k) (c.in_ok-write_body.ensures.writes t at e) in

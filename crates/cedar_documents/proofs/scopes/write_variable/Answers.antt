@@ -10,7 +10,7 @@ use Rattle.cedar_layout.specs.Layout.{Doc, ◌·◌, nil}
 use Rattle.cedar_layout.specs.Lookups.{Shown, emptied}
 use Rattle.cedar_tree.specs.Erased.{add_parts, operator_parts, relop_text, type_parts}
 use Rattle.cedar_document_rows.specs.Found.{has_its_tokens, places}
-use Rattle.cedar_document_rows.specs.NodeDocuments.{Behind, IsNodeOf, WritesWhere, as_leaf, document, kind_of_shown}
+use Rattle.cedar_document_rows.specs.NodeDocuments.{RightAfter, IsNodeOf, WritesWhere, as_leaf, document, kind_of_shown}
 use Rattle.cedar_document_rows.specs.declared.written.NoDocument.{NoDocument}
 use Rattle.cedar_documents.specs.PartDocuments.{compared_document, part_document, span_before}
 use Rattle.cedar_laws.specs.Table.{lead, tok, trail, type_part}
@@ -55,9 +55,9 @@ returns-in_default-clause-writes c (variable_is_op x w n p a) e =
 
 -- a variable's word and its type are written, then the operator and what follows it
 operator_writes : (c : goal.After-drop-comment-2) (ts : List Shown) (left : Doc) (p : Shown) (a : Tree Shown kind.add) → IsCompared c.args.variable.now.ineq p a
-    → WritesWhere {U = ⊤} {E = NoDocument} (Behind c.args.variable.now.variable.span.end) (Ok tt) c.comment_at_start.new.tokens c.write_left-2.new.tokens c.group-2.new.self c.write_left-2.new.sheet ts left
-    → ((b : List Shown) → Behind c.args.variable.now.variable.span.end b → Behind (span_before c.args.variable.now).end (b ++ map emptied ts))
-    → WritesWhere {U = ⊤} {E = NoDocument} (Behind c.args.variable.now.variable.span.end) (Ok tt) c.comment_at_start.new.tokens c.write_add.new.tokens c.leading_lines.new.sheet c.end-3.new.self (ts ++ (p ∷ tree_yield a)) (compared_document (to_z w64 (of_z w64 c.args.indent)) left p a)
+    → WritesWhere {U = ⊤} {E = NoDocument} (RightAfter c.args.variable.now.variable.span.end) (Ok tt) c.comment_at_start.new.tokens c.write_left-2.new.tokens c.group-2.new.self c.write_left-2.new.sheet ts left
+    → ((b : List Shown) → RightAfter c.args.variable.now.variable.span.end b → RightAfter (span_before c.args.variable.now).end (b ++ map emptied ts))
+    → WritesWhere {U = ⊤} {E = NoDocument} (RightAfter c.args.variable.now.variable.span.end) (Ok tt) c.comment_at_start.new.tokens c.write_add.new.tokens c.leading_lines.new.sheet c.end-3.new.self (ts ++ (p ∷ tree_yield a)) (compared_document (to_z w64 (of_z w64 c.args.indent)) left p a)
 operator_writes c ts left p a q h behind =
     let same : q.operator ≡ (c.in-Some.op, c.in-Some.right) = cc (c.in-Some.is, q.is) in
     let node = subst (λ (z : Operator). IsNodeOf (add_parts z.1.inner) a) same q.right in

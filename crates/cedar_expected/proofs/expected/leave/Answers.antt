@@ -3,7 +3,7 @@ use Rattle.std.specs.Prelude.{drop}
 use Rattle.cedar_tree.specs.Refusals.{Refuses, OutOfMemoryOr}
 use Rattle.cedar_cst.specs.PolicyReaders.{HasPolicies, HasRead}
 use Rattle.cedar_cst.proofs.Readers.{ends_inside}
-use Rattle.cedar_expected.proofs.Behind.{never_read, never_tokens, never_placed, left_behind}
+use Rattle.cedar_expected.proofs.RightAfter.{never_read, never_tokens, never_placed, left_after}
 use Rattle.cedar_expected.proofs.expected.leave.Goals.{in-Some, in-None}
 use Rattle.cedar_expected.proofs.expected.leave.Goals as goal
 
@@ -24,7 +24,7 @@ returns-in-Err c =
     let r : OutOfMemoryOr (Refuses text) c.in-Err.error = subst (λ z. OutOfMemoryOr (Refuses z) c.in-Err.error) read.of_text c.in-Err.ensures.refusal in
     let rest : c.rest-rest.result.now ≡ drop c.policies.reader.at text = c.rest-rest.ensures ∙ (ap (λ p. drop p.at p.text) c.in-Err.ensures.refused ∙ ap (drop c.policies.reader.at) read.of_text) in
     elim c.match-branch-2.branch [
-      | in-Some w ↦ rw w.result-is (left_behind text c.rest-rest.result c.policies.reader c.policies.invariant.0 read c.in-Err.error _ w.in-Some.at c.in_ok-at-in-Err.ensures w.in-Some.is r rest)
+      | in-Some w ↦ rw w.result-is (left_after text c.rest-rest.result c.policies.reader c.policies.invariant.0 read c.in-Err.error _ w.in-Some.at c.in_ok-at-in-Err.ensures w.in-Some.is r rest)
       | in-None w ↦ rw w.result-is (never_placed c.refusal_is_unique.ensures text c.in-Err.error _ c.in_ok-at-in-Err.ensures w.in-None.is r)
     ]
 

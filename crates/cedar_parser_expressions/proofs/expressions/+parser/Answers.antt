@@ -19,7 +19,7 @@ use Rattle.cedar_parser_expressions.specs.Boxed.{unboxed, signed}
 use Rattle.cedar_parser_steps.proofs.Steps.{passes, fails_as, gives_as, is_itself, first_begins, token_at, token_not}
 use Rattle.cedar_parser_steps.proofs.Rows.{row_parts, row_span}
 use Rattle.cedar_parser_expressions.proofs.Chains.{plain_operand, signed_operand, kept_shorter, addop_between, addop_begins, operand_kept, operand_fails, operands_first, operands_next, operands_stuck, operands_done}
-use Rattle.cedar_parser_steps.proofs.Operands.{keep_done, keep_fails, keep_shorter, gives_behind, accesses_first, accesses_end}
+use Rattle.cedar_parser_steps.proofs.Operands.{keep_done, keep_fails, keep_shorter, gives_after, accesses_first, accesses_end}
 use Rattle.cedar_parser_expressions.proofs.Members.{member_plain, member_called, member_fails, member_call_fails}
 use Rattle.cedar_parser_expressions.proofs.Listed.{items_first, items_next, items_last_read, items_stuck, items_end, last_item}
 use Rattle.cedar_parser_expressions.proofs.Bracketed.{square, round, curly, enclosed_reader, enclosed_gives, primary_gives, access_gives}
@@ -171,7 +171,7 @@ pub parse_branch-returns-in-Some-clause-reads : goal.parse_branch-returns-in-Som
 parse_branch-returns-in-Some-clause-reads _ c =
     let d = c.in-Some.ensures.token in
     let t = is_itself c.args.keyword d.0.kind (sym d.2) in
-    gives_behind c.args.keyword Label.expr expr_parts c.parse_expr.result d.0 _ _ (at_depth c.args.depth expr_rule) (expr_to kind c.args.depth) (token_at (is c.args.keyword) _ d.0 _ d.1 t) d.2 c.parse_expr.ensures.reads (expr_at c.args.depth _)
+    gives_after c.args.keyword Label.expr expr_parts c.parse_expr.result d.0 _ _ (at_depth c.args.depth expr_rule) (expr_to kind c.args.depth) (token_at (is c.args.keyword) _ d.0 _ d.1 t) d.2 c.parse_expr.ensures.reads (expr_at c.args.depth _)
 
 pub parse_branch-returns-in-None-clause-reads : goal.parse_branch-returns-in-None-clause-reads
 parse_branch-returns-in-None-clause-reads _ c =

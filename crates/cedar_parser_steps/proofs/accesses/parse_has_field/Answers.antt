@@ -7,7 +7,7 @@ use Rattle.cedar_grammar.specs.Reader.Lines.{text_operand, has_field}
 use Rattle.cedar_parser_steps.specs.Reading.{flat}
 use Rattle.cedar_tree.specs.Erased.{add_parts}
 use Rattle.cedar_parser_steps.proofs.Steps.{passes}
-use Rattle.cedar_parser_steps.proofs.Operands.{gives_behind}
+use Rattle.cedar_parser_steps.proofs.Operands.{gives_after}
 use Rattle.cedar_parser_steps.proofs.accesses.parse_has_field.Goals as goal
 
 pub returns-in_err-rest-clause-reads : goal.returns-in_err-rest-clause-reads
@@ -18,9 +18,9 @@ returns-in_err-rest-clause-reads c =
 pub returns-then-begins-clause-reads : goal.returns-then-begins-clause-reads
 returns-then-begins-clause-reads c =
     let h = c.in_ok-rest.ensures.reads in
-    gives_behind K.Has Label.add add_parts c.parse_text_operand.result _ _ _ (flat text_operand) _ h.0 h.1 c.parse_text_operand.ensures.reads (choice_yes _ _ _ _ (sym c.begins.ensures ∙ c.if-begins.true))
+    gives_after K.Has Label.add add_parts c.parse_text_operand.result _ _ _ (flat text_operand) _ h.0 h.1 c.parse_text_operand.ensures.reads (choice_yes _ _ _ _ (sym c.begins.ensures ∙ c.if-begins.true))
 
 pub returns-clause-reads : goal.returns-clause-reads
 returns-clause-reads c =
     let h = c.in_ok-rest.ensures.reads in
-    gives_behind K.Has Label.add add_parts c.parse_fields.result _ _ _ (flat has_field) _ h.0 h.1 c.parse_fields.ensures.reads (choice_no _ _ _ _ (sym c.begins.ensures ∙ c.if-begins.false))
+    gives_after K.Has Label.add add_parts c.parse_fields.result _ _ _ (flat has_field) _ h.0 h.1 c.parse_fields.ensures.reads (choice_no _ _ _ _ (sym c.begins.ensures ∙ c.if-begins.false))

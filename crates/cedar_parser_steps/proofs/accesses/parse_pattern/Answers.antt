@@ -7,7 +7,7 @@ use Rattle.cedar_grammar.specs.Reader.Lines.{text_operand}
 use Rattle.cedar_parser_steps.specs.Reading.{flat}
 use Rattle.cedar_tree.specs.Erased.{add_parts}
 use Rattle.cedar_parser_steps.proofs.Steps.{passes}
-use Rattle.cedar_parser_steps.proofs.Operands.{gives_behind}
+use Rattle.cedar_parser_steps.proofs.Operands.{gives_after}
 use Rattle.cedar_parser_steps.proofs.accesses.parse_pattern.Goals as goal
 
 pub returns-in_err-rest-clause-reads : goal.returns-in_err-rest-clause-reads
@@ -18,4 +18,4 @@ returns-in_err-rest-clause-reads c =
 pub returns-clause-reads : goal.returns-clause-reads
 returns-clause-reads c =
     let h = c.in_ok-rest.ensures.reads in
-    gives_behind K.Like Label.add add_parts c.parse_text_operand.result _ _ _ (flat text_operand) _ h.0 h.1 c.parse_text_operand.ensures.reads refl
+    gives_after K.Like Label.add add_parts c.parse_text_operand.result _ _ _ (flat text_operand) _ h.0 h.1 c.parse_text_operand.ensures.reads refl

@@ -1,8 +1,8 @@
-use Rattle.cedar_layout.proofs.Seeking.{cut_behind, first_line, only_line}
+use Rattle.cedar_layout.proofs.Seeking.{cut_after, first_line, only_line}
 use Rattle.cedar_layout.proofs.utils.cleaning.split_line.Goals as goal
 
 pub split_at-requires : goal.split_at-requires
-split_at-requires c = cut_behind c.args.text.now c.in-Some.at c.utf8.text (rw c.as_bytes.ensures.value at c.in-Some.ensures)
+split_at-requires c = cut_after c.args.text.now c.in-Some.at c.utf8.text (rw c.as_bytes.ensures.value at c.in-Some.ensures)
 
 pub returns-in-Some-clause-line : goal.returns-in-Some-clause-line
 returns-in-Some-clause-line c =

@@ -29,7 +29,7 @@ use Rattle.cedar_expected.specs.declared.expectation.Expected.{Expected}
 use Rattle.cedar_expected.specs.Expectations.{NeverLeaves, LeavesAt, IsExpected, IsList, AreAllAfter, first_of}
 use Rattle.cedar_expected.specs.Naming.{AreNamed}
 use Rattle.cedar_expected.specs.Inside.Beginnings.{IsPlaceOf, HasTree, KindsFollow}
-use Rattle.cedar_expected.specs.Inside.Leaving.{LeavesBehind}
+use Rattle.cedar_expected.specs.Inside.Leaving.{LeavesAfter}
 use Rattle.cedar_expected.proofs.Probed.{of_units}
 use Rattle.cedar_expected.proofs.Rests.{Within, within, same_after}
 use Rattle.cedar_expected.proofs.Splits.{Cut, cut, rest_utf8}
@@ -96,14 +96,14 @@ leaving_place text NoDocument at n p i r = absurd r
 leaving_place text Unsound at n p i r = absurd r
 leaving_place text OutOfMemory at n p i r = absurd p
 
-pub left_behind : (text : List ℕ) (rest : Bor (List ℕ)) (reader : Position) (ps : List (Node Policy)) → HasRead reader text ps → (e : FormatError) (at : Option ℕ) (n : ℕ) → IsPlaceOf e at → at ≡ Some n
-    → OutOfMemoryOr (Refuses text) e → rest.now ≡ drop reader.at text → LeavesBehind text (record { at = n; rest = rest })
-left_behind text rest reader ps h e at n p i r f =
+pub left_after : (text : List ℕ) (rest : Bor (List ℕ)) (reader : Position) (ps : List (Node Policy)) → HasRead reader text ps → (e : FormatError) (at : Option ℕ) (n : ℕ) → IsPlaceOf e at → at ≡ Some n
+    → OutOfMemoryOr (Refuses text) e → rest.now ≡ drop reader.at text → LeavesAfter text (record { at = n; rest = rest })
+left_after text rest reader ps h e at n p i r f =
     let l = leaving_place text e at n p i r in
     record { deep = l.0; leaves = l.1; from = reader.at; rest = f; ends = h.ends; accepted = policies_accepted (take reader.at text) ps h.read }
 
 -- The text before the place, from the end of the whole policies on, and the text from the place on.
-module _ (text : List ℕ) (l : Leaving) (b : LeavesBehind text l) where
+module _ (text : List ℕ) (l : Leaving) (b : LeavesAfter text l) where
   inside : b.from ≤ length text
   inside = ends_inside text b.from b.ends
 
