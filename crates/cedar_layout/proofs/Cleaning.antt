@@ -1,11 +1,12 @@
 -- A text is cut at its strings and comments.
-use Rattle.std.proofs.Common.{◌≡◌, ℕ, zero, suc, ◌+◌, ◌-◌, ◌<◌, ◌≤◌, List, [], ◌∷◌, ◌++◌, length, drop, refl, ap, arith, sym, subst, ◌∙◌, append_assoc, append-nil, Result, Ok, Err}
-use Rattle.std.specs.Prelude.{slice_range, IfOk}
-use Rattle.std.specs.Str.{trim}
-use Rattle.std.proofs.lemmas.List.{take-append-drop, length-take}
+use Rattle.std.proofs.Common.{◌≡◌, ℕ, zero, suc, ◌+◌, ◌-◌, ◌<◌, ◌≤◌, List, [], ◌∷◌, ◌++◌, length, take, drop, refl, ap, arith, sym, subst, ◌∙◌, append_assoc, append-nil, Result, Ok, Err}
+use Rattle.std.specs.Prelude.{slice_range, OnOk}
+use Rattle.std.specs.Str.{trim, trim_end, trim_start}
+use Rattle.std.proofs.Math.Seq.{take-append-add}
+use Rattle.std.proofs.lemmas.List.{take-append-drop, length-take, length-take-le, length-drop, drop_at}
 use Rattle.cedar_tokens.specs.Units.{BeginsNone, IsLongest}
 use Rattle.cedar_tokens.specs.declared.token.Span.{Span}
-use Rattle.cedar_layout.specs.Cleaning.{IsKept, NoneBegins, Cut, last_piece, more_pieces, StandsFirst, IsCleaned, clean_piece}
+use Rattle.cedar_layout.specs.Cleaning.{IsKept, NoneBegins, Cut, last_piece, more_pieces, StandsFirst, clean_piece}
 
 -- ---- pieces of a text
 
@@ -52,10 +53,36 @@ cut_end text joined new at n e inv =
     λ k h. subst (λ z. BeginsNone IsKept z) (sym (drop_more at k text) ∙ ap (drop k) (sym (append-nil m))) (n (at + k) (omega arith)) in
     subst (λ z. Cut text z) (sym e) (inv (clean_piece m) (last_piece m (none_begins m [] none)))
 
-pub if_cleaned : {S E : Type 0} (result : Result S E) (bytes : S → List ℕ) (text joined trimmed : List ℕ) → Cut text joined → trimmed ≡ trim joined → IfOk result (λ s. bytes s ≡ trimmed) → IfOk result (λ s. IsCleaned text (bytes s))
-if_cleaned (Err e) bytes text joined trimmed c t h = tt
-if_cleaned (Ok s) bytes text joined trimmed c t h = record { joined = joined; cut = c; trimmed = h ∙ t }
-
 -- a piece and a kept text were appended
-pub two_pushed : (joined mid piece kept piece' kept' : List ℕ) → mid ≡ joined ++ clean_piece piece → piece ≡ piece' → kept ≡ kept' → mid ++ kept ≡ (joined ++ clean_piece piece') ++ kept'
-two_pushed joined mid piece kept piece' kept' e f g = cc
+pub two_pushed : (old joined out mid new piece kept piece' kept' : List ℕ) → out ≡ old ++ joined → mid ≡ out ++ clean_piece piece → new ≡ mid ++ kept → piece ≡ piece' → kept ≡ kept' → new ≡ old ++ ((joined ++ clean_piece piece') ++ kept')
+two_pushed old joined out mid new piece kept piece' kept' e f g p k =
+    let all : new ≡ ((old ++ joined) ++ clean_piece piece') ++ kept' = cc in
+    all ∙ ap (λ z. z ++ kept') (append_assoc old joined (clean_piece piece')) ∙ append_assoc old (joined ++ clean_piece piece') kept'
+
+-- the last piece was appended
+pub last_pushed : {E : Type 0} (result : Result (Unit {0}) E) (text old joined out new piece : List ℕ) (at : ℕ) → ((k : ℕ) → at ≤ k → BeginsNone IsKept (drop k text)) → ((y : List ℕ) → Cut (drop at text) y → Cut text (joined ++ y)) → out ≡ old ++ joined → piece ≡ drop at text
+    → OnOk result (new ≡ out ++ clean_piece piece) → OnOk result ((t : List ℕ) × Cut text t × (new ≡ old ++ t))
+last_pushed (Err e) text old joined out new piece at n inv b p h = tt
+last_pushed (Ok u) text old joined out new piece at n inv b p h =
+    let t = joined ++ clean_piece (drop at text) in
+    (t, cut_end text joined t at n refl inv, h ∙ (ap (λ z. z ++ clean_piece piece) b ∙ (ap (λ z. (old ++ joined) ++ clean_piece z) p ∙ append_assoc old joined (clean_piece (drop at text)))))
+
+-- ---- blanks at the ends
+
+-- what is left of a text after its first bytes is as long as it was before
+pub drop_rest : (n : ℕ) (xs t : List ℕ) → t ≡ drop n xs → drop (length xs - length t) xs ≡ t
+drop_rest zero xs t e = let q : length xs - length t ≡ 0 = omega (arith, ap length e) in ap (λ k. drop k xs) q ∙ sym e
+drop_rest (suc n) [] t e = drop_nothing (0 - length t) ∙ sym e
+drop_rest (suc n) (x ∷ xs) t e =
+    let q : length (x ∷ xs) - length t ≡ suc (length xs - length t) = omega (arith, ap length e, length-drop n xs) in
+    ap (λ k. drop k (x ∷ xs)) q ∙ drop_rest n xs t e
+
+pub trimmed_from : (start blanks n : ℕ) (old mid new : List ℕ) → start ≤ length old → mid ≡ (take start old ++ []) ++ drop (start + blanks) old → drop blanks (drop start old) ≡ trim_start (drop start old) → take n (drop start mid) ≡ trim_end (drop start mid) → new ≡ take (start + n) mid → new ≡ take start old ++ trim (drop start old)
+trimmed_from start blanks n old mid new l e r f g =
+    let p = take start old in
+    let t = trim_start (drop start old) in
+    let m : mid ≡ p ++ t = e ∙ (ap (λ z. z ++ drop (start + blanks) old) (append-nil p) ∙ ap (λ z. p ++ z) (sym (drop_more start blanks old) ∙ r)) in
+    let s : length p ≡ start = length-take-le start old l in
+    let d : drop start mid ≡ t = ap (drop start) m ∙ drop_at p t start s in
+    let ends : take n t ≡ trim_end t = subst (λ z. take n z ≡ trim_end z) d f in
+    g ∙ (ap (take (start + n)) m ∙ (ap (λ k. take (k + n) (p ++ t)) (sym s) ∙ (take-append-add p t n ∙ ap (λ z. p ++ z) ends)))

@@ -4,7 +4,9 @@ mod cleaning;
 mod comments;
 mod lookups;
 
-pub use cleaning::{find_comment_at, find_string_at, remove_empty_lines};
+pub use cleaning::{
+    append_without_empty_lines, find_comment_at, find_string_at, remove_empty_lines,
+};
 pub use comments::{
     add_brackets, add_comment, get_leading_comment_doc_from_str, get_trailing_comment_doc_from_str,
 };

@@ -1,11 +1,11 @@
 //! Removing blank lines from a text, but not from its strings and comments.
-ghost use Rattle.std.specs.Prelude.{◌≡◌, ◌+◌, ◌<◌, ◌≤◌, ◌==◌, ◌++◌, List, ℕ, drop, length, string_bytes, IfOk, OnOk, IfSome};
+ghost use Rattle.std.specs.Prelude.{◌≡◌, ◌+◌, ◌<◌, ◌≤◌, ◌==◌, ◌++◌, List, ℕ, drop, take, length, string_bytes, IfOk, OnOk, OnErr, IfSome};
 ghost use Rattle.std.specs.Char.{is_whitespace};
 ghost use Rattle.std.specs.List.{list_all, position};
-ghost use Rattle.std.specs.Str.{chars, IsCharBoundary};
+ghost use Rattle.std.specs.Str.{chars, IsCharBoundary, trim, trim_end, trim_start};
 ghost use Rattle.cedar_tokens.specs.Bytes.{line_feed, space_character};
 ghost use Rattle.cedar_tokens.specs.Units.{FindsLongest, IsComment};
-ghost use Rattle.cedar_layout.specs.Cleaning.{FindsFirst, IsCleaned, IsKept, IsString, clean_piece, is_blank_line, last_byte_or};
+ghost use Rattle.cedar_layout.specs.Cleaning.{Cut, FindsFirst, IsCleaned, IsKept, IsString, clean_piece, is_blank_line, last_byte_or};
 ghost use Rattle.cedar_layout.specs.Inside.Seeking.{IsFirstLine, IsSought};
 
 use cedar_tokens::lexer::{UnitKind, first_unit};
@@ -35,15 +35,46 @@ pub fn find_string_at(text: &str, from: usize) -> Option<Span>
 pub fn remove_empty_lines(alloc: Global, text: &str) -> Result<String, AllocError>
     ensures { IfOk result (λ s. IsCleaned text.now (string_bytes s)) }
 {
-    let mut joined = String::new(alloc);
+    let mut out = String::new(alloc);
+    append_without_empty_lines(text, &mut out)?;
+    Ok(out)
+}
+
+/// Appends what `remove_empty_lines` gives. After a failure `out` is cut back to what it was; it keeps its capacity.
+pub fn append_without_empty_lines(text: &str, out: &mut String) -> Result<(), AllocError>
+    ensures ok { OnOk result ((t : List ℕ) × IsCleaned text.now t × (string_bytes out.new ≡ string_bytes out.old ++ t)) }
+    ensures err { OnErr result (string_bytes out.new ≡ string_bytes out.old) }
+{
+    let start = out.len();
+    if let Err(e) = push_cleaned(out, text) {
+        out.truncate(start);
+        return Err(e);
+    }
+    Ok(())
+}
+
+/// Appends the cleaned text. Where memory is refused, something else may have been appended.
+fn push_cleaned(out: &mut String, text: &str) -> Result<(), AllocError>
+    ensures ok { OnOk result ((t : List ℕ) × IsCleaned text.now t × (string_bytes out.new ≡ string_bytes out.old ++ t)) }
+    ensures kept { take (length (string_bytes out.old)) (string_bytes out.new) ≡ string_bytes out.old }
+{
+    let start = out.len();
+    push_pieces(out, text)?;
+    trim_from(out, start)
+}
+
+/// Appends the text without blank lines. Where memory is refused, a part of it may have been appended.
+fn push_pieces(out: &mut String, text: &str) -> Result<(), AllocError>
+    ensures ok { OnOk result ((t : List ℕ) × Cut text.now t × (string_bytes out.new ≡ string_bytes out.old ++ t)) }
+    ensures kept { take (length (string_bytes out.old)) (string_bytes out.new) ≡ string_bytes out.old }
+{
     let mut at = 0;
     while let Some(kept) = find(Sought::Either, text, at) {
-        push_piece(&mut joined, &text[at..kept.start])?;
-        joined.push_str(&text[kept.start..kept.end])?;
+        push_piece(out, &text[at..kept.start])?;
+        out.push_str(&text[kept.start..kept.end])?;
         at = kept.end;
     }
-    push_piece(&mut joined, &text[at..])?;
-    String::from_str(alloc, joined.as_str().trim())
+    push_piece(out, &text[at..])
 }
 
 /// What is looked for in a text.
@@ -127,9 +158,11 @@ fn string_len_at(text: &str, at: usize) -> Option<usize>
     Some(len)
 }
 
-/// Appends the piece without its blank lines. Its first line stays.
+/// Appends the piece without its blank lines. Its first line stays. Where memory is refused, a part of it may have been
+/// appended.
 fn push_piece(out: &mut String, piece: &str) -> Result<(), AllocError>
-    ensures { OnOk result (string_bytes out.new ≡ string_bytes out.old ++ clean_piece piece.now) }
+    ensures ok { OnOk result (string_bytes out.new ≡ string_bytes out.old ++ clean_piece piece.now) }
+    ensures kept { take (length (string_bytes out.old)) (string_bytes out.new) ≡ string_bytes out.old }
 {
     let (first, mut rest) = split_line(piece);
     out.push_str(first)?;
@@ -141,6 +174,35 @@ fn push_piece(out: &mut String, piece: &str) -> Result<(), AllocError>
         rest = behind;
     }
     Ok(())
+}
+
+/// Removes the blanks at both ends of what stands from `start` on. A failure changes nothing.
+fn trim_from(out: &mut String, start: usize) -> Result<(), AllocError>
+    requires { IsCharBoundary (string_bytes out.old) start }
+    ensures ok { OnOk result (string_bytes out.new ≡ take start (string_bytes out.old) ++ trim (drop start (string_bytes out.old))) }
+    ensures err { OnErr result (string_bytes out.new ≡ string_bytes out.old) }
+{
+    let blanks = blanks_before(&out.as_str()[start..]);
+    out.replace_range(start..start + blanks, "")?;
+    let len = len_without_blanks(&out.as_str()[start..]);
+    out.truncate(start + len);
+    Ok(())
+}
+
+/// The bytes of the blanks that the text begins with.
+fn blanks_before(text: &str) -> usize
+    ensures rest { drop result text.now ≡ trim_start text.now }
+    ensures boundary { IsCharBoundary text.now result }
+{
+    text.len() - text.trim_start().len()
+}
+
+/// The bytes before the blanks that the text ends with.
+fn len_without_blanks(text: &str) -> usize
+    ensures front { take result text.now ≡ trim_end text.now }
+    ensures boundary { IsCharBoundary text.now result }
+{
+    text.trim_end().len()
 }
 
 /// The first line, with its line feed, and what follows it.
