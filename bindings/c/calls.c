@@ -1,11 +1,11 @@
 /*
- * Makes the calls that standard input has, for tests/bindings: each is a line
+ * Makes the calls that standard input describes, for tests/bindings: each is a line
  *
  *     NAME WIDTH INDENT ROOM LEN OTHER
  *
- * and then the LEN bytes of a text and the OTHER bytes of a second one; a call of `place` has the byte for the width. Writes
- * a line KIND NUMBER COLUMN, and then all ROOM bytes of the room, which held '#' before the call. Each text and the room are
- * blocks of just their sizes, so that a checker of memory sees every access beyond them.
+ * and then the LEN bytes of a text and the OTHER bytes of a second one; a call of `place` has the byte as its width. Writes a
+ * line KIND NUMBER COLUMN, and then all ROOM bytes of the buffer, which held '#' before the call. Each text and the buffer are
+ * blocks of exactly their sizes, so that a memory checker sees every access beyond them.
  */
 #include "cedar_formatter.h"
 
@@ -13,7 +13,7 @@
 #include <stdlib.h>
 #include <string.h>
 
-/* A block of so many bytes. */
+/* A block of this many bytes. */
 static char *block(size_t size) {
     char *bytes = malloc(size);
     if (!bytes) {
@@ -23,7 +23,7 @@ static char *block(size_t size) {
     return bytes;
 }
 
-/* The next bytes of standard input, so many. */
+/* The next bytes of standard input, as many as given. */
 static char *next(size_t size) {
     char *bytes = block(size);
     if (fread(bytes, 1, size, stdin) != size) {

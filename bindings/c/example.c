@@ -1,6 +1,6 @@
 /*
  * Formats the policies of standard input: `example [WIDTH [INDENT]]`. The status is 0 with the result on standard output,
- * and 1 where there is none, with `LINE:COLUMN: WHY` on standard error.
+ * and 1 if there is none, with `LINE:COLUMN: WHY` on standard error.
  */
 #include "cedar_formatter.h"
 
@@ -12,7 +12,7 @@ struct text {
     size_t len;
 };
 
-/* All of standard input; no bytes where it can't be read, or memory is wanting. */
+/* All of standard input; no bytes if it can't be read or memory runs out. */
 static struct text read_all(void) {
     struct text text = {malloc(1), 0};
     size_t room = 1, count = 1;
@@ -35,7 +35,7 @@ static struct text read_all(void) {
     return text;
 }
 
-/* The text, formatted, in memory of its own; no bytes where the answer is no result. */
+/* The formatted text, in memory of its own; no bytes if there is no result. */
 static struct text formatted(struct text text, size_t width, ptrdiff_t indent, struct cedar_answer *answer) {
     size_t room = 2 * text.len + 64;
     struct text out = {malloc(room), 0};

@@ -1,9 +1,9 @@
 /*
  * Makes each call that takes memory with the first block of memory refused, then the second, and so on, until none is: for
- * tests/bindings, which links it so that malloc and realloc go through the functions below. The text is standard input; where it
- * is accepted, its layout is the second text. Writes a line for each call, its name, how many blocks were refused, and the last
- * answer's kind and number, and then the layout. The status is 1 where an answer in between is another than out of memory,
- * or comes with a changed room.
+ * tests/bindings, which links it so that malloc and realloc go through the functions below. The text is standard input; if it
+ * is accepted, its layout is the second text. Writes a line for each call, with its name, how many blocks were refused, and the
+ * kind and number of the last answer, and then the layout. The status is 1 if an answer before the last is not out of memory,
+ * or comes with a changed buffer.
  */
 #include "cedar_formatter.h"
 
@@ -45,7 +45,7 @@ static void same_layout(void) {
     cedar_same_layout(text, len, layout, layout_len, 80, 2, &answer);
 }
 
-/* Makes a call with each block refused in turn; whether all goes well. */
+/* Makes a call with each block refused in turn; returns whether all goes well. */
 static int in_turn(const char *name, void (*call)(void)) {
     long refused = 0;
     for (;;) {

@@ -12,7 +12,7 @@ import (
 	"unsafe"
 )
 
-// format lays a text out at 80 columns a line and 2 a level. The kind is 0, or says why there is no result.
+// format lays a text out at 80 columns per line and 2 per level. The kind is 0, or says why there is no result.
 func format(text []byte) ([]byte, uint32) {
 	given := append(text[:len(text):len(text)], 0) // (a copy; not empty, so that no pointer is null)
 	var answer C.struct_cedar_answer

@@ -38,7 +38,7 @@ def build_wheel(wheel_directory, config_settings=None, metadata_directory=None):
     name = f"{PACKAGE}-{_version()}-{TAG}.whl"
     with zipfile.ZipFile(os.path.join(wheel_directory, name), "w", zipfile.ZIP_DEFLATED) as wheel:
         for file, content in files.items():
-            # (of no date, so that the same files make the same bytes)
+            # (without a date, so that the same files make the same bytes)
             entry = zipfile.ZipInfo(file)
             entry.external_attr = (0o100755 if file.endswith(LIBRARY) else 0o100644) << 16
             wheel.writestr(entry, content, zipfile.ZIP_DEFLATED)
@@ -80,7 +80,7 @@ def _library():
 
 
 def _shared(name):
-    """What a file says that stands beside this package in a release, and at the top of the repository."""
+    """The content of a file that is beside this package in a release, and at the top of the repository."""
     file = next(filter(os.path.isfile, (f"{HERE}/{name}", f"{HERE}/../../{name}")), None)
     if not file:
         sys.exit(f"{PACKAGE}: there is no file {name}, in {HERE} or at the top of the repository")

@@ -6,7 +6,7 @@
 
 A text is a `str`, or bytes in UTF-8 (`bytes`, `bytearray`, `memoryview`); anything else is a `TypeError`. A text that is
 refused raises `Refused`, and bytes that aren't UTF-8 raise `NotUtf8`; both are `ValueError`s and have `kind`, `byte`, `line`
-and `column`. Where memory runs out it is a `MemoryError`.
+and `column`. Running out of memory raises a `MemoryError`.
 
 The library is what the variable CEDAR_FORMATTER names; else the one in this package, where pip puts it; else that of the
 repository, bindings/out; else the one of a release, PREFIX/lib.
@@ -48,7 +48,7 @@ _WORDS = {
 
 
 class Place(NamedTuple):
-    """Where a byte is: its line and its column, both from 1, the column in characters."""
+    """The place of a byte: its line and its column, both from 1, the column in characters."""
 
     line: int
     column: int
@@ -126,7 +126,7 @@ def _not_utf8(text: bytes) -> NotUtf8:
 
 
 def _result(answer: Answer, text: bytes) -> int:
-    """The number of a result; else the exception that says why there is none."""
+    """The number of a result; raises the exception that says why if there is none."""
     if answer.kind == RESULT:
         return answer.number
     if answer.kind == Kind.NOT_UTF8:
@@ -141,7 +141,7 @@ def format_text(text: str, width: int = 80, indent: int = 2) -> str: ...
 @overload
 def format_text(text: _Bytes, width: int = 80, indent: int = 2) -> bytes: ...
 def format_text(text: _Text, width: int = 80, indent: int = 2) -> Union[str, bytes]:
-    """The policies, laid out at `width` columns a line and `indent` columns a level: a `str` for a `str`, else `bytes`."""
+    """The policies, laid out at `width` columns per line and `indent` columns per level: a `str` for a `str`, else `bytes`."""
     given, layout, answer = _bytes_of(text), _layout(width, indent), Answer()
     room = 2 * len(given) + 64
     while True:
@@ -181,5 +181,5 @@ def same_layout(a: _Text, b: _Text, width: int = 80, indent: int = 2) -> bool:
 
 
 def place(text: _Text, byte: int) -> Place:
-    """The line and the column of a byte, counted from 0; one past the end is where the text ends."""
+    """The line and the column of a byte, counted from 0; one past the end has the place of the end."""
     return _find(_bytes_of(text), _number("byte", byte, 0, 2**64 - 1))

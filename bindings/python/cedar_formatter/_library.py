@@ -23,7 +23,7 @@ class PlaceAnswer(ctypes.Structure):
 
 
 def load() -> ctypes.CDLL:
-    """The library, with the types of its calls; an ImportError where there is none."""
+    """The library, with the types of its calls; raises an ImportError if there is none."""
     named = os.environ.get("CEDAR_FORMATTER")
     file = named or next(filter(os.path.exists, _PLACES), None)
     if not file:

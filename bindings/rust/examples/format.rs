@@ -1,5 +1,5 @@
 //! Formats the policies of standard input: `format [WIDTH [INDENT]]`. The status is 0 with the result on standard output, and
-//! 1 where there is none, with `LINE:COLUMN: WHY` on standard error.
+//! 1 if there is none, with `LINE:COLUMN: WHY` on standard error.
 use cedar_formatter::{format, place, Config};
 use std::error::Error;
 use std::io::{self, Read, Write};

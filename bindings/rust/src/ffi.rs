@@ -64,7 +64,7 @@ impl Answer {
             4 => Err(Error::Grammar { at }),
             5 => Err(Error::TooDeep { at }),
             8 => Err(Error::OutOfMemory),
-            // (6 and 7 are proved never to be answered, a str is UTF-8, and only `format` has a room)
+            // (6 and 7 are proved never to occur, a str is UTF-8, and only `format` has a buffer)
             kind => unreachable!("an answer of kind {kind}"),
         }
     }

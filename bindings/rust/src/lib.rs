@@ -8,9 +8,8 @@
 //! # Ok::<(), cedar_formatter::Error>(())
 //! ```
 //!
-//! The crate stands on the proved library for C, which it links statically. It has no state, so its calls may run on several
-//! threads at the same time. A call needs 1 MiB of stack; a thread of the standard library has 2 MiB if nothing else is asked
-//! for.
+//! The crate uses the proved library for C, which it links statically. It has no state, so its calls may run on several
+//! threads at the same time. A call needs 1 MiB of stack; by default a thread of the standard library has 2 MiB.
 #![warn(missing_docs)]
 
 use std::fmt;
@@ -20,14 +19,14 @@ mod ffi;
 /// How policies are laid out.
 #[derive(Clone, Copy, Debug, PartialEq, Eq, Hash)]
 pub struct Config {
-    /// Columns of a line.
+    /// Columns per line.
     pub line_width: usize,
-    /// Columns of a level; a negative number moves to the left.
+    /// Columns per level; a negative number moves to the left.
     pub indent_width: isize,
 }
 
 impl Default for Config {
-    /// 80 columns a line, and 2 a level.
+    /// 80 columns per line, and 2 per level.
     fn default() -> Self {
         Config {
             line_width: 80,
@@ -54,7 +53,7 @@ pub enum Error {
         /// The byte.
         at: usize,
     },
-    /// The token that begins at the byte can't stand there; at the text's length, one is missing.
+    /// The token that begins at the byte isn't allowed there; at the length of the text, one is missing.
     Grammar {
         /// The byte.
         at: usize,
@@ -135,7 +134,7 @@ pub fn is_formatted(text: &str, config: &Config) -> Result<bool, Error> {
     ffi::is_formatted(text, config)
 }
 
-/// Whether two texts are laid out alike: their tokens and comments are the same, but for trailing commas and leading zeros of
+/// Whether two texts are laid out alike: their tokens and comments are the same, up to trailing commas and leading zeros of
 /// numbers. The answer is the same for every [`Config`].
 ///
 /// # Errors
@@ -145,8 +144,8 @@ pub fn same_layout(a: &str, b: &str, config: &Config) -> Result<bool, Error> {
     ffi::same_layout(a, b, config)
 }
 
-/// The line and the column of a byte, counted from 0. A byte inside a character is where the character begins, and one past
-/// the end where the text ends.
+/// The line and the column of a byte, counted from 0. A byte inside a character has the place of that character, and one
+/// past the end has the place of the end.
 pub fn place(text: &str, at: usize) -> Place {
     ffi::place(text, at)
 }
