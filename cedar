@@ -1,6 +1,6 @@
 #!/bin/sh
 # Formats Cedar policies: ./cedar format [-p FILE] [-i N] [-l N] [--check]
-# Runs the proved program where ./build has made it, else one that the first use builds from the sources without waiting for
+# Runs the proved program if ./build has made it, else one that the first use builds from the sources without waiting for
 # the proofs, by ./build-unproved.
 root=$(dirname "$(readlink -f "$0")")
 proved=$root/crates/cedar/out/cedar
@@ -30,7 +30,7 @@ make_by() {
 
 if [ -x "$proved" ]; then
     program=$proved
-    # (only where a person reads it: an editor or a script takes standard error for the program's own)
+    # (only if a person reads it: an editor or a script takes standard error for that of the program)
     if [ -t 2 ] && is_older "$proved" "$root"/crates/*/src "$root"/crates/*/specs "$root"/crates/*/proofs; then
         tell "the proved program is older than the sources; ./build brings it up to date"
     fi
@@ -51,7 +51,7 @@ else
     elif [ -t 2 ]; then
         tell "not proved on this machine; ./build proves it and puts the proved program in its place"
     fi
-    # (./build may have made the proved one meanwhile)
+    # (./build may have made the proved one in the meantime)
     [ ! -x "$proved" ] || program=$proved
 fi
 

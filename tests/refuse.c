@@ -1,6 +1,7 @@
 /*
- * Refuses one block of memory of a program that it is preloaded into: the one of the number REFUSED of the environment, counted
- * from 1. It is told by one byte, written to the descriptor TOLD. For ./fail-alloc and tests/memory; it needs the GNU C library.
+ * Refuses one block of memory of a program that it is preloaded into: the one with the number REFUSED of the environment,
+ * counted from 1. It reports this by one byte, written to the descriptor TOLD. For ./fail-alloc and tests/memory; it needs the
+ * GNU C library.
  */
 #include <stddef.h>
 #include <stdlib.h>
@@ -9,7 +10,7 @@
 void *__libc_malloc(size_t size);
 void *__libc_realloc(void *block, size_t size);
 
-/* How many blocks are given up to the refused one; 0: none is refused any more. */
+/* How many blocks are left up to and including the refused one; 0: none is refused any longer. */
 static long left;
 
 static int told;

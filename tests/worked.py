@@ -18,7 +18,7 @@ def text_of(literal):
 
 
 def table(file, name, row):
-    """What the pattern finds in a table, which is as long as the table says."""
+    """What the pattern finds in a table; it has to be as long as the table says."""
     with open(f"{ROWS}/{file}", encoding="utf-8") as it:
         length, body = re.search(rf"static {name}: [^;]*; (\d+)\] = \[\n(.*?)\n\];", it.read(), re.S).groups()
     found = re.findall(row, body, re.S)
@@ -34,7 +34,7 @@ def layouts():
 
 
 def refusals():
-    """(text, kind and byte, or None where it is accepted)"""
+    """(text, kind and byte, or None if it is accepted)"""
     answer = r"(?:None|Some\((\w+) \{ at: (\d+) \}\)),?\s*\)"
     one = [(text_of(it), kind, at) for it, kind, at in table("places.rt", "TEXTS", rf"\(\s*({TEXT}),\s*{answer}")]
     for parts, kind, at in table("places.rt", "NESTED", rf"\(\s*&\[((?:\s*\({TEXT}, \d+\),?)+)\s*\],\s*{answer}"):

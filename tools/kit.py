@@ -7,7 +7,7 @@ ROOT = os.path.dirname(os.path.dirname(os.path.realpath(__file__)))
 
 
 def ask(script, word):
-    """What `rt WORD` prints; where it doesn't run, the script ends with one sentence."""
+    """What `rt WORD` prints; if it doesn't run, the script ends with one sentence."""
     try:
         told = subprocess.run(["rt", word], stdin=subprocess.DEVNULL, capture_output=True, text=True, check=True)
     except FileNotFoundError:
@@ -23,7 +23,7 @@ def folder(script):
 
 
 def warn(script):
-    """Tells where another kit is at work than the one in the file KIT."""
+    """Says if the kit is not the one in the file KIT."""
     with open(f"{ROOT}/KIT", encoding="utf-8") as it:
         wanted = it.read().strip()
     found = ask(script, "version")
