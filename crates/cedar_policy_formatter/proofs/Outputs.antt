@@ -35,9 +35,10 @@ use Rattle.cedar_cst.specs.PolicyReaders.{IsPolicyOf, AreTokensOf}
 use Rattle.std.specs.Str.{IsUtf8}
 use Rattle.cedar_policy_formatter.specs.Inside.Written.{IsCleanLayout, IsPolicyText, IsPlainStream}
 
--- a layout that was appended to an empty text, and cleaned
-pub cleaned_layout : (w : ℕ) (d : Doc) (empty laid text out : List ℕ) → empty ≡ [] → ((t : List ℕ) × IsTheLayoutAt w d t × (laid ≡ empty ++ t)) → text ≡ laid → IsCleaned text out → IsCleanLayout w d out
-cleaned_layout w d empty laid text out b (t, l, r) f k = (t, l, subst (λ z. IsCleaned z out) (f ∙ r ∙ ap (λ z. z ++ t) b) k)
+-- a layout that was appended to an empty text, and whose cleaned text was appended to one
+pub cleaned_layout : (w : ℕ) (d : Doc) (empty laid text bare out : List ℕ) → empty ≡ [] → ((t : List ℕ) × IsTheLayoutAt w d t × (laid ≡ empty ++ t)) → text ≡ laid → bare ≡ [] → ((t : List ℕ) × IsCleaned text t × (out ≡ bare ++ t)) → IsCleanLayout w d out
+cleaned_layout w d empty laid text bare out b (t, l, r) f n (u, k, e) =
+    (t, l, subst (λ z. IsCleaned t z) (sym (e ∙ ap (λ z. z ++ u) n)) (subst (λ z. IsCleaned z u) (f ∙ r ∙ ap (λ z. z ++ t) b) k))
 
 -- ---- the tokens of a piece
 

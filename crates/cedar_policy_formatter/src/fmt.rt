@@ -35,7 +35,7 @@ pub use cedar_documents::laws::{
     policies_stand_alone,
 };
 use cedar_documents::policies::write_policy;
-use cedar_layout::utils::remove_empty_lines;
+use cedar_layout::utils::append_without_empty_lines;
 use cedar_pieces::check::has_tokens;
 use cedar_sheet::layout;
 use cedar_sheet::sheet::Sheet;
@@ -81,12 +81,12 @@ fn write_policies<S: Sink>(
     ensures output { OnOk result ((out : List ℕ) × IsOutputOf config.now.line_width config.now.indent_width ps.now out × S.takes sink.old out sink.new) }
 {
     let mut reader = PolicyReader::new(ps)?;
-    let mut sheet = Sheet::new(alloc);
+    let mut buffers = Buffers::new(alloc);
     let mut is_empty = true;
     'pieces: while let Some(piece) = reader.next_piece(alloc)? {
-        let layout = lay_out(&mut sheet, piece.text, piece.policy, piece.tokens, config)?;
+        lay_out(&mut buffers, piece.text, piece.policy, piece.tokens, config)?;
         put_feed(!is_empty, sink)?;
-        sink.put(layout.as_str())?;
+        sink.put(buffers.clean.as_str())?;
         is_empty = false;
     }
     put_feed(is_empty, sink)?;
@@ -144,27 +144,48 @@ pub fn same_layout(alloc: Global, a: &str, b: &str, config: &Config) -> Result<b
     Ok(rest.is_used_up())
 }
 
-// The layout of a policy, with a line feed. Its tokens are compared with those of the policy's text. The previous contents
-// of the sheet are replaced.
+// What a policy is laid out in. The memory is reused for the next policy.
+#[derive(Drop)]
+struct Buffers<'src> {
+    sheet: Sheet<'src>,
+    // The layout of the sheet.
+    layout: String,
+    // The layout without empty lines.
+    clean: String,
+}
+
+impl<'src> Buffers<'src> {
+    // Empty, with no memory allocated yet.
+    fn new(alloc: Global) -> Buffers<'src> {
+        Buffers {
+            sheet: Sheet::new(alloc),
+            layout: String::new(alloc),
+            clean: String::new(alloc),
+        }
+    }
+}
+
+// Leaves the layout of a policy, with a line feed, in the clean buffer. Its tokens are compared with those of the policy's
+// text. The previous contents of the buffers are replaced.
 fn lay_out<'src>(
-    sheet: &mut Sheet<'src>,
+    buffers: &mut Buffers<'src>,
     text: &'src str,
     policy: Node<Policy<'src>>,
     tokens: Vec<WrappedToken<'src>>,
     config: &Config,
-) -> Result<String, FormatError>
+) -> Result<(), FormatError>
     requires piece { IsPiece text.now (length text.now) }
     requires policy { IsPolicyOf text.now policy }
     requires tokens { AreTokensOf text.now tokens.items }
-    ensures { MatchResult result (λ out. IsOutputOf config.now.line_width config.now.indent_width text.now (string_bytes out)) IsMemory }
+    ensures { MatchResult result (λ _. IsOutputOf config.now.line_width config.now.indent_width text.now (string_bytes buffers.new.clean)) IsMemory }
 {
     tree_is_of_accepted();
     outputs_are_canonical();
-    let mut tokens = plain_tokens(sheet.allocator(), tokens)?;
-    let mut layout = policy_text(sheet, policy, tokens.as_mut_slice(), config)?;
-    layout.push('\n')?;
-    if has_tokens(layout.as_str(), &tokens) {
-        Ok(layout)
+    let mut tokens = plain_tokens(buffers.sheet.allocator(), tokens)?;
+    policy_text(buffers, policy, tokens.as_mut_slice(), config)?;
+    buffers.clean.push('\n')?;
+    if has_tokens(buffers.clean.as_str(), &tokens) {
+        Ok(())
     } else {
         Err(FormatError::Unsound)
     }
@@ -183,21 +204,21 @@ fn plain_tokens<'src>(
     Ok(tokens)
 }
 
-// The layout of a policy over its own tokens, without empty lines. The policy is dropped before it is laid out.
+// Leaves the layout of a policy over its own tokens, without empty lines, in the clean buffer. The policy is dropped first.
 fn policy_text<'src>(
-    sheet: &mut Sheet<'src>,
+    buffers: &mut Buffers<'src>,
     policy: Node<Policy<'src>>,
     tokens: &mut [WrappedToken<'src>],
     config: &Config,
-) -> Result<String, FormatError>
+) -> Result<(), FormatError>
     requires { AreInOrder tokens.old }
     ensures kept { KeepsTokens tokens.old tokens.new }
     ensures text { (p : Clause Shown kind.policy) → IsAt policy.entry.span (part_yield p) → IsPartOf (erased.policy_parts policy.entry.inner) p → map shown tokens.old ≡ part_yield p
-        → MatchResult result (λ out. IsPolicyText config.now.line_width config.now.indent_width p (string_bytes out)) IsMemory }
+        → MatchResult result (λ _. IsPolicyText config.now.line_width config.now.indent_width p (string_bytes buffers.new.clean)) IsMemory }
 {
-    sheet.clear();
+    buffers.sheet.clear();
     let wrote = write_policy(
-        sheet,
+        &mut buffers.sheet,
         &policy.inner,
         policy.span,
         config.indent_width,
@@ -205,20 +226,20 @@ fn policy_text<'src>(
     );
     drop(policy);
     match wrote {
-        Ok(()) => clean_layout(sheet, config.line_width),
+        Ok(()) => clean_layout(buffers, config.line_width),
         Err(NoDocument::NoToken) => Err(FormatError::NoDocument),
         Err(NoDocument::OutOfMemory) => Err(FormatError::OutOfMemory),
     }
 }
 
-// The layout of a sheet at a width, without empty lines.
-fn clean_layout(sheet: &mut Sheet<'_>, width: usize) -> Result<String, FormatError>
-    ensures { (d : Doc) → sheet.old ≡ flat d → MatchResult result (λ out. IsCleanLayout width d (string_bytes out)) IsMemory }
+// Leaves the layout of the sheet at a width, without empty lines, in the clean buffer.
+fn clean_layout(buffers: &mut Buffers<'_>, width: usize) -> Result<(), FormatError>
+    ensures { (d : Doc) → buffers.old.sheet ≡ flat d → MatchResult result (λ _. IsCleanLayout width d (string_bytes buffers.new.clean)) IsMemory }
 {
-    let alloc = sheet.allocator();
-    let mut layout = String::new(alloc);
-    layout::lay_out(sheet, width, &mut layout)?;
-    Ok(remove_empty_lines(alloc, layout.as_str())?)
+    buffers.layout.clear();
+    layout::lay_out(&mut buffers.sheet, width, &mut buffers.layout)?;
+    buffers.clean.clear();
+    Ok(append_without_empty_lines(buffers.layout.as_str(), &mut buffers.clean)?)
 }
 
 // A line feed, if one is wanted.

@@ -3,7 +3,8 @@ use super::*;
 use cedar_policy_formatter::layout::{Document, render};
 use cedar_policy_formatter::token::Comment;
 use cedar_policy_formatter::utils::{
-    add_brackets, add_comment, find_comment_at, find_string_at, remove_empty_lines,
+    add_brackets, add_comment, append_without_empty_lines, find_comment_at, find_string_at,
+    remove_empty_lines,
 };
 
 fn expect_shown(rt: &impl Abort, alloc: Global, doc: &Document<'_>, want: &str) {
@@ -58,6 +59,14 @@ fn blank_lines_are_removed(rt: HostRuntime) {
         let got = remove_empty_lines(rt.alloc(), text).expect(&rt, text);
         expect_text(&rt, got.as_str(), want, text);
     }
+}
+
+#[test]
+fn cleaned_texts_are_appended(rt: HostRuntime) {
+    let mut out = String::from_str(rt.alloc(), "\n\n").expect(&rt, "memory");
+    append_without_empty_lines("\n\na\n\n b\n", &mut out).expect(&rt, "memory");
+    append_without_empty_lines(" c ", &mut out).expect(&rt, "memory");
+    expect_text(&rt, out.as_str(), "\n\na\n bc", "appended");
 }
 
 // A text, where the search begins, and where the comment that it finds starts and ends.

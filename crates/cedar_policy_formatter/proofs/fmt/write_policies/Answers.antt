@@ -29,15 +29,15 @@ pieces-preserved g c =
     let goes_on = rw c.in-Some.is at c.in_ok-piece.ensures.answer in
     let so_far = c.pieces.invariant in
     let feed : List ℕ = if not c.pieces.is_empty then line_feed ∷ [] else [] in
-    let layout = string_bytes c.in_ok-layout.layout in
+    let layout = string_bytes c.lay_out.new.buffers.clean in
     let both = g.met.S.Sink.takes_both in
     let put = subst (λ z. g.S.Sink.takes c.put_feed.new.sink z c.put.new.self) c.as_str.ensures.value c.in_ok-put.ensures in
     record {
       of_text = goes_on.of_text ∙ so_far.of_text;
       out = (so_far.out ++ feed) ++ layout;
       taken = both _ _ _ _ layout (both _ _ _ _ feed so_far.taken c.in_ok-put_feed.ensures) put;
-      empty = some_more _ _ _ (so_far.out ++ feed) _ layout c.in_ok-layout.ensures refl;
-      laid = laid_more _ _ _ _ _ _ so_far.out layout _ c.pieces.is_empty so_far.of_text goes_on so_far.empty so_far.laid c.in_ok-layout.ensures refl;
+      empty = some_more _ _ _ (so_far.out ++ feed) _ layout c.in_ok-lay_out.ensures refl;
+      laid = laid_more _ _ _ _ _ _ so_far.out layout _ c.pieces.is_empty so_far.of_text goes_on so_far.empty so_far.laid c.in_ok-lay_out.ensures refl;
     }
 
 pub pieces-smaller : goal.pieces-smaller
