@@ -22,321 +22,382 @@ const EXPRESSIONS: &str =
 
 const OPERATORS: &str = "+ - * < <= > >= != == in has like is && ||";
 
-// A refused text, where `§` stands for `permit(principal,action,resource)` and `¶` for 129 `(`.
+// A refused text, with so many `(` behind it, where it is refused, the token that stands there, and what is said of it.
 struct Row {
+    name: &'static str,
     text: &'static str,
+    brackets: usize,
     at: usize,
     found: Option<&'static str>,
     // Tokens of the kinds that could stand there, one of each, split by blanks; a word in capitals stands for those of a group.
     kinds: &'static str,
+    // Whether the text could end there.
     end: bool,
     message: &'static str,
 }
 
+// What a row has that says nothing else.
+const ROW: Row = Row {
+    name: "",
+    text: "",
+    brackets: 0,
+    at: 0,
+    found: None,
+    kinds: "",
+    end: false,
+    message: "",
+};
+
 static ROWS: [Row; 38] = [
     Row {
-        text: "§",
+        name: "end behind the scope",
+        text: "permit(principal,action,resource)",
         at: 33,
-        found: None,
         kinds: "when unless ;",
-        end: false,
         message: "expected a condition or ';', found the end of the text",
+        ..ROW
     },
     Row {
+        name: "no comma between variables",
         text: "permit(principal,action resource);",
         at: 24,
         found: Some("resource"),
         kinds: "== in ,",
-        end: false,
         message: "expected 'in', ',' or '==', found 'resource'",
+        ..ROW
     },
     Row {
+        name: "no comma behind the principal",
         text: "permit(principal action",
         at: 17,
         found: Some("action"),
         kinds: "== is in ,",
-        end: false,
         message: "expected 'in', 'is', ',' or '==', found 'action'",
+        ..ROW
     },
     Row {
+        name: "slot of another variable",
         text: "permit(principal in ?resource,action,resource);",
         at: 20,
         found: Some("?resource"),
         kinds: "IDENT ?principal",
-        end: false,
         message: "expected an identifier or '?principal', found '?resource'",
+        ..ROW
     },
     Row {
+        name: "slot of an action",
         text: "permit(principal,action in ?principal,resource);",
         at: 27,
         found: Some("?principal"),
         kinds: "IDENT [",
-        end: false,
         message: "expected an identifier or '[', found '?principal'",
+        ..ROW
     },
     Row {
+        name: "two commas behind a type",
         text: "permit(principal,action,resource is A,,);",
         at: 38,
         found: Some(","),
         kinds: ")",
-        end: false,
         message: "expected ')', found ','",
+        ..ROW
     },
     Row {
+        name: "brace behind a type",
         text: "permit(principal,action,resource is A{);",
         at: 37,
         found: Some("{"),
         kinds: ":: in , )",
-        end: false,
         message: "expected 'in', ',', '::' or ')', found '{'",
+        ..ROW
     },
     Row {
+        name: "annotation named by a keyword, and the end",
         text: "@ permit",
         at: 8,
-        found: None,
         kinds: "@ permit forbid (",
-        end: false,
         message: "expected a policy or '(', found the end of the text",
+        ..ROW
     },
     Row {
+        name: "annotation without a name",
         text: "@;",
         at: 1,
         found: Some(";"),
         kinds: "WORD",
-        end: false,
         message: "expected a word, found ';'",
+        ..ROW
     },
     Row {
+        name: "annotation with a name for a value",
         text: "@a(b)",
         at: 3,
         found: Some("b"),
-        kinds: "\"\"",
-        end: false,
+        kinds: r#""""#,
         message: "expected a string, found 'b'",
+        ..ROW
     },
     Row {
-        text: "§; )",
+        name: "bracket behind a policy",
+        text: "permit(principal,action,resource); )",
         at: 35,
         found: Some(")"),
         kinds: "@ permit forbid",
         end: true,
         message: "expected a policy or the end of the text, found ')'",
+        ..ROW
     },
     Row {
+        name: "only a bracket",
         text: ")",
         at: 0,
         found: Some(")"),
         kinds: "@ permit forbid",
         end: true,
         message: "expected a policy or the end of the text, found ')'",
+        ..ROW
     },
     Row {
-        text: "§\npermit(principal,action,resource);",
+        name: "policy before the semicolon of another",
+        text: r#"permit(principal,action,resource)
+permit(principal,action,resource);"#,
         at: 34,
         found: Some("permit"),
         kinds: "when unless ;",
-        end: false,
         message: "expected a condition or ';', found 'permit'",
+        ..ROW
     },
     Row {
-        text: "§ // c\n)",
+        name: "bracket behind a comment",
+        text: r#"permit(principal,action,resource) // c
+)"#,
         at: 39,
         found: Some(")"),
         kinds: "when unless ;",
-        end: false,
         message: "expected a condition or ';', found ')'",
+        ..ROW
     },
     Row {
-        text: "§ // c",
+        name: "comment before the end",
+        text: "permit(principal,action,resource) // c",
         at: 38,
-        found: None,
         kinds: "when unless ;",
-        end: false,
         message: "expected a condition or ';', found the end of the text",
+        ..ROW
     },
     Row {
-        text: "§;\n§;\n§ when { true } 1;",
+        name: "number behind a condition",
+        text: r#"permit(principal,action,resource);
+permit(principal,action,resource);
+permit(principal,action,resource) when { true } 1;"#,
         at: 118,
         found: Some("1"),
         kinds: "when unless ;",
-        end: false,
         message: "expected a condition or ';', found '1'",
+        ..ROW
     },
     Row {
-        text: "§when{};",
+        name: "empty condition",
+        text: "permit(principal,action,resource)when{};",
         at: 38,
         found: Some("}"),
         kinds: "EXPR",
-        end: false,
         message: "expected an expression, found '}'",
+        ..ROW
     },
     Row {
-        text: "§when { 1 < 2 < 3 };",
+        name: "two comparisons",
+        text: "permit(principal,action,resource)when { 1 < 2 < 3 };",
         at: 46,
         found: Some("<"),
         kinds: ". [ + - * && || }",
-        end: false,
         message: "expected '.', '}', '[' or an arithmetic or logical operator, found '<'",
+        ..ROW
     },
     Row {
-        text: "§when { context. };",
+        name: "dot without a field",
+        text: "permit(principal,action,resource)when { context. };",
         at: 49,
         found: Some("}"),
         kinds: "IDENT",
-        end: false,
         message: "expected an identifier, found '}'",
+        ..ROW
     },
     Row {
-        text: "§when { [1 2] };",
+        name: "two items without a comma",
+        text: "permit(principal,action,resource)when { [1 2] };",
         at: 43,
         found: Some("2"),
         kinds: ". [ OPS , ]",
-        end: false,
         message: "expected an operator, '.', ',', '[' or ']', found '2'",
+        ..ROW
     },
     Row {
-        text: "§when { [1,,] };",
+        name: "two commas in a list",
+        text: "permit(principal,action,resource)when { [1,,] };",
         at: 43,
         found: Some(","),
         kinds: "EXPR ]",
-        end: false,
         message: "expected an expression or ']', found ','",
+        ..ROW
     },
     Row {
-        text: "§when { context.f(, };",
+        name: "only a comma in a call",
+        text: "permit(principal,action,resource)when { context.f(, };",
         at: 50,
         found: Some(","),
         kinds: "EXPR )",
-        end: false,
         message: "expected an expression or ')', found ','",
+        ..ROW
     },
     Row {
-        text: "§when { context.f ] };",
+        name: "method closed by a square bracket",
+        text: "permit(principal,action,resource)when { context.f ] };",
         at: 50,
         found: Some("]"),
         kinds: ". [ ( OPS }",
-        end: false,
         message: "expected an operator, '.', '(', '}' or '[', found ']'",
+        ..ROW
     },
     Row {
-        text: "§when { {a:1, , };",
+        name: "two commas in a record",
+        text: "permit(principal,action,resource)when { {a:1, , };",
         at: 46,
         found: Some(","),
-        kinds: "IDENT \"\" }",
-        end: false,
+        kinds: r#"IDENT "" }"#,
         message: "expected an identifier, a string or '}', found ','",
+        ..ROW
     },
     Row {
-        text: "§when { {a 1} };",
+        name: "key without a colon",
+        text: "permit(principal,action,resource)when { {a 1} };",
         at: 43,
         found: Some("1"),
         kinds: ":",
-        end: false,
         message: "expected ':', found '1'",
+        ..ROW
     },
     Row {
-        text: "§when { 7a };",
+        name: "name behind a number",
+        text: "permit(principal,action,resource)when { 7a };",
         at: 41,
         found: Some("a"),
         kinds: ". [ OPS }",
-        end: false,
         message: "expected an operator, '.', '}' or '[', found 'a'",
+        ..ROW
     },
     Row {
-        text: "§when { a };",
+        name: "name alone",
+        text: "permit(principal,action,resource)when { a };",
         at: 42,
         found: Some("}"),
         kinds: ":: (",
-        end: false,
         message: "expected '::' or '(', found '}'",
+        ..ROW
     },
     Row {
-        text: "§when { a:: };",
+        name: "path without its end",
+        text: "permit(principal,action,resource)when { a:: };",
         at: 44,
         found: Some("}"),
-        kinds: "IDENT \"\"",
-        end: false,
+        kinds: r#"IDENT """#,
         message: "expected an identifier or a string, found '}'",
+        ..ROW
     },
     Row {
-        text: "§when { 1 + };",
+        name: "sum without its end",
+        text: "permit(principal,action,resource)when { 1 + };",
         at: 44,
         found: Some("}"),
         kinds: "OPERAND ! -",
-        end: false,
         message: "expected an operand, '-' or '!', found '}'",
+        ..ROW
     },
     Row {
-        text: "§when { !!!!!true };",
+        name: "five signs",
+        text: "permit(principal,action,resource)when { !!!!!true };",
         at: 44,
         found: Some("!"),
         kinds: "OPERAND",
-        end: false,
         message: "expected an operand, found '!'",
+        ..ROW
     },
     Row {
-        text: "§when { -!true };",
+        name: "not after minus",
+        text: "permit(principal,action,resource)when { -!true };",
         at: 41,
         found: Some("!"),
         kinds: "OPERAND -",
-        end: false,
         message: "expected an operand or '-', found '!'",
+        ..ROW
     },
     Row {
-        text: "§when { if 1 };",
+        name: "if without then",
+        text: "permit(principal,action,resource)when { if 1 };",
         at: 45,
         found: Some("}"),
         kinds: ". [ OPS then",
-        end: false,
         message: "expected 'then', an operator, '.' or '[', found '}'",
+        ..ROW
     },
     Row {
-        text: "§when { context has 1 };",
+        name: "has before a number",
+        text: "permit(principal,action,resource)when { context has 1 };",
         at: 52,
         found: Some("1"),
-        kinds: "IDENT \"\"",
-        end: false,
+        kinds: r#"IDENT """#,
         message: "expected an identifier or a string, found '1'",
+        ..ROW
     },
     Row {
-        text: "§when { context like 1 };",
+        name: "like before a number",
+        text: "permit(principal,action,resource)when { context like 1 };",
         at: 53,
         found: Some("1"),
-        kinds: "\"\"",
-        end: false,
+        kinds: r#""""#,
         message: "expected a string, found '1'",
+        ..ROW
     },
     Row {
-        text: "§when { context is A { };",
+        name: "brace behind a type in a condition",
+        text: "permit(principal,action,resource)when { context is A { };",
         at: 53,
         found: Some("{"),
         kinds: ":: in && || }",
-        end: false,
         message: "expected 'in', '::', '}', '||' or '&&', found '{'",
+        ..ROW
     },
     Row {
-        text: "§when { context[1] };",
+        name: "index that is a number",
+        text: "permit(principal,action,resource)when { context[1] };",
         at: 48,
         found: Some("1"),
-        kinds: "\"\"",
-        end: false,
+        kinds: r#""""#,
         message: "expected a string, found '1'",
+        ..ROW
     },
     Row {
-        text: "§when {¶",
+        name: "bracket in 128 brackets",
+        text: "permit(principal,action,resource)when {",
+        brackets: 129,
         at: 167,
         found: Some("("),
         kinds: "FLAT ! -",
-        end: false,
         message: "expected an operand without brackets, '-' or '!', found '('",
+        ..ROW
     },
     Row {
-        text: "§when { 1 \"0123456789\n0123456789 0123456789\" };",
+        name: "long string of two lines",
+        text: r#"permit(principal,action,resource)when { 1 "0123456789
+0123456789 0123456789" };"#,
         at: 42,
-        found: Some("\"0123456789\n0123456789 0123456789\""),
+        found: Some(
+            r#""0123456789
+0123456789 0123456789""#,
+        ),
         kinds: ". [ OPS }",
-        end: false,
-        message: "expected an operator, '.', '}' or '[', found '\"0123456789\\n0123456789 0123456...'",
+        message: r#"expected an operator, '.', '}' or '[', found '"0123456789\n0123456789 0123456...'"#,
+        ..ROW
     },
 ];
 
@@ -364,31 +425,42 @@ fn kinds_of(alloc: Global, words: &str) -> Result<Vec<Kind>, AllocError> {
     Ok(kinds)
 }
 
-// The text of a row.
-fn full(alloc: Global, short: &str) -> Result<String, AllocError> {
-    let whole = short.replace(alloc, "§", "permit(principal,action,resource)")?;
-    whole.replace(alloc, "¶", &"(".repeat(alloc, 129)?)
+// The text with so many `(` behind it.
+fn full(alloc: Global, text: &str, brackets: usize) -> Result<String, AllocError> {
+    let mut whole = String::from_str(alloc, text)?;
+    for _ in 0..brackets {
+        whole.push('(')?;
+    }
+    Ok(whole)
 }
 
 fn expect_row(rt: &impl Abort, alloc: Global, row: &Row) -> Result<(), AllocError> {
-    let text = full(alloc, row.text)?;
+    let text = full(alloc, row.text, row.brackets)?;
     let Some(expected) = expected(alloc, &text)? else {
-        assert!(rt; false, "{text}: not refused");
+        assert!(rt; false, "{}: not refused", row.name);
         return Ok(());
     };
-    assert!(rt; expected.at == row.at, "{text}: {}", expected.at);
-    assert!(rt; expected.found == row.found, "{text}");
-    assert!(rt; expected.end == row.end, "{text}");
+    assert_eq!(rt; expected.at, row.at, "{}", row.name);
+    assert_eq!(rt; expected.found, row.found, "{}", row.name);
+    assert_eq!(rt; expected.end, row.end, "{}", row.name);
     let kinds = kinds_of(alloc, row.kinds)?;
     for kind in &kinds {
-        assert!(rt; expected.kinds.contains(*kind), "{text}: not {kind:?}");
+        assert!(rt;
+            expected.kinds.contains(*kind),
+            "{}: {kind:?} is left out",
+            row.name
+        );
     }
     for kind in &expected.kinds.items {
-        assert!(rt; kinds.contains(kind), "{text}: {kind:?}");
+        assert!(rt; kinds.contains(kind), "{}: {kind:?} is too much", row.name);
     }
     let message = format!(in alloc; "{expected}")?;
-    assert!(rt; message.as_str() == row.message, "{text}: {message}");
+    expect_text(rt, message.as_str(), row.message, row.name);
     Ok(())
+}
+
+fn expect_text(rt: &impl Abort, got: &str, want: &str, name: &str) {
+    assert_eq!(rt; got, want, "{name}");
 }
 
 #[test]
@@ -399,41 +471,98 @@ fn rows(rt: HostRuntime) -> Result<(), AllocError> {
     Ok(())
 }
 
-// An accepted text, and texts that are refused because of their tokens.
+struct Other {
+    name: &'static str,
+    text: &'static str,
+}
+
+// Accepted texts, and texts that are refused because of their tokens.
+static OTHERS: [Other; 6] = [
+    Other {
+        name: "empty text",
+        text: "",
+    },
+    Other {
+        name: "only a comment",
+        text: "// c",
+    },
+    Other {
+        name: "accepted policy",
+        text: "permit(principal,action,resource);",
+    },
+    Other {
+        name: "unknown character",
+        text: "permit(principal,action,resource);=",
+    },
+    Other {
+        name: "unfinished string",
+        text: r#"""#,
+    },
+    Other {
+        name: "number too large",
+        text: "18446744073709551616",
+    },
+];
+
 #[test]
 fn others(rt: HostRuntime) -> Result<(), AllocError> {
-    for text in ["", "// c", "§;", "§;=", "\"", "18446744073709551616"] {
-        let text = full(rt.alloc(), text)?;
-        let none = expected(rt.alloc(), &text)?.is_none();
-        assert!(rt; none, "{text}");
+    for row in &OTHERS {
+        let is_none = expected(rt.alloc(), row.text)?.is_none();
+        assert!(rt; is_none, "{}", row.name);
     }
     Ok(())
 }
 
+// A refused text, with so many `(` behind it, and what is said of it.
+struct Sentence {
+    name: &'static str,
+    text: &'static str,
+    brackets: usize,
+    sentence: &'static str,
+}
+
+static SENTENCES: [Sentence; 5] = [
+    Sentence {
+        name: "unknown character",
+        text: "permit(principal,action,resource);=",
+        brackets: 0,
+        sentence: "no token begins with this character",
+    },
+    Sentence {
+        name: "unfinished string",
+        text: r#"permit(principal,action,resource);""#,
+        brackets: 0,
+        sentence: "this string is not finished",
+    },
+    Sentence {
+        name: "number too large",
+        text: "18446744073709551616",
+        brackets: 0,
+        sentence: "this number is above 18446744073709551615",
+    },
+    Sentence {
+        name: "129 brackets",
+        text: "permit(principal,action,resource)when {",
+        brackets: 129,
+        sentence: "nested too deeply: more than 128 brackets and ifs",
+    },
+    Sentence {
+        name: "end behind the scope",
+        text: "permit(principal,action,resource)",
+        brackets: 0,
+        sentence: "expected a condition or ';', found the end of the text",
+    },
+];
+
 #[test]
 fn sentences(rt: HostRuntime) -> Result<(), AllocError> {
-    for (text, sentence) in [
-        ("§;=", "no token begins with this character"),
-        ("§;\"", "this string is not finished"),
-        (
-            "18446744073709551616",
-            "this number is above 18446744073709551615",
-        ),
-        (
-            "§when {¶",
-            "nested too deeply: more than 128 brackets and ifs",
-        ),
-        (
-            "§",
-            "expected a condition or ';', found the end of the text",
-        ),
-    ] {
-        let text = full(rt.alloc(), text)?;
+    for row in &SENTENCES {
+        let text = full(rt.alloc(), row.text, row.brackets)?;
         match parse_policies(rt.alloc(), &text) {
-            Ok(_) => assert!(rt; false, "{text}: not refused"),
+            Ok(_) => assert!(rt; false, "{}: not refused", row.name),
             Err(error) => {
                 let said = explain(rt.alloc(), &text, error)?;
-                assert!(rt; said.as_str() == sentence, "{text}: {said}");
+                expect_text(&rt, said.as_str(), row.sentence, row.name);
             }
         }
     }

@@ -2,6 +2,8 @@
 //! are tables, since each function is proved and a table isn't.
 use cedar_policy_formatter::cst::parse_policies;
 use cedar_policy_formatter::{Config, FormatError};
+use cedar_test_rows::Part::{Once, Times};
+use cedar_test_rows::{Part, ROW, Row, joined};
 use std::alloc::Global;
 use std::process::Abort;
 
@@ -15,52 +17,20 @@ mod shapes;
 mod tokens;
 mod trees;
 
-// Appends the text with `permit(principal,action,resource)` in place of each `§`, and
-// `permit (principal, action, resource)` in place of each `¶`.
-fn append(rt: &impl Abort, out: &mut String, text: &str) {
-    for c in text.chars() {
-        let grown = match c {
-            '§' => out.push_str("permit(principal,action,resource)"),
-            '¶' => out.push_str("permit (principal, action, resource)"),
-            other => out.push(other),
-        };
-        grown.expect(rt, "memory");
-    }
-}
-
-fn expand(rt: &impl Abort, alloc: Global, text: &str) -> String {
-    let mut out = String::new(alloc);
-    append(rt, &mut out, text);
-    out
-}
-
-// The parts, each so many times, one behind the other.
-fn joined(rt: &impl Abort, alloc: Global, parts: &[(&str, usize)]) -> String {
-    let mut out = String::new(alloc);
-    for (part, times) in parts {
-        for _ in 0..*times {
-            append(rt, &mut out, part);
-        }
-    }
-    out
-}
-
-fn config(line_width: usize, indent_width: isize) -> Config {
-    Config {
-        line_width,
-        indent_width,
-    }
-}
-
 // Each assertion stands in a function of its own: it is a good part of what its function costs to prove.
-fn expect_text(rt: &impl Abort, got: &str, want: &str, row: &str) {
-    assert_eq!(rt; got, want, "{row:?}");
+fn expect_text(rt: &impl Abort, got: &str, want: &str, name: &str) {
+    assert_eq!(rt; got, want, "{name}");
 }
 
-fn expect_refusal(rt: &impl Abort, got: Option<FormatError>, want: Option<FormatError>, row: &str) {
-    assert_eq!(rt; got, want, "{row:?}");
+fn expect_refusal(
+    rt: &impl Abort,
+    got: Option<FormatError>,
+    want: Option<FormatError>,
+    name: &str,
+) {
+    assert_eq!(rt; got, want, "{name}");
 }
 
-fn expect_same(rt: &impl Abort, got: Option<bool>, want: Option<bool>, row: &str) {
-    assert_eq!(rt; got, want, "{row:?}");
+fn expect_same(rt: &impl Abort, got: Option<bool>, want: Option<bool>, name: &str) {
+    assert_eq!(rt; got, want, "{name}");
 }

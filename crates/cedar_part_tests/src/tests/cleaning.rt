@@ -1,63 +1,183 @@
 //! Comments and brackets round documents, and the cleaning of a text.
 use super::*;
 use cedar_policy_formatter::layout::{Document, render};
-use cedar_policy_formatter::token::Comment;
+use cedar_policy_formatter::token::{Comment, Span};
 use cedar_policy_formatter::utils::{
     add_brackets, add_comment, append_without_empty_lines, find_comment_at, find_string_at,
     remove_empty_lines,
 };
 
-fn expect_shown(rt: &impl Abort, alloc: Global, doc: &Document<'_>, want: &str) {
+fn expect_shown(rt: &impl Abort, alloc: Global, doc: &Document<'_>, want: &str, name: &str) {
     let mut out = String::new(alloc);
-    render(alloc, doc, 80, &mut out).expect(rt, want);
-    expect_text(rt, out.as_str(), want, want);
+    render(alloc, doc, 80, &mut out).expect(rt, name);
+    expect_text(rt, out.as_str(), want, name);
 }
 
 // The text `x` with a comment of these leading lines and this trailing text, what stands behind it, and the layout.
-static COMMENTED: [(&str, &str, &str, &str); 3] = [
-    ("// l", "// t", "", "\n// l\nx // t\n"),
-    ("// a\n// b", "", "y", "\n// a\n// b\nxy"),
-    ("", "", "y", "xy"),
+struct Commented {
+    name: &'static str,
+    leading: &'static str,
+    trailing: &'static str,
+    next: &'static str,
+    layout: &'static str,
+}
+
+static COMMENTED: [Commented; 3] = [
+    Commented {
+        name: "leading and trailing comment",
+        leading: "// l",
+        trailing: "// t",
+        next: "",
+        layout: r#"
+// l
+x // t
+"#,
+    },
+    Commented {
+        name: "two leading lines before a text",
+        leading: r#"// a
+// b"#,
+        trailing: "",
+        next: "y",
+        layout: r#"
+// a
+// b
+xy"#,
+    },
+    Commented {
+        name: "no comment",
+        leading: "",
+        trailing: "",
+        next: "y",
+        layout: "xy",
+    },
 ];
 
 #[test]
 fn comments_round_a_document(rt: HostRuntime) {
     let alloc = rt.alloc();
-    for (leading, trailing, next, want) in &COMMENTED {
-        let comment = Comment::new(alloc, leading, trailing).expect(&rt, want);
-        let doc = add_comment(alloc, Document::Text("x"), &comment, Document::Text(next));
-        expect_shown(&rt, alloc, &doc.expect(&rt, want), want);
+    for row in &COMMENTED {
+        let comment = Comment::new(alloc, row.leading, row.trailing).expect(&rt, row.name);
+        let (text, next) = (Document::Text("x"), Document::Text(row.next));
+        let doc = add_comment(alloc, text, &comment, next).expect(&rt, row.name);
+        expect_shown(&rt, alloc, &doc, row.layout, row.name);
     }
 }
 
 #[test]
 fn brackets_round_a_document(rt: HostRuntime) {
     let alloc = rt.alloc();
+    let name = "brackets";
     let inner = Document::Hard
         .append(alloc, Document::Text("a"))
-        .expect(&rt, "memory");
+        .expect(&rt, name);
     let doc = add_brackets(alloc, inner, Document::Text("("), Document::Text(")"), 2);
-    expect_shown(&rt, alloc, &doc.expect(&rt, "memory"), "(\n  a)");
+    expect_shown(&rt, alloc, &doc.expect(&rt, name), "(\n  a)", name);
 }
 
-static CLEANED: [(&str, &str); 10] = [
-    ("", ""),
-    ("a\n\n b\n", "a\n b"),
-    ("\"x\" \n \n y", "\"x\" \n y"),
-    ("// \"a\n\n\"b\n\nc\"", "// \"a\n\"b\n\nc\""),
-    ("\n\na", "a"),
-    ("a\n\u{a0}\nb", "a\nb"),
-    ("a\n\n\n// c\n\n// d\n\nb", "a\n// c\n// d\nb"),
-    ("\"a\n\n//b\" \"c", "\"a\n\n//b\" \"c"),
-    ("a // b\r\n\r\nc", "a // b\r\nc"),
-    ("a\n\n\"b\n\n\"\n\nc", "a\n\"b\n\n\"\nc"),
+// A text before and after its cleaning.
+struct Cleaned {
+    name: &'static str,
+    text: &'static str,
+    cleaned: &'static str,
+}
+
+static CLEANED: [Cleaned; 10] = [
+    Cleaned {
+        name: "empty text",
+        text: "",
+        cleaned: "",
+    },
+    Cleaned {
+        name: "empty lines between and at the end",
+        text: r#"a
+
+ b
+"#,
+        cleaned: r#"a
+ b"#,
+    },
+    Cleaned {
+        name: "lines of blanks",
+        text: "\"x\" \n \n y",
+        cleaned: "\"x\" \n y",
+    },
+    Cleaned {
+        name: "quote in a comment before a string with an empty line",
+        text: r#"// "a
+
+"b
+
+c""#,
+        cleaned: r#"// "a
+"b
+
+c""#,
+    },
+    Cleaned {
+        name: "empty lines at the start",
+        text: r#"
+
+a"#,
+        cleaned: "a",
+    },
+    Cleaned {
+        name: "line with a no-break space",
+        text: "a\n\u{a0}\nb",
+        cleaned: r#"a
+b"#,
+    },
+    Cleaned {
+        name: "empty lines around comments",
+        text: r#"a
+
+
+// c
+
+// d
+
+b"#,
+        cleaned: r#"a
+// c
+// d
+b"#,
+    },
+    Cleaned {
+        name: "slashes in a string, and a lone quote",
+        text: r#""a
+
+//b" "c"#,
+        cleaned: r#""a
+
+//b" "c"#,
+    },
+    Cleaned {
+        name: "carriage return in a comment",
+        text: "a // b\r\n\r\nc",
+        cleaned: "a // b\r\nc",
+    },
+    Cleaned {
+        name: "empty line in a string and outside",
+        text: r#"a
+
+"b
+
+"
+
+c"#,
+        cleaned: r#"a
+"b
+
+"
+c"#,
+    },
 ];
 
 #[test]
 fn blank_lines_are_removed(rt: HostRuntime) {
-    for (text, want) in &CLEANED {
-        let got = remove_empty_lines(rt.alloc(), text).expect(&rt, text);
-        expect_text(&rt, got.as_str(), want, text);
+    for row in &CLEANED {
+        let got = remove_empty_lines(rt.alloc(), row.text).expect(&rt, row.name);
+        expect_text(&rt, got.as_str(), row.cleaned, row.name);
     }
 }
 
@@ -69,35 +189,108 @@ fn cleaned_texts_are_appended(rt: HostRuntime) {
     expect_text(&rt, out.as_str(), "\n\na\n bc", "appended");
 }
 
-// A text, where the search begins, and where the comment that it finds starts and ends.
-static COMMENTS_FOUND: [(&str, usize, Option<(usize, usize)>); 6] = [
-    ("a//b\rc", 0, Some((1, 4))),
-    ("a//b\rc", 2, None),
-    ("a//b\n//c", 2, Some((5, 8))),
-    ("\"//\"", 0, Some((1, 4))),
-    ("a / b", 0, None),
-    ("a", 5, None),
+// A text, where the search begins, and what it finds.
+struct Search {
+    name: &'static str,
+    text: &'static str,
+    begin: usize,
+    found: Option<Span>,
+}
+
+static COMMENTS_FOUND: [Search; 6] = [
+    Search {
+        name: "comment up to a carriage return",
+        text: "a//b\rc",
+        begin: 0,
+        found: Some(Span { start: 1, end: 4 }),
+    },
+    Search {
+        name: "comment that began before",
+        text: "a//b\rc",
+        begin: 2,
+        found: None,
+    },
+    Search {
+        name: "comment on the next line",
+        text: r#"a//b
+//c"#,
+        begin: 2,
+        found: Some(Span { start: 5, end: 8 }),
+    },
+    Search {
+        name: "slashes behind a quote",
+        text: r#""//""#,
+        begin: 0,
+        found: Some(Span { start: 1, end: 4 }),
+    },
+    Search {
+        name: "lone slash",
+        text: "a / b",
+        begin: 0,
+        found: None,
+    },
+    Search {
+        name: "search past the end",
+        text: "a",
+        begin: 5,
+        found: None,
+    },
 ];
 
-// The same of strings.
-static STRINGS_FOUND: [(&str, usize, Option<(usize, usize)>); 7] = [
-    ("\"a\"b\"", 1, Some((2, 5))),
-    ("\"a\"b\"", 3, None),
-    ("// \"a\"", 0, Some((3, 6))),
-    ("\"a\\\"b\"", 0, Some((0, 6))),
-    ("\"a\\\n\"b\"", 0, Some((4, 7))),
-    ("é\"é\"", 0, Some((2, 6))),
-    ("ab", 0, None),
+static STRINGS_FOUND: [Search; 7] = [
+    Search {
+        name: "string that begins in another",
+        text: r#""a"b""#,
+        begin: 1,
+        found: Some(Span { start: 2, end: 5 }),
+    },
+    Search {
+        name: "lone quote",
+        text: r#""a"b""#,
+        begin: 3,
+        found: None,
+    },
+    Search {
+        name: "string behind slashes",
+        text: r#"// "a""#,
+        begin: 0,
+        found: Some(Span { start: 3, end: 6 }),
+    },
+    Search {
+        name: "quote behind a backslash",
+        text: r#""a\"b""#,
+        begin: 0,
+        found: Some(Span { start: 0, end: 6 }),
+    },
+    Search {
+        name: "line feed behind a backslash",
+        text: r#""a\
+"b""#,
+        begin: 0,
+        found: Some(Span { start: 4, end: 7 }),
+    },
+    Search {
+        name: "characters of two bytes",
+        text: r#"é"é""#,
+        begin: 0,
+        found: Some(Span { start: 2, end: 6 }),
+    },
+    Search {
+        name: "no quote",
+        text: "ab",
+        begin: 0,
+        found: None,
+    },
 ];
 
 #[test]
 fn comments_and_strings_are_found(rt: HostRuntime) {
-    for (text, from, want) in &COMMENTS_FOUND {
-        let got = find_comment_at(text, *from).map(|span| (span.start, span.end));
-        assert_eq!(rt; got, *want, "comment of {text:?} from {from}");
+    for row in &COMMENTS_FOUND {
+        let got = find_comment_at(row.text, row.begin);
+        assert_eq!(rt; got, row.found, "{}", row.name);
     }
-    for (text, from, want) in &STRINGS_FOUND {
-        let got = find_string_at(text, *from).map(|span| (span.start, span.end));
-        assert_eq!(rt; got, *want, "string of {text:?} from {from}");
+    for row in &STRINGS_FOUND {
+        let got = find_string_at(row.text, row.begin);
+        assert_eq!(rt; got, row.found, "{}", row.name);
     }
 }

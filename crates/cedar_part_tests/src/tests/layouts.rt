@@ -90,35 +90,156 @@ fn bare_policy(alloc: Global) -> Built {
     )
 }
 
-// The document is laid out like this, and so is a copy of it.
-fn expect_rendered(rt: &impl Abort, alloc: Global, doc: Built, width: usize, want: &str) {
-    let doc = doc.expect(rt, want);
-    let copy = doc.clone().expect(rt, want);
-    for it in [doc, copy] {
-        let mut out = String::new(alloc);
-        render(alloc, &it, width, &mut out).expect(rt, want);
-        expect_text(rt, out.as_str(), want, want);
+// The documents of the layouts.
+enum Sample {
+    TwoAndText,
+    TwoAndGroup,
+    TwoAndSequence,
+    WithHard,
+    Wide,
+    ToTheLeft,
+    Parted,
+    NoneParted,
+    BarePolicy,
+}
+
+fn document_of(alloc: Global, sample: &Sample) -> Built {
+    match sample {
+        Sample::TwoAndText => two_and_text(alloc),
+        Sample::TwoAndGroup => two_and_group(alloc),
+        Sample::TwoAndSequence => two_and_sequence(alloc),
+        Sample::WithHard => with_hard(alloc),
+        Sample::Wide => wide(alloc),
+        Sample::ToTheLeft => to_the_left(alloc),
+        Sample::Parted => parted(alloc),
+        Sample::NoneParted => none_parted(alloc),
+        Sample::BarePolicy => bare_policy(alloc),
     }
 }
+
+// The document is laid out like this, and so is a copy of it.
+fn expect_rendered(
+    rt: &impl Abort,
+    alloc: Global,
+    doc: Built,
+    width: usize,
+    want: &str,
+    name: &str,
+) {
+    let doc = doc.expect(rt, name);
+    let copy = doc.clone().expect(rt, name);
+    for it in [doc, copy] {
+        let mut out = String::new(alloc);
+        render(alloc, &it, width, &mut out).expect(rt, name);
+        expect_text(rt, out.as_str(), want, name);
+    }
+}
+
+struct Layout {
+    name: &'static str,
+    sample: Sample,
+    width: usize,
+    layout: &'static str,
+}
+
+static LAYOUTS: [Layout; 13] = [
+    Layout {
+        name: "group and text that fit",
+        sample: Sample::TwoAndText,
+        width: 4,
+        layout: "a bc",
+    },
+    Layout {
+        name: "group and text, one wider",
+        sample: Sample::TwoAndText,
+        width: 3,
+        layout: r#"a
+bc"#,
+    },
+    Layout {
+        name: "group and group that begins with a line",
+        sample: Sample::TwoAndGroup,
+        width: 3,
+        layout: r#"a b
+c"#,
+    },
+    Layout {
+        name: "group with a hard break",
+        sample: Sample::WithHard,
+        width: 80,
+        layout: r#"a
+b
+c"#,
+    },
+    Layout {
+        name: "wide characters that fit",
+        sample: Sample::Wide,
+        width: 6,
+        layout: "日本 b",
+    },
+    Layout {
+        name: "wide characters, one wider",
+        sample: Sample::Wide,
+        width: 5,
+        layout: r#"日本
+b"#,
+    },
+    Layout {
+        name: "nested to the left of the first column",
+        sample: Sample::ToTheLeft,
+        width: 80,
+        layout: r#"
+x"#,
+    },
+    Layout {
+        name: "texts with commas between",
+        sample: Sample::Parted,
+        width: 80,
+        layout: "a,b,c",
+    },
+    Layout {
+        name: "no texts with commas between",
+        sample: Sample::NoneParted,
+        width: 80,
+        layout: "",
+    },
+    Layout {
+        name: "group and sequence up to its group",
+        sample: Sample::TwoAndSequence,
+        width: 4,
+        layout: r#"a bc
+d"#,
+    },
+    Layout {
+        name: "group and sequence, one wider",
+        sample: Sample::TwoAndSequence,
+        width: 3,
+        layout: r#"a
+bc
+d"#,
+    },
+    Layout {
+        name: "bare policy as wide as the width",
+        sample: Sample::BarePolicy,
+        width: 37,
+        layout: "permit (principal, action, resource);",
+    },
+    Layout {
+        name: "bare policy one wider than the width",
+        sample: Sample::BarePolicy,
+        width: 36,
+        layout: r#"permit
+(principal, action, resource);"#,
+    },
+];
 
 #[test]
 fn layouts(rt: HostRuntime) {
     let alloc = rt.alloc();
-    expect_rendered(&rt, alloc, two_and_text(alloc), 4, "a bc");
-    expect_rendered(&rt, alloc, two_and_text(alloc), 3, "a\nbc");
-    expect_rendered(&rt, alloc, two_and_group(alloc), 3, "a b\nc");
-    expect_rendered(&rt, alloc, with_hard(alloc), 80, "a\nb\nc");
-    expect_rendered(&rt, alloc, wide(alloc), 6, "日本 b");
-    expect_rendered(&rt, alloc, wide(alloc), 5, "日本\nb");
-    expect_rendered(&rt, alloc, to_the_left(alloc), 80, "\nx");
-    expect_rendered(&rt, alloc, parted(alloc), 80, "a,b,c");
-    expect_rendered(&rt, alloc, none_parted(alloc), 80, "");
-    expect_rendered(&rt, alloc, two_and_sequence(alloc), 4, "a bc\nd");
-    expect_rendered(&rt, alloc, two_and_sequence(alloc), 3, "a\nbc\nd");
-    let on_one_line = "permit (principal, action, resource);";
-    expect_rendered(&rt, alloc, bare_policy(alloc), 37, on_one_line);
-    let broken = "permit\n(principal, action, resource);";
-    expect_rendered(&rt, alloc, bare_policy(alloc), 36, broken);
+    for row in &LAYOUTS {
+        let doc = document_of(alloc, &row.sample);
+        expect_rendered(&rt, alloc, doc, row.width, row.layout, row.name);
+    }
 }
 
 // How a document grows, from a line feed and `x` on.
@@ -142,46 +263,62 @@ fn grown(alloc: Global, growth: &Growth, doc: Document<'static>) -> Built {
 
 // How often it grows, and what is laid out then. A renderer that measures anew what follows a group needs hours here; one
 // that calls itself for each level, or a drop that does, runs out of stack.
-static LARGE: [(Growth, usize, &[(&str, usize)]); 5] = [
-    (Growth::Nests, 1_000, &[("\n", 1), (" ", 1_000), ("x", 1)]),
-    (
-        Growth::NestsAndGroups,
-        100_000,
-        &[("\n", 1), (" ", 100_000), ("x", 1)],
-    ),
-    (
-        Growth::Sequences,
-        1_000_000,
-        &[("\n", 1), ("x", 1_000_000), ("x", 1)],
-    ),
-    (
-        Growth::Texts,
-        1_000_000,
-        &[("\n", 1), ("x", 1_000_000), ("x", 1)],
-    ),
-    (
-        Growth::Groups,
-        1_000_000,
-        &[("\n", 1), ("x", 1_000_000), ("x", 1)],
-    ),
+struct Large {
+    name: &'static str,
+    growth: Growth,
+    times: usize,
+    layout: &'static [Part],
+}
+
+static LARGE: [Large; 5] = [
+    Large {
+        name: "1,000 nests",
+        growth: Growth::Nests,
+        times: 1_000,
+        layout: &[Once("\n"), Times(1_000, " "), Once("x")],
+    },
+    Large {
+        name: "100,000 nests and groups",
+        growth: Growth::NestsAndGroups,
+        times: 100_000,
+        layout: &[Once("\n"), Times(100_000, " "), Once("x")],
+    },
+    Large {
+        name: "1,000,000 sequences",
+        growth: Growth::Sequences,
+        times: 1_000_000,
+        layout: &[Once("\n"), Times(1_000_000, "x"), Once("x")],
+    },
+    Large {
+        name: "1,000,000 texts behind each other",
+        growth: Growth::Texts,
+        times: 1_000_000,
+        layout: &[Once("\n"), Times(1_000_000, "x"), Once("x")],
+    },
+    Large {
+        name: "1,000,000 groups behind each other",
+        growth: Growth::Groups,
+        times: 1_000_000,
+        layout: &[Once("\n"), Times(1_000_000, "x"), Once("x")],
+    },
 ];
 
-fn expect_large(rt: &impl Abort, alloc: Global, growth: &Growth, times: usize, want: &str) {
+fn expect_large(rt: &impl Abort, alloc: Global, row: &Large) {
     let start = seq(alloc, Document::Hard, Document::Text("x"), Document::Nil);
-    let mut doc = start.expect(rt, "memory");
-    for _ in 0..times {
-        doc = grown(alloc, growth, doc).expect(rt, "memory");
+    let mut doc = start.expect(rt, row.name);
+    for _ in 0..row.times {
+        doc = grown(alloc, &row.growth, doc).expect(rt, row.name);
     }
     let mut out = String::new(alloc);
-    render(alloc, &doc, usize::MAX, &mut out).expect(rt, "memory");
-    assert!(rt; out.as_str() == want);
+    render(alloc, &doc, usize::MAX, &mut out).expect(rt, row.name);
+    let want = joined(alloc, row.layout).expect(rt, row.name);
+    assert!(rt; out.as_str() == want.as_str(), "{}", row.name);
 }
 
 #[test]
 fn large_documents(rt: HostRuntime) {
-    for (growth, times, parts) in &LARGE {
-        let want = joined(&rt, rt.alloc(), parts);
-        expect_large(&rt, rt.alloc(), growth, *times, want.as_str());
+    for row in &LARGE {
+        expect_large(&rt, rt.alloc(), row);
     }
 }
 
@@ -198,7 +335,7 @@ fn one_sequence(rt: HostRuntime) {
         doc = doc.append(rt.alloc(), text).expect(&rt, "memory");
     }
     assert!(rt; matches!(&doc, Document::Seq(docs) if docs.len() == 3));
-    expect_rendered(&rt, rt.alloc(), Ok(doc), 80, "abc");
+    expect_rendered(&rt, rt.alloc(), Ok(doc), 80, "abc", "chain of appends");
 }
 
 // No memory for the spaces of a break: what was there stays, and nothing else.

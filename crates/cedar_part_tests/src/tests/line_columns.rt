@@ -3,54 +3,266 @@ use super::*;
 use cedar_policy_formatter::{Place, place};
 
 // A text, a byte of it, and that byte's line and column.
-static PLACES: [(&str, usize, usize, usize); 32] = [
-    // No text, and past its end.
-    ("", 0, 1, 1),
-    ("", 7, 1, 1),
-    // Before, at and behind a line feed, the end, and past it.
-    ("a\nb", 0, 1, 1),
-    ("a\nb", 1, 1, 2),
-    ("a\nb", 2, 2, 1),
-    ("a\nb", 3, 2, 2),
-    ("a\nb", 9, 2, 2),
-    ("a\nb", usize::MAX, 2, 2),
-    ("a\n", 1, 1, 2),
-    ("a\n", 2, 2, 1),
-    ("\n\n", 0, 1, 1),
-    ("\n\n", 1, 2, 1),
-    ("\n\n", 2, 3, 1),
-    // Characters of three bytes: at each byte, at the end, and on a line behind them.
-    ("日本", 0, 1, 1),
-    ("日本", 1, 1, 1),
-    ("日本", 2, 1, 1),
-    ("日本", 3, 1, 2),
-    ("日本", 5, 1, 2),
-    ("日本", 6, 1, 3),
-    ("日本", 7, 1, 3),
-    ("日本\n語x", 6, 1, 3),
-    ("日本\n語x", 7, 2, 1),
-    ("日本\n語x", 9, 2, 1),
-    ("日本\n語x", 10, 2, 2),
+struct Spot {
+    name: &'static str,
+    text: &'static str,
+    at: usize,
+    line: usize,
+    column: usize,
+}
+
+static PLACES: [Spot; 32] = [
+    // No text.
+    Spot {
+        name: "no text",
+        text: "",
+        at: 0,
+        line: 1,
+        column: 1,
+    },
+    Spot {
+        name: "past the end of no text",
+        text: "",
+        at: 7,
+        line: 1,
+        column: 1,
+    },
+    // A line feed, and the end of the text.
+    Spot {
+        name: "first byte",
+        text: r#"a
+b"#,
+        at: 0,
+        line: 1,
+        column: 1,
+    },
+    Spot {
+        name: "line feed",
+        text: r#"a
+b"#,
+        at: 1,
+        line: 1,
+        column: 2,
+    },
+    Spot {
+        name: "first byte of the second line",
+        text: r#"a
+b"#,
+        at: 2,
+        line: 2,
+        column: 1,
+    },
+    Spot {
+        name: "end of the second line",
+        text: r#"a
+b"#,
+        at: 3,
+        line: 2,
+        column: 2,
+    },
+    Spot {
+        name: "past the end",
+        text: r#"a
+b"#,
+        at: 9,
+        line: 2,
+        column: 2,
+    },
+    Spot {
+        name: "largest place",
+        text: r#"a
+b"#,
+        at: usize::MAX,
+        line: 2,
+        column: 2,
+    },
+    Spot {
+        name: "line feed at the end",
+        text: r#"a
+"#,
+        at: 1,
+        line: 1,
+        column: 2,
+    },
+    Spot {
+        name: "end behind a line feed",
+        text: r#"a
+"#,
+        at: 2,
+        line: 2,
+        column: 1,
+    },
+    Spot {
+        name: "first of two line feeds",
+        text: "\n\n",
+        at: 0,
+        line: 1,
+        column: 1,
+    },
+    Spot {
+        name: "second of two line feeds",
+        text: "\n\n",
+        at: 1,
+        line: 2,
+        column: 1,
+    },
+    Spot {
+        name: "end behind two line feeds",
+        text: "\n\n",
+        at: 2,
+        line: 3,
+        column: 1,
+    },
+    // Characters of three bytes.
+    Spot {
+        name: "first byte of three",
+        text: "日本",
+        at: 0,
+        line: 1,
+        column: 1,
+    },
+    Spot {
+        name: "second byte of three",
+        text: "日本",
+        at: 1,
+        line: 1,
+        column: 1,
+    },
+    Spot {
+        name: "third byte of three",
+        text: "日本",
+        at: 2,
+        line: 1,
+        column: 1,
+    },
+    Spot {
+        name: "second character of three bytes",
+        text: "日本",
+        at: 3,
+        line: 1,
+        column: 2,
+    },
+    Spot {
+        name: "last byte of a character of three bytes",
+        text: "日本",
+        at: 5,
+        line: 1,
+        column: 2,
+    },
+    Spot {
+        name: "end behind characters of three bytes",
+        text: "日本",
+        at: 6,
+        line: 1,
+        column: 3,
+    },
+    Spot {
+        name: "past the end behind characters of three bytes",
+        text: "日本",
+        at: 7,
+        line: 1,
+        column: 3,
+    },
+    Spot {
+        name: "line feed behind characters of three bytes",
+        text: r#"日本
+語x"#,
+        at: 6,
+        line: 1,
+        column: 3,
+    },
+    Spot {
+        name: "character of three bytes on the second line",
+        text: r#"日本
+語x"#,
+        at: 7,
+        line: 2,
+        column: 1,
+    },
+    Spot {
+        name: "last byte of a character on the second line",
+        text: r#"日本
+語x"#,
+        at: 9,
+        line: 2,
+        column: 1,
+    },
+    Spot {
+        name: "character behind one of three bytes on the second line",
+        text: r#"日本
+語x"#,
+        at: 10,
+        line: 2,
+        column: 2,
+    },
     // Two and four bytes, a tab, and an accent of its own.
-    ("é\t🦀x", 2, 1, 2),
-    ("é\t🦀x", 6, 1, 3),
-    ("é\t🦀x", 7, 1, 4),
-    ("e\u{301}x", 3, 1, 3),
+    Spot {
+        name: "tab behind a character of two bytes",
+        text: "é\t🦀x",
+        at: 2,
+        line: 1,
+        column: 2,
+    },
+    Spot {
+        name: "last byte of a character of four bytes",
+        text: "é\t🦀x",
+        at: 6,
+        line: 1,
+        column: 3,
+    },
+    Spot {
+        name: "character behind one of four bytes",
+        text: "é\t🦀x",
+        at: 7,
+        line: 1,
+        column: 4,
+    },
+    Spot {
+        name: "character behind an accent of its own",
+        text: "e\u{301}x",
+        at: 3,
+        line: 1,
+        column: 3,
+    },
     // A carriage return is a character of its line.
-    ("a\r\nb", 2, 1, 3),
-    ("a\r\nb", 3, 2, 1),
-    ("a\rb", 2, 1, 3),
-    // A refused token behind a policy.
-    ("permit(principal,action,resource);\n;=", 36, 2, 2),
+    Spot {
+        name: "line feed behind a carriage return",
+        text: "a\r\nb",
+        at: 2,
+        line: 1,
+        column: 3,
+    },
+    Spot {
+        name: "line behind a carriage return and a line feed",
+        text: "a\r\nb",
+        at: 3,
+        line: 2,
+        column: 1,
+    },
+    Spot {
+        name: "character behind a lone carriage return",
+        text: "a\rb",
+        at: 2,
+        line: 1,
+        column: 3,
+    },
+    Spot {
+        name: "refused token behind a policy",
+        text: r#"permit(principal,action,resource);
+;="#,
+        at: 36,
+        line: 2,
+        column: 2,
+    },
 ];
 
 #[test]
 fn places_of_bytes(rt: HostRuntime) {
-    for (text, at, line, column) in &PLACES {
+    for row in &PLACES {
         let want = Place {
-            line: *line,
-            column: *column,
+            line: row.line,
+            column: row.column,
         };
-        assert_eq!(rt; place(text, *at), want, "byte {at} of {text:?}");
+        assert_eq!(rt; place(row.text, row.at), want, "{}", row.name);
     }
 }

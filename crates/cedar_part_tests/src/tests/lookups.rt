@@ -158,42 +158,138 @@ fn answer(
     answer_from::<Brand>(rt, alloc, lookup, span, tokens, Blank::new(1))
 }
 
-// Lookups in turn over the tokens of `a // t`, `// l`, `b`, and what each answers.
-static NAMED: [&[(Lookup, usize, usize, &str)]; 3] = [
-    &[
-        (Lookup::AfterEnd, 0, 1, "// l;| "),
-        (Lookup::AfterEnd, 0, 1, "| "),
-        (Lookup::AtEnd, 0, 1, "|// t "),
-    ],
-    &[
-        (Lookup::AtStart, 1, 2, ""),
-        (Lookup::AfterEnd, 12, 13, ""),
-        (Lookup::AtStart, 0, 9, "|// t "),
-        (Lookup::LinesAtStart, 1, 2, ""),
-        (Lookup::LinesAtStart, 12, 13, "// l;"),
-        (Lookup::AtEnd, 0, 13, "| "),
-    ],
-    &[
-        (Lookup::InRange, 1, 12, ""),
-        (Lookup::InRange, 0, 0, ""),
-        (Lookup::InRange, 13, 20, ""),
-        (Lookup::InRange, 0, 13, "|// t // l;| "),
-        (Lookup::AtStart, 12, 13, "| "),
-    ],
+// A lookup with a span, and what it answers.
+struct Asked {
+    lookup: Lookup,
+    start: usize,
+    end: usize,
+    answer: &'static str,
+}
+
+// Lookups in turn over the tokens of `a // t`, `// l`, `b`.
+struct Turns {
+    name: &'static str,
+    asked: &'static [Asked],
+}
+
+static NAMED: [Turns; 3] = [
+    Turns {
+        name: "after the first token, and its end",
+        asked: &[
+            Asked {
+                lookup: Lookup::AfterEnd,
+                start: 0,
+                end: 1,
+                answer: "// l;| ",
+            },
+            Asked {
+                lookup: Lookup::AfterEnd,
+                start: 0,
+                end: 1,
+                answer: "| ",
+            },
+            Asked {
+                lookup: Lookup::AtEnd,
+                start: 0,
+                end: 1,
+                answer: "|// t ",
+            },
+        ],
+    },
+    Turns {
+        name: "places of no token, and one comment for each",
+        asked: &[
+            Asked {
+                lookup: Lookup::AtStart,
+                start: 1,
+                end: 2,
+                answer: "",
+            },
+            Asked {
+                lookup: Lookup::AfterEnd,
+                start: 12,
+                end: 13,
+                answer: "",
+            },
+            Asked {
+                lookup: Lookup::AtStart,
+                start: 0,
+                end: 9,
+                answer: "|// t ",
+            },
+            Asked {
+                lookup: Lookup::LinesAtStart,
+                start: 1,
+                end: 2,
+                answer: "",
+            },
+            Asked {
+                lookup: Lookup::LinesAtStart,
+                start: 12,
+                end: 13,
+                answer: "// l;",
+            },
+            Asked {
+                lookup: Lookup::AtEnd,
+                start: 0,
+                end: 13,
+                answer: "| ",
+            },
+        ],
+    },
+    Turns {
+        name: "ranges",
+        asked: &[
+            Asked {
+                lookup: Lookup::InRange,
+                start: 1,
+                end: 12,
+                answer: "",
+            },
+            Asked {
+                lookup: Lookup::InRange,
+                start: 0,
+                end: 0,
+                answer: "",
+            },
+            Asked {
+                lookup: Lookup::InRange,
+                start: 13,
+                end: 20,
+                answer: "",
+            },
+            Asked {
+                lookup: Lookup::InRange,
+                start: 0,
+                end: 13,
+                answer: "|// t // l;| ",
+            },
+            Asked {
+                lookup: Lookup::AtStart,
+                start: 12,
+                end: 13,
+                answer: "| ",
+            },
+        ],
+    },
 ];
+
+fn expect_turns(rt: &impl Abort, alloc: Global, turns: &Turns) {
+    let mut tokens = tokens(rt, alloc, "a // t\n// l\nb");
+    for asked in turns.asked {
+        let span = Span {
+            start: asked.start,
+            end: asked.end,
+        };
+        let got = answer(rt, alloc, &asked.lookup, span, &mut tokens);
+        expect_text(rt, got.as_str(), asked.answer, turns.name);
+    }
+}
 
 #[test]
 fn named_tokens(rt: HostRuntime) {
-    for lookups in &NAMED {
-        let mut tokens = tokens(&rt, rt.alloc(), "a // t\n// l\nb");
-        for (lookup, start, end, want) in *lookups {
-            let span = Span {
-                start: *start,
-                end: *end,
-            };
-            let got = answer(&rt, rt.alloc(), lookup, span, &mut tokens);
-            expect_text(&rt, got.as_str(), want, want);
-        }
+    for turns in &NAMED {
+        expect_turns(&rt, rt.alloc(), turns);
     }
 }
 
@@ -233,31 +329,66 @@ fn scanned(
 }
 
 // A lookup and a scan answer alike and leave the same tokens.
-fn expect_scanned(rt: &impl Abort, alloc: Global, lookup: &Lookup, span: Span, text: &str) {
+fn expect_scanned(
+    rt: &impl Abort,
+    alloc: Global,
+    lookup: &Lookup,
+    span: Span,
+    text: &str,
+    name: &str,
+) {
     let mut left = tokens(rt, alloc, text);
     let got = answer(rt, alloc, lookup, span, &mut left);
     let mut wanted = tokens(rt, alloc, text);
     let want = scanned(rt, alloc, lookup, span, &mut wanted);
-    expect_text(rt, got.as_str(), want.as_str(), text);
-    assert!(rt; left == wanted, "{text:?}");
+    expect_text(rt, got.as_str(), want.as_str(), name);
+    assert!(rt; left == wanted, "{name}: {span:?}");
 }
 
-// Texts of 0, 1, 7 and 8 tokens.
-static SCANNED: [&str; 4] = [
-    "",
-    " a ",
-    "// l\nab // t\n// m\n,;(== // t\n)\n// n\nb",
-    "a // 1\n.b // 2\n.c // 3\n.d // 4\n;",
+struct Searched {
+    name: &'static str,
+    text: &'static str,
+}
+
+static SCANNED: [Searched; 4] = [
+    Searched {
+        name: "no token",
+        text: "",
+    },
+    Searched {
+        name: "one token",
+        text: " a ",
+    },
+    Searched {
+        name: "seven tokens",
+        text: r#"// l
+ab // t
+// m
+,;(== // t
+)
+// n
+b"#,
+    },
+    Searched {
+        name: "eight tokens",
+        text: r#"a // 1
+.b // 2
+.c // 3
+.d // 4
+;"#,
+    },
 ];
 
 // Each lookup with each span that lies in the text, and of ends one past it.
 #[test]
 fn against_scans(rt: HostRuntime) {
-    for text in &SCANNED {
+    for row in &SCANNED {
+        let text = row.text;
         for start in 0..text.len() + 2 {
             for end in start..text.len() + 2 {
                 for lookup in &LOOKUPS {
-                    expect_scanned(&rt, rt.alloc(), lookup, Span { start, end }, text);
+                    let span = Span { start, end };
+                    expect_scanned(&rt, rt.alloc(), lookup, span, text, row.name);
                 }
             }
         }
@@ -307,7 +438,7 @@ fn expect_empty(rt: &impl Abort, alloc: Global, tokens: &mut [WrappedToken<'_>])
 // A scan behind the stated steps needs hours here.
 #[test]
 fn many_tokens(rt: HostRuntime) {
-    let text = joined(&rt, rt.alloc(), &[(";", 500_000)]);
+    let text = joined(rt.alloc(), &[Times(500_000, ";")]).expect(&rt, "the text");
     let mut tokens = tokens(&rt, rt.alloc(), text.as_str());
     expect_empty(&rt, rt.alloc(), &mut tokens);
 }

@@ -10,9 +10,9 @@ use cedar_policy_formatter::utils::in_order;
 
 // The text's tokens without trailing commas.
 fn tokens_of<'a>(rt: &impl Abort, alloc: Global, text: &'a str) -> Vec<WrappedToken<'a>> {
-    let stream = get_token_stream(alloc, text).expect(rt, "memory");
+    let stream = get_token_stream(alloc, text).expect(rt, text);
     let (mut tokens, _) = stream.expect(rt, text);
-    drop_trailing_commas(alloc, &mut tokens).expect(rt, "memory");
+    drop_trailing_commas(alloc, &mut tokens).expect(rt, text);
     tokens
 }
 
@@ -27,156 +27,410 @@ fn expect_document(
     doc: Option<Document<'_>>,
     width: usize,
     want: &str,
+    name: &str,
 ) {
     let mut out = String::new(alloc);
-    let doc = doc.expect(rt, want);
-    render(alloc, &doc, width, &mut out).expect(rt, want);
-    expect_text(rt, out.as_str(), want, want);
+    let doc = doc.expect(rt, name);
+    render(alloc, &doc, width, &mut out).expect(rt, name);
+    expect_text(rt, out.as_str(), want, name);
 }
 
-// The body of a condition, the width, and the body's layout.
-static BODIES: [(&str, usize, &str); 21] = [
-    ("§when{1+2*3};", 80, "1 + 2 * 3"),
-    ("§when{1+2*3};", 5, "1 +\n2 * 3"),
-    ("§when{1+2*3};", 4, "1 +\n2 *\n3"),
-    ("§when{[1,2]};", 5, "[1,\n 2]"),
-    ("§when{!!context.b(1).c};", 16, "!!context.b(1).c"),
-    (
-        "§when{!!context.b(1).c};",
-        15,
-        "!!context.b(\n    1\n  )\n  .c",
-    ),
-    ("§when{{}};", 80, "{}"),
-    ("§when{{a:1}};", 8, "{ a: 1 }"),
-    ("§when{{a:1}};", 7, "{\n  a: 1\n  }"),
-    ("§when{if true then 1 else 2};", 21, "if true then 1 else 2"),
-    ("§when{(true // c\n)};", 80, "(true // c\n )"),
-    ("§when{007};", 80, "7"),
-    ("§when{000};", 80, "0"),
-    ("§when{[]};", 80, "[]"),
-    ("§when{f()};", 80, "f()"),
-    ("§when{! // a\n// b\n!true};", 80, "! // a\n\n// b\n!true"),
-    (
-        "§when{1<=2||1>=2||1!=2};",
-        80,
-        "1 <= 2 ||\n1 >= 2 ||\n1 != 2",
-    ),
-    ("§when{1-2};", 80, "1 - 2"),
-    (
-        "§when{context[\"a\"][\"b\"].c};",
-        80,
-        "context[\"a\"][\"b\"].c",
-    ),
-    ("§when{context like \"a*\"};", 80, "context like \"a*\""),
-    ("§when{context has \"a\"};", 80, "context has \"a\""),
+// The text of a policy with one condition, and the layout of its body.
+static BODIES: [Row; 21] = [
+    Row {
+        name: "sum and product",
+        text: "permit(principal,action,resource)when{1+2*3};",
+        layout: "1 + 2 * 3",
+        ..ROW
+    },
+    Row {
+        name: "sum one wider than the width",
+        text: "permit(principal,action,resource)when{1+2*3};",
+        layout: r#"1 +
+2 * 3"#,
+        width: 5,
+        ..ROW
+    },
+    Row {
+        name: "product one wider than the width",
+        text: "permit(principal,action,resource)when{1+2*3};",
+        layout: r#"1 +
+2 *
+3"#,
+        width: 4,
+        ..ROW
+    },
+    Row {
+        name: "list one wider than the width",
+        text: "permit(principal,action,resource)when{[1,2]};",
+        layout: r#"[1,
+ 2]"#,
+        width: 5,
+        ..ROW
+    },
+    Row {
+        name: "chain of accesses as wide as the width",
+        text: "permit(principal,action,resource)when{!!context.b(1).c};",
+        layout: "!!context.b(1).c",
+        width: 16,
+        ..ROW
+    },
+    Row {
+        name: "chain of accesses one wider than the width",
+        text: "permit(principal,action,resource)when{!!context.b(1).c};",
+        layout: r#"!!context.b(
+    1
+  )
+  .c"#,
+        width: 15,
+        ..ROW
+    },
+    Row {
+        name: "empty record",
+        text: "permit(principal,action,resource)when{{}};",
+        layout: "{}",
+        ..ROW
+    },
+    Row {
+        name: "record as wide as the width",
+        text: "permit(principal,action,resource)when{{a:1}};",
+        layout: "{ a: 1 }",
+        width: 8,
+        ..ROW
+    },
+    Row {
+        name: "record one wider than the width",
+        text: "permit(principal,action,resource)when{{a:1}};",
+        layout: r#"{
+  a: 1
+  }"#,
+        width: 7,
+        ..ROW
+    },
+    Row {
+        name: "if as wide as the width",
+        text: "permit(principal,action,resource)when{if true then 1 else 2};",
+        layout: "if true then 1 else 2",
+        width: 21,
+        ..ROW
+    },
+    Row {
+        name: "comment in brackets",
+        text: r#"permit(principal,action,resource)when{(true // c
+)};"#,
+        layout: r#"(true // c
+ )"#,
+        ..ROW
+    },
+    Row {
+        name: "number with zeros in front",
+        text: "permit(principal,action,resource)when{007};",
+        layout: "7",
+        ..ROW
+    },
+    Row {
+        name: "number of zeros",
+        text: "permit(principal,action,resource)when{000};",
+        layout: "0",
+        ..ROW
+    },
+    Row {
+        name: "empty list",
+        text: "permit(principal,action,resource)when{[]};",
+        layout: "[]",
+        ..ROW
+    },
+    Row {
+        name: "call without arguments",
+        text: "permit(principal,action,resource)when{f()};",
+        layout: "f()",
+        ..ROW
+    },
+    Row {
+        name: "comments between two signs",
+        text: r#"permit(principal,action,resource)when{! // a
+// b
+!true};"#,
+        layout: r#"! // a
+
+// b
+!true"#,
+        ..ROW
+    },
+    Row {
+        name: "comparisons and or",
+        text: "permit(principal,action,resource)when{1<=2||1>=2||1!=2};",
+        layout: r#"1 <= 2 ||
+1 >= 2 ||
+1 != 2"#,
+        ..ROW
+    },
+    Row {
+        name: "difference",
+        text: "permit(principal,action,resource)when{1-2};",
+        layout: "1 - 2",
+        ..ROW
+    },
+    Row {
+        name: "indexes and a field",
+        text: r#"permit(principal,action,resource)when{context["a"]["b"].c};"#,
+        layout: r#"context["a"]["b"].c"#,
+        ..ROW
+    },
+    Row {
+        name: "like",
+        text: r#"permit(principal,action,resource)when{context like "a*"};"#,
+        layout: r#"context like "a*""#,
+        ..ROW
+    },
+    Row {
+        name: "has before a string",
+        text: r#"permit(principal,action,resource)when{context has "a"};"#,
+        layout: r#"context has "a""#,
+        ..ROW
+    },
 ];
 
-fn expect_body(rt: &impl Abort, alloc: Global, text: &str, line_width: usize, want: &str) {
-    let tree = parse_policies(alloc, text).expect(rt, text);
-    let config = config(line_width, 2);
+fn expect_body(rt: &impl Abort, alloc: Global, row: &Row) {
+    let tree = parse_policies(alloc, row.text).expect(rt, row.name);
+    let config = Config {
+        line_width: row.width,
+        indent_width: row.indent,
+    };
     let mut context = Context {
         config: &config,
-        tokens: tokens_of(rt, alloc, text),
+        tokens: tokens_of(rt, alloc, row.text),
     };
     assert!(rt; in_order(&context.tokens));
     let policy = only(rt, &tree.policies);
     let cond = only(rt, &policy.inner.conds);
     let doc = cond.inner.expr.to_doc(alloc, &mut context);
-    expect_document(rt, alloc, doc.expect(rt, text), line_width, want);
+    let doc = doc.expect(rt, row.name);
+    expect_document(rt, alloc, doc, row.width, row.layout, row.name);
 }
 
 #[test]
 fn bodies(rt: HostRuntime) {
-    for (text, line_width, want) in &BODIES {
-        let text = expand(&rt, rt.alloc(), text);
-        expect_body(&rt, rt.alloc(), text.as_str(), *line_width, want);
+    for row in &BODIES {
+        expect_body(&rt, rt.alloc(), row);
     }
 }
 
 // A text, a width, and what its policies, taken in order, are rendered to: not cleaned yet. No comment is left.
-static POLICIES: [(&str, usize, &[&str]); 16] = [
-    (
-        "permit(principal == User::\"a\",action,resource);",
-        80,
-        &["permit (\n  principal == User::\"a\",\n  action,\n  resource\n);"],
-    ),
-    (
-        "permit(principal == ?principal, action, resource);",
-        80,
-        &["permit (\n  principal == ?principal,\n  action,\n  resource\n);"],
-    ),
-    ("@id(\"x\")§;", 80, &["@id(\"x\")\n¶;"]),
-    (
-        "permit(principal, // p\naction,resource);",
-        80,
-        &["permit (principal, // p\n  action, resource);"],
-    ),
-    (
-        "§when{\"a\"\n// c\n== \"b\"};",
-        80,
-        &["¶\nwhen\n{\n  \"a\" \n  // c\n  == \"b\"\n};"],
-    ),
-    ("§when{\"a\n\n// b\"};", 80, &["¶\nwhen { \"a\n\n// b\" };"]),
-    ("§when{007==7};", 80, &["¶\nwhen { 7 == 7 };"]),
-    (
-        "§unless{principal has a.b&&resource.tags.contains(\"x\")};",
-        80,
-        &["¶\nunless { principal has a.b && resource.tags.contains(\"x\") };"],
-    ),
-    (
-        "§when{{a:1,\"b\":[2,-3]}==context&&principal is A::B in A::\"c\"};",
-        80,
-        &["¶\nwhen { { a: 1, \"b\": [2, -3] } == context && principal is A::B in A::\"c\" };"],
-    ),
-    (
-        "§when{if a::\"x\"==principal then true else false};",
-        30,
-        &[
-            "permit\n(principal, action, resource)\nwhen\n{\n  if\n    a::\"x\" == principal\n  then\n    true\n  else\n    false\n};",
+struct Rendering {
+    name: &'static str,
+    text: &'static str,
+    width: usize,
+    layouts: &'static [&'static str],
+}
+
+static POLICIES: [Rendering; 16] = [
+    Rendering {
+        name: "principal that equals an entity",
+        text: r#"permit(principal == User::"a",action,resource);"#,
+        width: 80,
+        layouts: &[
+            r#"permit (
+  principal == User::"a",
+  action,
+  resource
+);"#,
         ],
-    ),
-    (
-        "permit(principal,action in [A::\"x\",A::\"y\"],resource);",
-        20,
-        &["permit (\n  principal,\n  action in\n    [A::\"x\",\n     A::\"y\"],\n  resource\n);"],
-    ),
-    (
-        "permit(principal,action in [A::\"x\",A::\"y\"],resource);",
-        21,
-        &["permit (\n  principal,\n  action in\n    [A::\"x\", A::\"y\"],\n  resource\n);"],
-    ),
-    (
-        "permit(principal is A in ?principal,action,resource);",
-        18,
-        &["permit (\n  principal is A\n  in\n    ?principal,\n  action,\n  resource\n);"],
-    ),
-    (
-        "permit(principal is A in ?principal,action,resource);",
-        19,
-        &["permit (\n  principal is A in\n    ?principal,\n  action,\n  resource\n);"],
-    ),
-    (
-        "§when{f(1 // x\n// y\n)};",
-        80,
-        &["¶\nwhen\n{\n  f(\n      1 // x\n      \n    \n    // y\n    )\n};"],
-    ),
-    ("§; // t\n// l\n§;\n// e", 80, &["¶; // t\n", "\n// l\n¶;"]),
+    },
+    Rendering {
+        name: "principal that equals a slot",
+        text: "permit(principal == ?principal, action, resource);",
+        width: 80,
+        layouts: &[
+            r#"permit (
+  principal == ?principal,
+  action,
+  resource
+);"#,
+        ],
+    },
+    Rendering {
+        name: "annotation",
+        text: r#"@id("x")permit(principal,action,resource);"#,
+        width: 80,
+        layouts: &[
+            r#"@id("x")
+permit (principal, action, resource);"#,
+        ],
+    },
+    Rendering {
+        name: "comment after the comma of a variable",
+        text: r#"permit(principal, // p
+action,resource);"#,
+        width: 80,
+        layouts: &[
+            r#"permit (principal, // p
+  action, resource);"#,
+        ],
+    },
+    Rendering {
+        name: "comment before an operator",
+        text: r#"permit(principal,action,resource)when{"a"
+// c
+== "b"};"#,
+        width: 80,
+        layouts: &[
+            "permit (principal, action, resource)\nwhen\n{\n  \"a\" \n  // c\n  == \"b\"\n};",
+        ],
+    },
+    Rendering {
+        name: "string with an empty line and slashes",
+        text: r#"permit(principal,action,resource)when{"a
+
+// b"};"#,
+        width: 80,
+        layouts: &[
+            r#"permit (principal, action, resource)
+when { "a
+
+// b" };"#,
+        ],
+    },
+    Rendering {
+        name: "number with zeros in front",
+        text: "permit(principal,action,resource)when{007==7};",
+        width: 80,
+        layouts: &[
+            r#"permit (principal, action, resource)
+when { 7 == 7 };"#,
+        ],
+    },
+    Rendering {
+        name: "has, tags and a call",
+        text: r#"permit(principal,action,resource)unless{principal has a.b&&resource.tags.contains("x")};"#,
+        width: 80,
+        layouts: &[
+            r#"permit (principal, action, resource)
+unless { principal has a.b && resource.tags.contains("x") };"#,
+        ],
+    },
+    Rendering {
+        name: "record, list and is in",
+        text: r#"permit(principal,action,resource)when{{a:1,"b":[2,-3]}==context&&principal is A::B in A::"c"};"#,
+        width: 80,
+        layouts: &[
+            r#"permit (principal, action, resource)
+when { { a: 1, "b": [2, -3] } == context && principal is A::B in A::"c" };"#,
+        ],
+    },
+    Rendering {
+        name: "if broken over lines",
+        text: r#"permit(principal,action,resource)when{if a::"x"==principal then true else false};"#,
+        width: 30,
+        layouts: &[
+            r#"permit
+(principal, action, resource)
+when
+{
+  if
+    a::"x" == principal
+  then
+    true
+  else
+    false
+};"#,
+        ],
+    },
+    Rendering {
+        name: "list of actions one wider than the width",
+        text: r#"permit(principal,action in [A::"x",A::"y"],resource);"#,
+        width: 20,
+        layouts: &[
+            r#"permit (
+  principal,
+  action in
+    [A::"x",
+     A::"y"],
+  resource
+);"#,
+        ],
+    },
+    Rendering {
+        name: "list of actions as wide as the width",
+        text: r#"permit(principal,action in [A::"x",A::"y"],resource);"#,
+        width: 21,
+        layouts: &[
+            r#"permit (
+  principal,
+  action in
+    [A::"x", A::"y"],
+  resource
+);"#,
+        ],
+    },
+    Rendering {
+        name: "type and slot one wider than the width",
+        text: "permit(principal is A in ?principal,action,resource);",
+        width: 18,
+        layouts: &[
+            r#"permit (
+  principal is A
+  in
+    ?principal,
+  action,
+  resource
+);"#,
+        ],
+    },
+    Rendering {
+        name: "type and slot as wide as the width",
+        text: "permit(principal is A in ?principal,action,resource);",
+        width: 19,
+        layouts: &[
+            r#"permit (
+  principal is A in
+    ?principal,
+  action,
+  resource
+);"#,
+        ],
+    },
+    Rendering {
+        name: "comments in an argument",
+        text: r#"permit(principal,action,resource)when{f(1 // x
+// y
+)};"#,
+        width: 80,
+        layouts: &[
+            "permit (principal, action, resource)\nwhen\n{\n  f(\n      1 // x\n      \n    \n    // y\n    )\n};",
+        ],
+    },
+    Rendering {
+        name: "trailing, leading and closing comments",
+        text: r#"permit(principal,action,resource); // t
+// l
+permit(principal,action,resource);
+// e"#,
+        width: 80,
+        layouts: &[
+            r#"permit (principal, action, resource); // t
+"#,
+            r#"
+// l
+permit (principal, action, resource);"#,
+        ],
+    },
 ];
 
-fn expect_policies(rt: &impl Abort, alloc: Global, text: &str, width: usize, wants: &[&str]) {
-    let tree = parse_policies(alloc, text).expect(rt, text);
+fn expect_policies(rt: &impl Abort, alloc: Global, row: &Rendering) {
+    let tree = parse_policies(alloc, row.text).expect(rt, row.name);
     let config = Config::default();
     let mut context = Context {
         config: &config,
-        tokens: tokens_of(rt, alloc, text),
+        tokens: tokens_of(rt, alloc, row.text),
     };
-    assert_eq!(rt; tree.policies.len(), wants.len());
-    let mut rest = wants.iter();
+    assert_eq!(rt; tree.policies.len(), row.layouts.len(), "{}", row.name);
+    let mut rest = row.layouts.iter();
     for policy in &tree.policies {
-        let want = rest.next().expect(rt, text);
-        expect_policy(rt, alloc, policy, &mut context, width, want);
+        let want = rest.next().expect(rt, row.name);
+        expect_policy(rt, alloc, policy, &mut context, row.width, want, row.name);
     }
-    expect_no_comments(rt, &context.tokens);
+    expect_no_comments(rt, &context.tokens, row.name);
 }
 
 fn expect_policy<'a>(
@@ -186,26 +440,25 @@ fn expect_policy<'a>(
     context: &mut Context<'_, 'a>,
     width: usize,
     want: &str,
+    name: &str,
 ) {
     assert!(rt; in_order(&context.tokens));
-    let doc = policy.to_doc(alloc, context).expect(rt, want);
-    let want = expand(rt, alloc, want);
-    expect_document(rt, alloc, doc, width, want.as_str());
+    let doc = policy.to_doc(alloc, context).expect(rt, name);
+    expect_document(rt, alloc, doc, width, want, name);
 }
 
-fn expect_no_comments(rt: &impl Abort, tokens: &[WrappedToken<'_>]) {
+fn expect_no_comments(rt: &impl Abort, tokens: &[WrappedToken<'_>], name: &str) {
     for token in tokens {
         let comment = &token.comment;
         let is_bare = comment.leading_comment().is_empty() && comment.trailing_comment().is_empty();
-        assert!(rt; is_bare, "{token}");
+        assert!(rt; is_bare, "{name}: {token}");
     }
 }
 
 #[test]
 fn policies(rt: HostRuntime) {
-    for (text, width, wants) in &POLICIES {
-        let text = expand(&rt, rt.alloc(), text);
-        expect_policies(&rt, rt.alloc(), text.as_str(), *width, wants);
+    for row in &POLICIES {
+        expect_policies(&rt, rt.alloc(), row);
     }
 }
 
@@ -221,7 +474,7 @@ fn expect_type(rt: &impl Abort, alloc: Global, text: &str, want: &str) {
     let variable = &only(rt, &tree.policies).inner.variables.0;
     let name = variable.inner.entity_type.as_ref().expect(rt, text);
     let doc = name.to_doc(alloc, &mut context).expect(rt, text);
-    expect_document(rt, alloc, doc, 80, want);
+    expect_document(rt, alloc, doc, 80, want, text);
 }
 
 #[test]
@@ -230,118 +483,291 @@ fn a_type_with_a_comment(rt: HostRuntime) {
     expect_type(&rt, rt.alloc(), text, "A // x\n::B");
 }
 
-// A text, whether the context has its tokens, and the document of each part of a type that has one: `none`, or what it is
+// A text, whether the context has its tokens, and each part of a type that has a document with `none`, or what it is
 // rendered to by itself. Of a chain of levels the first operand is visited, and the primaries of the others.
-static NODES: [(&str, bool, &[(&str, &str)]); 4] = [
-    (
-        "@id(\"x\")permit(principal==?principal,action,resource)when{!context.b(1)[\"k\"]*2+007=={a:A::B::\"u\"}&&true||false};",
-        true,
-        &[
+struct Visit {
+    name: &'static str,
+    text: &'static str,
+    has_tokens: bool,
+    parts: &'static [(&'static str, &'static str)],
+}
+
+static NODES: [Visit; 4] = [
+    Visit {
+        name: "each part",
+        text: r#"@id("x")permit(principal==?principal,action,resource)when{!context.b(1)["k"]*2+007=={a:A::B::"u"}&&true||false};"#,
+        has_tokens: true,
+        parts: &[
             (
                 "Node<Policy>",
-                "@id(\"x\")\npermit (\n  principal == ?principal,\n  action,\n  resource\n)\nwhen { !context.b(1)[\"k\"] * 2 + 7 == { a: A::B::\"u\" } && true || false };",
+                r#"@id("x")
+permit (
+  principal == ?principal,
+  action,
+  resource
+)
+when { !context.b(1)["k"] * 2 + 7 == { a: A::B::"u" } && true || false };"#,
             ),
-            ("Node<Annotation>", "@id(\"x\")\n"),
+            (
+                "Node<Annotation>",
+                r#"@id("x")
+"#,
+            ),
             ("Node<Ident>", "id"),
             ("Ident", "id"),
-            ("Node<Str>", "\"x\""),
+            ("Node<Str>", r#""x""#),
             ("Node<VariableDef>", "principal == ?principal"),
             ("Node<Primary>", "?principal"),
             ("Node<Slot>", "?principal"),
             (
                 "Node<Cond>",
-                "when { !context.b(1)[\"k\"] * 2 + 7 == { a: A::B::\"u\" } && true || false }",
+                r#"when { !context.b(1)["k"] * 2 + 7 == { a: A::B::"u" } && true || false }"#,
             ),
             (
                 "Node<Expr>",
-                "!context.b(1)[\"k\"] * 2 + 7 == { a: A::B::\"u\" } &&\ntrue ||\nfalse",
+                r#"!context.b(1)["k"] * 2 + 7 == { a: A::B::"u" } &&
+true ||
+false"#,
             ),
             (
                 "Node<Or>",
-                "!context.b(1)[\"k\"] * 2 + 7 == { a: A::B::\"u\" } &&\ntrue ||\nfalse",
+                r#"!context.b(1)["k"] * 2 + 7 == { a: A::B::"u" } &&
+true ||
+false"#,
             ),
             (
                 "Node<And>",
-                "!context.b(1)[\"k\"] * 2 + 7 == { a: A::B::\"u\" } &&\ntrue",
+                r#"!context.b(1)["k"] * 2 + 7 == { a: A::B::"u" } &&
+true"#,
             ),
             (
                 "Node<Relation>",
-                "!context.b(1)[\"k\"] * 2 + 7 == { a: A::B::\"u\" }",
+                r#"!context.b(1)["k"] * 2 + 7 == { a: A::B::"u" }"#,
             ),
-            ("Node<Add>", "!context.b(1)[\"k\"] * 2 + 7"),
+            ("Node<Add>", r#"!context.b(1)["k"] * 2 + 7"#),
             ("AddOp", "+"),
             ("Node<Primary>", "7"),
             ("Node<Literal>", "7"),
-            ("Node<Mult>", "!context.b(1)[\"k\"] * 2"),
+            ("Node<Mult>", r#"!context.b(1)["k"] * 2"#),
             ("MultOp", "*"),
-            ("Node<Unary>", "!context.b(1)[\"k\"]"),
-            ("Member", "context.b(1)[\"k\"]"),
+            ("Node<Unary>", r#"!context.b(1)["k"]"#),
+            ("Member", r#"context.b(1)["k"]"#),
             ("Node<MemAccess>", ".b"),
-            ("Node<MemAccess>", "(\n  1\n)"),
-            ("Node<MemAccess>", "[\"k\"]"),
+            (
+                "Node<MemAccess>",
+                r#"(
+  1
+)"#,
+            ),
+            ("Node<MemAccess>", r#"["k"]"#),
             ("Node<Primary>", "context"),
             ("Node<Name>", "context"),
-            ("Node<Primary>", "{ a: A::B::\"u\" }"),
-            ("Node<RecInit>", "a: A::B::\"u\""),
+            ("Node<Primary>", r#"{ a: A::B::"u" }"#),
+            ("Node<RecInit>", r#"a: A::B::"u""#),
         ],
-    ),
-    (
-        "@ // a\n// b\nid // c\n( // d\n// e\n\"x\" // f\n)permit(principal== // g\n// h\n?principal // i\n,action,resource)when{ // j\n// k\n007 // l\n==A::B // m\n:: // n\n// o\n\"u\" // q\n};",
-        true,
-        &[
+    },
+    Visit {
+        name: "each part with comments",
+        text: r#"@ // a
+// b
+id // c
+( // d
+// e
+"x" // f
+)permit(principal== // g
+// h
+?principal // i
+,action,resource)when{ // j
+// k
+007 // l
+==A::B // m
+:: // n
+// o
+"u" // q
+};"#,
+        has_tokens: true,
+        parts: &[
             (
                 "Node<Policy>",
                 "@ // a\n\n// b\nid // c\n( // d\n\n// e\n\"x\" // f\n)\npermit (\n  principal\n  == // g\n  \n    \n    // h\n    ?principal // i\n    ,\n  action,\n  resource\n)\nwhen\n{ // j\n  \n  // k\n  7 // l\n   == A::B // m\n  :: // n\n  \n  // o\n  \"u\" // q\n  \n};",
             ),
             (
                 "Node<Annotation>",
-                "@ // a\n\n// b\nid // c\n( // d\n\n// e\n\"x\" // f\n)\n",
+                r#"@ // a
+
+// b
+id // c
+( // d
+
+// e
+"x" // f
+)
+"#,
             ),
-            ("Node<Ident>", "\n// b\nid // c\n"),
+            (
+                "Node<Ident>",
+                r#"
+// b
+id // c
+"#,
+            ),
             ("Ident", "id"),
-            ("Node<Str>", "\n// e\n\"x\" // f\n"),
+            (
+                "Node<Str>",
+                r#"
+// e
+"x" // f
+"#,
+            ),
             (
                 "Node<VariableDef>",
                 "principal\n== // g\n\n  \n  // h\n  ?principal // i\n  ",
             ),
-            ("Node<Primary>", "\n// h\n?principal // i\n"),
-            ("Node<Slot>", "\n// h\n?principal // i\n"),
+            (
+                "Node<Primary>",
+                r#"
+// h
+?principal // i
+"#,
+            ),
+            (
+                "Node<Slot>",
+                r#"
+// h
+?principal // i
+"#,
+            ),
             (
                 "Node<Cond>",
                 "when\n{ // j\n  \n  // k\n  7 // l\n   == A::B // m\n  :: // n\n  \n  // o\n  \"u\" // q\n  \n}",
             ),
             (
                 "Node<Expr>",
-                "\n// k\n7 // l\n == A::B // m\n:: // n\n\n// o\n\"u\" // q\n",
+                r#"
+// k
+7 // l
+ == A::B // m
+:: // n
+
+// o
+"u" // q
+"#,
             ),
             (
                 "Node<Or>",
-                "\n// k\n7 // l\n == A::B // m\n:: // n\n\n// o\n\"u\" // q\n",
+                r#"
+// k
+7 // l
+ == A::B // m
+:: // n
+
+// o
+"u" // q
+"#,
             ),
             (
                 "Node<And>",
-                "\n// k\n7 // l\n == A::B // m\n:: // n\n\n// o\n\"u\" // q\n",
+                r#"
+// k
+7 // l
+ == A::B // m
+:: // n
+
+// o
+"u" // q
+"#,
             ),
             (
                 "Node<Relation>",
-                "\n// k\n7 // l\n == A::B // m\n:: // n\n\n// o\n\"u\" // q\n",
+                r#"
+// k
+7 // l
+ == A::B // m
+:: // n
+
+// o
+"u" // q
+"#,
             ),
-            ("Node<Add>", "\n// k\n7 // l\n"),
-            ("Node<Mult>", "\n// k\n7 // l\n"),
-            ("Node<Unary>", "\n// k\n7 // l\n"),
-            ("Member", "\n// k\n7 // l\n"),
-            ("Node<Primary>", "\n// k\n7 // l\n"),
-            ("Node<Literal>", "\n// k\n7 // l\n"),
-            ("Node<Primary>", "A::B // m\n:: // n\n\n// o\n\"u\" // q\n"),
-            ("Node<Ref>", "A::B // m\n:: // n\n\n// o\n\"u\" // q\n"),
-            ("Node<Name>", "A::B // m\n"),
-            ("Node<Str>", "\n// o\n\"u\" // q\n"),
+            (
+                "Node<Add>",
+                r#"
+// k
+7 // l
+"#,
+            ),
+            (
+                "Node<Mult>",
+                r#"
+// k
+7 // l
+"#,
+            ),
+            (
+                "Node<Unary>",
+                r#"
+// k
+7 // l
+"#,
+            ),
+            (
+                "Member",
+                r#"
+// k
+7 // l
+"#,
+            ),
+            (
+                "Node<Primary>",
+                r#"
+// k
+7 // l
+"#,
+            ),
+            (
+                "Node<Literal>",
+                r#"
+// k
+7 // l
+"#,
+            ),
+            (
+                "Node<Primary>",
+                r#"A::B // m
+:: // n
+
+// o
+"u" // q
+"#,
+            ),
+            (
+                "Node<Ref>",
+                r#"A::B // m
+:: // n
+
+// o
+"u" // q
+"#,
+            ),
+            (
+                "Node<Name>",
+                r#"A::B // m
+"#,
+            ),
+            (
+                "Node<Str>",
+                r#"
+// o
+"u" // q
+"#,
+            ),
         ],
-    ),
-    (
-        "@id(\"x\")permit(principal==?principal,action,resource)when{!context.b(1)[\"k\"]*2+007=={a:A::B::\"u\"}&&true||false};",
-        false,
-        &[
+    },
+    Visit {
+        name: "each part without the tokens",
+        text: r#"@id("x")permit(principal==?principal,action,resource)when{!context.b(1)["k"]*2+007=={a:A::B::"u"}&&true||false};"#,
+        has_tokens: false,
+        parts: &[
             ("Node<Policy>", "none"),
             ("Node<Annotation>", "none"),
             ("Node<Ident>", "none"),
@@ -371,11 +797,28 @@ static NODES: [(&str, bool, &[(&str, &str)]); 4] = [
             ("Node<Primary>", "none"),
             ("Node<RecInit>", "none"),
         ],
-    ),
-    (
-        "@ // a\n// b\nid // c\n( // d\n// e\n\"x\" // f\n)permit(principal== // g\n// h\n?principal // i\n,action,resource)when{ // j\n// k\n007 // l\n==A::B // m\n:: // n\n// o\n\"u\" // q\n};",
-        false,
-        &[
+    },
+    Visit {
+        name: "each part with comments, without the tokens",
+        text: r#"@ // a
+// b
+id // c
+( // d
+// e
+"x" // f
+)permit(principal== // g
+// h
+?principal // i
+,action,resource)when{ // j
+// k
+007 // l
+==A::B // m
+:: // n
+// o
+"u" // q
+};"#,
+        has_tokens: false,
+        parts: &[
             ("Node<Policy>", "none"),
             ("Node<Annotation>", "none"),
             ("Node<Ident>", "none"),
@@ -400,7 +843,7 @@ static NODES: [(&str, bool, &[(&str, &str)]); 4] = [
             ("Node<Name>", "none"),
             ("Node<Str>", "none"),
         ],
-    ),
+    },
 ];
 
 // The documents of a text's parts, as the rows have them, each made with the comments of the text.
@@ -537,31 +980,25 @@ fn append_row(rt: &impl Abort, out: &mut String, name: &str, rendered: &str) {
     write!(out, "{name}: {rendered};\n").expect(rt, "memory");
 }
 
-fn expect_parts(
-    rt: &impl Abort,
-    alloc: Global,
-    text: &str,
-    has_tokens: bool,
-    wants: &[(&str, &str)],
-) {
-    let tree = parse_policies(alloc, text).expect(rt, text);
+fn expect_parts(rt: &impl Abort, alloc: Global, row: &Visit) {
+    let tree = parse_policies(alloc, row.text).expect(rt, row.name);
     let mut got = Printed {
         alloc,
-        text,
-        has_tokens,
+        text: row.text,
+        has_tokens: row.has_tokens,
         out: String::new(alloc),
     };
     got.add_policy(rt, only(rt, &tree.policies));
     let mut want = String::new(alloc);
-    for (name, rendered) in wants {
-        append_row(rt, &mut want, name, rendered);
+    for (part, rendered) in row.parts {
+        append_row(rt, &mut want, part, rendered);
     }
-    expect_text(rt, got.out.as_str(), want.as_str(), text);
+    expect_text(rt, got.out.as_str(), want.as_str(), row.name);
 }
 
 #[test]
 fn nodes(rt: HostRuntime) {
-    for (text, has_tokens, wants) in &NODES {
-        expect_parts(&rt, rt.alloc(), text, *has_tokens, wants);
+    for row in &NODES {
+        expect_parts(&rt, rt.alloc(), row);
     }
 }

@@ -1,128 +1,192 @@
 //! The policies of a text, one after the other.
 use super::*;
 use cedar_policy_formatter::cst::PolicyReader;
+use cedar_policy_formatter::token::Span;
 
-// What a reader answers: where a policy starts and ends, or the end, or a refusal.
-type Step = Result<Option<(usize, usize)>, FormatError>;
+// What a reader answers: where a policy stands, or the end, or a refusal.
+type Step = Result<Option<Span>, FormatError>;
 
-// Texts, and what their readers answer.
-static READS: [(&str, &[Step]); 5] = [
-    ("", &[Ok(None), Ok(None)]),
-    (
-        "// a\n§; // b\n\n@id(\"x\")\n§;§; // c",
-        &[
-            Ok(Some((5, 39))),
-            Ok(Some((46, 89))),
-            Ok(Some((89, 123))),
+struct Reading {
+    name: &'static str,
+    text: &'static str,
+    steps: &'static [Step],
+}
+
+static READS: [Reading; 5] = [
+    Reading {
+        name: "empty text",
+        text: "",
+        steps: &[Ok(None), Ok(None)],
+    },
+    Reading {
+        name: "three policies and comments",
+        text: r#"// a
+permit(principal,action,resource); // b
+
+@id("x")
+permit(principal,action,resource);permit(principal,action,resource); // c"#,
+        steps: &[
+            Ok(Some(Span { start: 5, end: 39 })),
+            Ok(Some(Span { start: 46, end: 89 })),
+            Ok(Some(Span {
+                start: 89,
+                end: 123,
+            })),
             Ok(None),
             Ok(None),
         ],
-    ),
-    (
-        "§; // b\n§ when;§;",
-        &[
-            Ok(Some((0, 34))),
+    },
+    Reading {
+        name: "refused second policy",
+        text: r#"permit(principal,action,resource); // b
+permit(principal,action,resource) when;permit(principal,action,resource);"#,
+        steps: &[
+            Ok(Some(Span { start: 0, end: 34 })),
             Err(FormatError::Grammar { at: 78 }),
             Err(FormatError::Grammar { at: 78 }),
         ],
-    ),
-    (
-        "§;\n§",
-        &[Ok(Some((0, 34))), Err(FormatError::Grammar { at: 68 })],
-    ),
-    (
-        "§;\n)",
-        &[Ok(Some((0, 34))), Err(FormatError::Grammar { at: 35 })],
-    ),
+    },
+    Reading {
+        name: "second policy without a semicolon",
+        text: r#"permit(principal,action,resource);
+permit(principal,action,resource)"#,
+        steps: &[
+            Ok(Some(Span { start: 0, end: 34 })),
+            Err(FormatError::Grammar { at: 68 }),
+        ],
+    },
+    Reading {
+        name: "bracket behind a policy",
+        text: r#"permit(principal,action,resource);
+)"#,
+        steps: &[
+            Ok(Some(Span { start: 0, end: 34 })),
+            Err(FormatError::Grammar { at: 35 }),
+        ],
+    },
 ];
 
-fn expect_steps(rt: &impl Abort, alloc: Global, text: &str, steps: &[Step]) {
-    let mut reader = PolicyReader::new(text).expect(rt, text);
-    for want in steps {
+fn expect_steps(rt: &impl Abort, alloc: Global, row: &Reading) {
+    let mut reader = PolicyReader::new(row.text).expect(rt, row.name);
+    for want in row.steps {
         let got = match reader.next(alloc) {
-            Ok(Some(policy)) => Ok(Some((policy.span.start, policy.span.end))),
+            Ok(Some(policy)) => Ok(Some(policy.span)),
             Ok(None) => Ok(None),
             Err(refusal) => Err(refusal),
         };
-        assert!(rt; got == *want, "{text}");
+        assert_eq!(rt; got, *want, "{}", row.name);
     }
 }
 
 #[test]
 fn policies_one_by_one(rt: HostRuntime) {
-    for (text, steps) in &READS {
-        let text = expand(&rt, rt.alloc(), text);
-        expect_steps(&rt, rt.alloc(), text.as_str(), steps);
+    for row in &READS {
+        expect_steps(&rt, rt.alloc(), row);
     }
 }
 
-// A text's pieces with the places of their policies, and what is left.
-static PIECES: [(&str, &[(&str, usize, usize)], &str); 3] = [
-    ("// a\n", &[], "// a\n"),
-    (
-        "// a\n§; // b\n\n@id(\"x\")\n§;§; // c",
-        &[
-            ("// a\n§; // b\n", 5, 39),
-            ("\n@id(\"x\")\n§;", 1, 44),
-            ("§; // c", 0, 34),
+// The text of a piece, and the place of its policy there.
+struct Piece {
+    text: &'static str,
+    policy: Span,
+}
+
+// A text, its pieces, and what is left.
+struct Pieces {
+    name: &'static str,
+    text: &'static str,
+    pieces: &'static [Piece],
+    rest: &'static str,
+}
+
+static PIECES: [Pieces; 3] = [
+    Pieces {
+        name: "only a comment",
+        text: r#"// a
+"#,
+        pieces: &[],
+        rest: r#"// a
+"#,
+    },
+    Pieces {
+        name: "three policies and comments",
+        text: r#"// a
+permit(principal,action,resource); // b
+
+@id("x")
+permit(principal,action,resource);permit(principal,action,resource); // c"#,
+        pieces: &[
+            Piece {
+                text: r#"// a
+permit(principal,action,resource); // b
+"#,
+                policy: Span { start: 5, end: 39 },
+            },
+            Piece {
+                text: r#"
+@id("x")
+permit(principal,action,resource);"#,
+                policy: Span { start: 1, end: 44 },
+            },
+            Piece {
+                text: "permit(principal,action,resource); // c",
+                policy: Span { start: 0, end: 34 },
+            },
         ],
-        "",
-    ),
-    ("§; // b\n// c", &[("§; // b\n", 0, 34)], "// c"),
+        rest: "",
+    },
+    Pieces {
+        name: "comments behind a policy",
+        text: r#"permit(principal,action,resource); // b
+// c"#,
+        pieces: &[Piece {
+            text: r#"permit(principal,action,resource); // b
+"#,
+            policy: Span { start: 0, end: 34 },
+        }],
+        rest: "// c",
+    },
 ];
 
-fn expect_pieces(
-    rt: &impl Abort,
-    alloc: Global,
-    text: &str,
-    pieces: &[(&str, usize, usize)],
-    rest: &str,
-) {
-    let mut reader = PolicyReader::new(text).expect(rt, text);
-    for (part, start, end) in pieces {
-        let part = expand(rt, alloc, part);
-        let Some(piece) = reader.next_piece(alloc).expect(rt, text) else {
+fn expect_pieces(rt: &impl Abort, alloc: Global, row: &Pieces) {
+    let mut reader = PolicyReader::new(row.text).expect(rt, row.name);
+    for want in row.pieces {
+        let Some(piece) = reader.next_piece(alloc).expect(rt, row.name) else {
             break;
         };
-        assert!(rt; piece.text == part.as_str(), "{text}");
-        let span = piece.policy.span;
-        assert!(rt; (span.start, span.end) == (*start, *end), "{text}");
+        expect_text(rt, piece.text, want.text, row.name);
+        assert_eq!(rt; piece.policy.span, want.policy, "{}", row.name);
     }
-    assert!(rt; matches!(reader.next_piece(alloc), Ok(None)), "{text}");
-    assert!(rt; reader.rest() == rest, "{text}");
+    assert!(rt;
+        matches!(reader.next_piece(alloc), Ok(None)),
+        "{}",
+        row.name
+    );
+    expect_text(rt, reader.rest(), row.rest, row.name);
 }
 
 #[test]
 fn pieces_one_by_one(rt: HostRuntime) {
-    for (text, pieces, rest) in &PIECES {
-        let text = expand(&rt, rt.alloc(), text);
-        expect_pieces(&rt, rt.alloc(), text.as_str(), pieces, rest);
+    for row in &PIECES {
+        expect_pieces(&rt, rt.alloc(), row);
     }
 }
 
 #[test]
 fn refused_pieces_have_places_of_the_text(rt: HostRuntime) {
-    let text = expand(&rt, rt.alloc(), "§; // b\n§ when;§;");
-    let mut reader = PolicyReader::new(text.as_str()).expect(&rt, text.as_str());
-    let first = reader.next_piece(rt.alloc()).expect(&rt, text.as_str());
+    let text = r#"permit(principal,action,resource); // b
+permit(principal,action,resource) when;permit(principal,action,resource);"#;
+    let mut reader = PolicyReader::new(text).expect(&rt, text);
+    let first = reader.next_piece(rt.alloc()).expect(&rt, text);
     assert!(rt; first.is_some());
     let refusal = reader.next_piece(rt.alloc()).err();
-    expect_refusal(
-        &rt,
-        refusal,
-        Some(FormatError::Grammar { at: 78 }),
-        text.as_str(),
-    );
+    expect_refusal(&rt, refusal, Some(FormatError::Grammar { at: 78 }), text);
 }
 
 #[test]
 fn faults_come_first(rt: HostRuntime) {
-    let text = expand(&rt, rt.alloc(), "§;§; \"x");
-    let refusal = PolicyReader::new(text.as_str()).err();
-    expect_refusal(
-        &rt,
-        refusal,
-        Some(FormatError::UnfinishedString { at: 69 }),
-        text.as_str(),
-    );
+    let text = r#"permit(principal,action,resource);permit(principal,action,resource); "x"#;
+    let refusal = PolicyReader::new(text).err();
+    let want = Some(FormatError::UnfinishedString { at: 69 });
+    expect_refusal(&rt, refusal, want, text);
 }

@@ -308,79 +308,158 @@ fn show_primary(out: &mut String, node: &Node<Primary<'_>>) {
     }
 }
 
-// The expression of a condition.
-static CONDITIONS: [(&str, &str); 25] = [
-    ("§when{007};", "<7@38-41>@38-41"),
-    ("§when{000};", "<0@38-41>@38-41"),
-    (
-        "§when{1+2*3};",
-        "<(1@38-39 + (2@40-41 * 3@42-43)@40-43)@38-43>@38-43",
-    ),
-    (
-        "§when{1-2+3};",
-        "<(1@38-39 - 2@40-41 + 3@42-43)@38-43>@38-43",
-    ),
-    ("§when{ (1) };", "<paren <1@40-41>@40-41@39-42>@39-42"),
-    (
-        "§when{!!context.b(1).c};",
-        "<(Bang(2) context@40-47 .b@48-49@47-49 call <1@50-51>@50-51@49-52 .c@53-54@52-54@40-54)@38-54>@38-54",
-    ),
-    ("§when{-1};", "<(Dash(1) 1@39-40)@38-40>@38-40"),
-    (
-        "§when{1||2&&3||4};",
-        "(<1@38-39>@38-39 || (<2@41-42>@41-42 && <3@44-45>@44-45)@41-45 || <4@47-48>@47-48)@38-48",
-    ),
-    (
-        "§when{if 1 then 2 else 3};",
-        "if(<1@41-42>@41-42,<2@48-49>@48-49,<3@55-56>@55-56)@38-56",
-    ),
-    (
-        "§when{1 is A::B in C::\"d\"};",
-        "<1@38-39 is A::B@43-47 in C@51-52::\"d\"@54-57@51-57>@38-57",
-    ),
-    ("§when{1 is A};", "<1@38-39 is A@43-44>@38-44"),
-    (
-        "§when{1 has a.b};",
-        "<1@38-39 has a@44-45 .b@46-47@45-47@44-47>@38-47",
-    ),
-    ("§when{1 has \"a\"};", "<1@38-39 has \"a\"@44-47>@38-47"),
-    ("§when{1 like \"a\"};", "<1@38-39 like \"a\"@45-48>@38-48"),
-    ("§when{1 < 2};", "<1@38-39 Less 2@42-43>@38-43"),
-    ("§when{1 <= 2};", "<1@38-39 LessEq 2@43-44>@38-44"),
-    ("§when{1 > 2};", "<1@38-39 Greater 2@42-43>@38-43"),
-    ("§when{1 >= 2};", "<1@38-39 GreaterEq 2@43-44>@38-44"),
-    ("§when{1 != 2};", "<1@38-39 NotEq 2@43-44>@38-44"),
-    ("§when{1 == 2};", "<1@38-39 Eq 2@43-44>@38-44"),
-    ("§when{1 in 2};", "<1@38-39 In 2@43-44>@38-44"),
-    (
-        "§when{context[\"k\"]};",
-        "<context@38-45 at \"k\"@46-49@45-50@38-50>@38-50",
-    ),
-    ("§when{a::b()};", "<a::b@38-42 call@42-44@38-44>@38-44"),
-    (
-        "§when{[1,true,]};",
-        "<list <1@39-40>@39-40 <true@41-45>@41-45@38-47>@38-47",
-    ),
-    (
-        "§when{{a:1,\"b\":false}};",
-        "<record a@39-40:<1@41-42>@41-42@39-42 \"b\"@43-46:<false@47-52>@47-52@43-52@38-53>@38-53",
-    ),
+// A text, and its tree as it is printed.
+struct Shape {
+    name: &'static str,
+    text: &'static str,
+    tree: &'static str,
+}
+
+// The trees of the conditions alone.
+static CONDITIONS: [Shape; 25] = [
+    Shape {
+        name: "number with zeros in front",
+        text: "permit(principal,action,resource)when{007};",
+        tree: "<7@38-41>@38-41",
+    },
+    Shape {
+        name: "number of zeros",
+        text: "permit(principal,action,resource)when{000};",
+        tree: "<0@38-41>@38-41",
+    },
+    Shape {
+        name: "sum and product",
+        text: "permit(principal,action,resource)when{1+2*3};",
+        tree: "<(1@38-39 + (2@40-41 * 3@42-43)@40-43)@38-43>@38-43",
+    },
+    Shape {
+        name: "difference and sum",
+        text: "permit(principal,action,resource)when{1-2+3};",
+        tree: "<(1@38-39 - 2@40-41 + 3@42-43)@38-43>@38-43",
+    },
+    Shape {
+        name: "number in brackets",
+        text: "permit(principal,action,resource)when{ (1) };",
+        tree: "<paren <1@40-41>@40-41@39-42>@39-42",
+    },
+    Shape {
+        name: "two signs and a chain of accesses",
+        text: "permit(principal,action,resource)when{!!context.b(1).c};",
+        tree: "<(Bang(2) context@40-47 .b@48-49@47-49 call <1@50-51>@50-51@49-52 .c@53-54@52-54@40-54)@38-54>@38-54",
+    },
+    Shape {
+        name: "minus",
+        text: "permit(principal,action,resource)when{-1};",
+        tree: "<(Dash(1) 1@39-40)@38-40>@38-40",
+    },
+    Shape {
+        name: "or and and",
+        text: "permit(principal,action,resource)when{1||2&&3||4};",
+        tree: "(<1@38-39>@38-39 || (<2@41-42>@41-42 && <3@44-45>@44-45)@41-45 || <4@47-48>@47-48)@38-48",
+    },
+    Shape {
+        name: "if then else",
+        text: "permit(principal,action,resource)when{if 1 then 2 else 3};",
+        tree: "if(<1@41-42>@41-42,<2@48-49>@48-49,<3@55-56>@55-56)@38-56",
+    },
+    Shape {
+        name: "is in",
+        text: r#"permit(principal,action,resource)when{1 is A::B in C::"d"};"#,
+        tree: r#"<1@38-39 is A::B@43-47 in C@51-52::"d"@54-57@51-57>@38-57"#,
+    },
+    Shape {
+        name: "is",
+        text: "permit(principal,action,resource)when{1 is A};",
+        tree: "<1@38-39 is A@43-44>@38-44",
+    },
+    Shape {
+        name: "has a chain of fields",
+        text: "permit(principal,action,resource)when{1 has a.b};",
+        tree: "<1@38-39 has a@44-45 .b@46-47@45-47@44-47>@38-47",
+    },
+    Shape {
+        name: "has before a string",
+        text: r#"permit(principal,action,resource)when{1 has "a"};"#,
+        tree: r#"<1@38-39 has "a"@44-47>@38-47"#,
+    },
+    Shape {
+        name: "like",
+        text: r#"permit(principal,action,resource)when{1 like "a"};"#,
+        tree: r#"<1@38-39 like "a"@45-48>@38-48"#,
+    },
+    Shape {
+        name: "less",
+        text: "permit(principal,action,resource)when{1 < 2};",
+        tree: "<1@38-39 Less 2@42-43>@38-43",
+    },
+    Shape {
+        name: "less or equal",
+        text: "permit(principal,action,resource)when{1 <= 2};",
+        tree: "<1@38-39 LessEq 2@43-44>@38-44",
+    },
+    Shape {
+        name: "greater",
+        text: "permit(principal,action,resource)when{1 > 2};",
+        tree: "<1@38-39 Greater 2@42-43>@38-43",
+    },
+    Shape {
+        name: "greater or equal",
+        text: "permit(principal,action,resource)when{1 >= 2};",
+        tree: "<1@38-39 GreaterEq 2@43-44>@38-44",
+    },
+    Shape {
+        name: "not equal",
+        text: "permit(principal,action,resource)when{1 != 2};",
+        tree: "<1@38-39 NotEq 2@43-44>@38-44",
+    },
+    Shape {
+        name: "equal",
+        text: "permit(principal,action,resource)when{1 == 2};",
+        tree: "<1@38-39 Eq 2@43-44>@38-44",
+    },
+    Shape {
+        name: "in",
+        text: "permit(principal,action,resource)when{1 in 2};",
+        tree: "<1@38-39 In 2@43-44>@38-44",
+    },
+    Shape {
+        name: "index",
+        text: r#"permit(principal,action,resource)when{context["k"]};"#,
+        tree: r#"<context@38-45 at "k"@46-49@45-50@38-50>@38-50"#,
+    },
+    Shape {
+        name: "call of a path",
+        text: "permit(principal,action,resource)when{a::b()};",
+        tree: "<a::b@38-42 call@42-44@38-44>@38-44",
+    },
+    Shape {
+        name: "list with a trailing comma",
+        text: "permit(principal,action,resource)when{[1,true,]};",
+        tree: "<list <1@39-40>@39-40 <true@41-45>@41-45@38-47>@38-47",
+    },
+    Shape {
+        name: "record",
+        text: r#"permit(principal,action,resource)when{{a:1,"b":false}};"#,
+        tree: r#"<record a@39-40:<1@41-42>@41-42@39-42 "b"@43-46:<false@47-52>@47-52@43-52@38-53>@38-53"#,
+    },
 ];
 
-// Whole policies.
-static POLICIES: [(&str, &str); 3] = [
-    (
-        " permit(principal,action,resource) ;",
-        "permit@1-7 (principal@8-17)@8-17 (action@18-24)@18-24 (resource@25-33)@25-33@1-36",
-    ),
-    (
-        "@id(\"x\") @if forbid(principal is A in ?principal,action in [B::\"x\",],resource == ?resource);",
-        "@id@1-3(\"x\"@4-7)@0-8 @if@10-12@9-12 forbid@13-19 (principal@20-29 is A@33-34 In ?Principal@38-48)@20-48 (action@49-55 In list <B@60-61::\"x\"@63-66@60-66>@60-66@59-68)@49-68 (resource@69-77 Eq ?Resource@81-90)@69-90@0-92",
-    ),
-    (
-        "permit(principal is A::B,action == C::\"x\",resource in D::E::\"y\")when{1}unless{2};",
-        "permit@0-6 (principal@7-16 is A::B@20-24)@7-24 (action@25-31 Eq C@35-36::\"x\"@38-41@35-41)@25-41 (resource@42-50 In D::E@54-58::\"y\"@60-63@54-63)@42-63 when@64-68{<1@69-70>@69-70}@64-71 unless@71-77{<2@78-79>@78-79}@71-80@0-81",
-    ),
+static POLICIES: [Shape; 3] = [
+    Shape {
+        name: "bare policy",
+        text: " permit(principal,action,resource) ;",
+        tree: "permit@1-7 (principal@8-17)@8-17 (action@18-24)@18-24 (resource@25-33)@25-33@1-36",
+    },
+    Shape {
+        name: "annotations and scope",
+        text: r#"@id("x") @if forbid(principal is A in ?principal,action in [B::"x",],resource == ?resource);"#,
+        tree: r#"@id@1-3("x"@4-7)@0-8 @if@10-12@9-12 forbid@13-19 (principal@20-29 is A@33-34 In ?Principal@38-48)@20-48 (action@49-55 In list <B@60-61::"x"@63-66@60-66>@60-66@59-68)@49-68 (resource@69-77 Eq ?Resource@81-90)@69-90@0-92"#,
+    },
+    Shape {
+        name: "paths and conditions",
+        text: r#"permit(principal is A::B,action == C::"x",resource in D::E::"y")when{1}unless{2};"#,
+        tree: r#"permit@0-6 (principal@7-16 is A::B@20-24)@7-24 (action@25-31 Eq C@35-36::"x"@38-41@35-41)@25-41 (resource@42-50 In D::E@54-58::"y"@60-63@54-63)@42-63 when@64-68{<1@69-70>@69-70}@64-71 unless@71-77{<2@78-79>@78-79}@71-80@0-81"#,
+    },
 ];
 
 // The policy, or only the expressions of its conditions.
@@ -394,26 +473,25 @@ fn show(out: &mut String, policy: &Node<Policy<'_>>, is_whole: bool) {
     }
 }
 
-fn expect_shape(rt: &impl Abort, alloc: Global, text: &str, is_whole: bool, want: &str) {
-    let tree = parse_policies(alloc, text).expect(rt, text);
+fn expect_shape(rt: &impl Abort, alloc: Global, row: &Shape, is_whole: bool) {
+    let tree = parse_policies(alloc, row.text).expect(rt, row.name);
     let mut out = String::new(alloc);
     for policy in &tree.policies {
         show(&mut out, policy, is_whole);
     }
-    expect_text(rt, out.as_str(), want, text);
+    expect_text(rt, out.as_str(), row.tree, row.name);
 }
 
 #[test]
 fn shapes_of_conditions(rt: HostRuntime) {
-    for (text, want) in &CONDITIONS {
-        let text = expand(&rt, rt.alloc(), text);
-        expect_shape(&rt, rt.alloc(), text.as_str(), false, want);
+    for row in &CONDITIONS {
+        expect_shape(&rt, rt.alloc(), row, false);
     }
 }
 
 #[test]
 fn shapes_of_policies(rt: HostRuntime) {
-    for (text, want) in &POLICIES {
-        expect_shape(&rt, rt.alloc(), text, true, want);
+    for row in &POLICIES {
+        expect_shape(&rt, rt.alloc(), row, true);
     }
 }

@@ -1,61 +1,202 @@
 //! Tokens and comments: where a text doesn't split, what its tokens are, and what they print.
 use super::*;
 use cedar_policy_formatter::lexer::{
-    LexFaultKind, TokenReader, drop_trailing_commas, first_fault, get_token_stream,
+    LexFault, LexFaultKind, TokenReader, drop_trailing_commas, first_fault, get_token_stream,
 };
 use cedar_policy_formatter::token::{Comment, Comments, Span, Token, WrappedToken, get_comment};
 
-static FAULTS: [(&str, Option<(LexFaultKind, usize)>); 18] = [
-    ("a = b", Some((LexFaultKind::UnknownCharacter, 2))),
-    ("\"a\\\n\"", Some((LexFaultKind::UnfinishedString, 0))),
-    ("?principals", None),
-    ("", None),
-    ("// c", None),
-    ("\u{feff}a", Some((LexFaultKind::UnknownCharacter, 0))),
-    ("permit\u{200b}(", Some((LexFaultKind::UnknownCharacter, 6))),
-    ("permit\u{a0}(\u{2028}\u{85}\u{3000})", None),
-    (
-        "permit(principal == User::\"a,action,resource);",
-        Some((LexFaultKind::UnfinishedString, 26)),
-    ),
-    (
-        "permit(principal,action,resource)when{=};",
-        Some((LexFaultKind::UnknownCharacter, 38)),
-    ),
-    (") \"", Some((LexFaultKind::UnfinishedString, 2))),
-    ("a & b", Some((LexFaultKind::UnknownCharacter, 2))),
-    ("a | b", Some((LexFaultKind::UnknownCharacter, 2))),
-    ("?resourc", Some((LexFaultKind::UnknownCharacter, 0))),
-    ("a || b && !c != d", None),
-    ("\"\\é\" \"a\nb\"", None),
-    ("a \"b", Some((LexFaultKind::UnfinishedString, 2))),
-    ("\"a\\\"", Some((LexFaultKind::UnfinishedString, 0))),
+// A text, and the first place where it doesn't split.
+struct Faulty {
+    name: &'static str,
+    text: &'static str,
+    fault: Option<LexFault>,
+}
+
+static FAULTS: [Faulty; 18] = [
+    Faulty {
+        name: "lone equals sign",
+        text: "a = b",
+        fault: Some(LexFault {
+            kind: LexFaultKind::UnknownCharacter,
+            at: 2,
+        }),
+    },
+    Faulty {
+        name: "line feed behind a backslash in a string",
+        text: r#""a\
+""#,
+        fault: Some(LexFault {
+            kind: LexFaultKind::UnfinishedString,
+            at: 0,
+        }),
+    },
+    Faulty {
+        name: "name that begins as a slot",
+        text: "?principals",
+        fault: None,
+    },
+    Faulty {
+        name: "empty text",
+        text: "",
+        fault: None,
+    },
+    Faulty {
+        name: "only a comment",
+        text: "// c",
+        fault: None,
+    },
+    Faulty {
+        name: "byte order mark",
+        text: "\u{feff}a",
+        fault: Some(LexFault {
+            kind: LexFaultKind::UnknownCharacter,
+            at: 0,
+        }),
+    },
+    Faulty {
+        name: "space of no width",
+        text: "permit\u{200b}(",
+        fault: Some(LexFault {
+            kind: LexFaultKind::UnknownCharacter,
+            at: 6,
+        }),
+    },
+    Faulty {
+        name: "blanks beyond ASCII",
+        text: "permit\u{a0}(\u{2028}\u{85}\u{3000})",
+        fault: None,
+    },
+    Faulty {
+        name: "unfinished string in a scope",
+        text: r#"permit(principal == User::"a,action,resource);"#,
+        fault: Some(LexFault {
+            kind: LexFaultKind::UnfinishedString,
+            at: 26,
+        }),
+    },
+    Faulty {
+        name: "equals sign in a condition",
+        text: "permit(principal,action,resource)when{=};",
+        fault: Some(LexFault {
+            kind: LexFaultKind::UnknownCharacter,
+            at: 38,
+        }),
+    },
+    Faulty {
+        name: "lone quote",
+        text: r#") ""#,
+        fault: Some(LexFault {
+            kind: LexFaultKind::UnfinishedString,
+            at: 2,
+        }),
+    },
+    Faulty {
+        name: "lone ampersand",
+        text: "a & b",
+        fault: Some(LexFault {
+            kind: LexFaultKind::UnknownCharacter,
+            at: 2,
+        }),
+    },
+    Faulty {
+        name: "lone bar",
+        text: "a | b",
+        fault: Some(LexFault {
+            kind: LexFaultKind::UnknownCharacter,
+            at: 2,
+        }),
+    },
+    Faulty {
+        name: "slot cut off",
+        text: "?resourc",
+        fault: Some(LexFault {
+            kind: LexFaultKind::UnknownCharacter,
+            at: 0,
+        }),
+    },
+    Faulty {
+        name: "signs of two characters",
+        text: "a || b && !c != d",
+        fault: None,
+    },
+    Faulty {
+        name: "strings with a backslash and a line feed",
+        text: r#""\é" "a
+b""#,
+        fault: None,
+    },
+    Faulty {
+        name: "lone quote behind a name",
+        text: r#"a "b"#,
+        fault: Some(LexFault {
+            kind: LexFaultKind::UnfinishedString,
+            at: 2,
+        }),
+    },
+    Faulty {
+        name: "string that ends behind a backslash",
+        text: r#""a\""#,
+        fault: Some(LexFault {
+            kind: LexFaultKind::UnfinishedString,
+            at: 0,
+        }),
+    },
 ];
 
 #[test]
 fn faults(rt: HostRuntime) {
-    for (text, want) in &FAULTS {
-        let got = first_fault(text).map(|fault| (fault.kind, fault.at));
-        assert_eq!(rt; got, *want, "{text:?}");
+    for row in &FAULTS {
+        assert_eq!(rt; first_fault(row.text), row.fault, "{}", row.name);
     }
 }
 
-// The comments of a text, each with a `;` behind it.
-static COMMENTS: [(&str, &str); 6] = [
-    ("// a \n x // b", "// a;// b;"),
-    ("\"//xy\"", "//xy\";"),
-    ("no / comment /", ""),
-    ("////", "////;"),
-    ("x // a\r// b\r\n//c\u{2028}d ", "// a;// b;//c\u{2028}d;"),
-    ("/// a // b", "/// a // b;"),
+// A text, and what is shown of its tokens or its comments.
+struct Shown {
+    name: &'static str,
+    text: &'static str,
+    shown: &'static str,
+}
+
+// Each comment with a `;` behind it.
+static COMMENTS: [Shown; 6] = [
+    Shown {
+        name: "two comments",
+        text: "// a \n x // b",
+        shown: "// a;// b;",
+    },
+    Shown {
+        name: "slashes in a string",
+        text: r#""//xy""#,
+        shown: r#"//xy";"#,
+    },
+    Shown {
+        name: "lone slashes",
+        text: "no / comment /",
+        shown: "",
+    },
+    Shown {
+        name: "four slashes",
+        text: "////",
+        shown: "////;",
+    },
+    Shown {
+        name: "carriage returns and a line separator",
+        text: "x // a\r// b\r\n//c\u{2028}d ",
+        shown: "// a;// b;//c\u{2028}d;",
+    },
+    Shown {
+        name: "slashes in a comment",
+        text: "/// a // b",
+        shown: "/// a // b;",
+    },
 ];
 
 #[test]
 fn comments(rt: HostRuntime) {
-    for (text, want) in &COMMENTS {
+    for row in &COMMENTS {
         let mut out = String::new(rt.alloc());
-        append_lines(&rt, &mut out, get_comment(text));
-        expect_text(&rt, out.as_str(), want, text);
+        append_lines(&rt, &mut out, get_comment(row.text));
+        expect_text(&rt, out.as_str(), row.shown, row.name);
     }
 }
 
@@ -66,7 +207,7 @@ fn append_lines(rt: &impl Abort, out: &mut String, lines: Comments<'_>) {
 }
 
 // Each token as `[START..END TEXT <COMMENTS>]`, then `|` and each closing comment with a `;`.
-fn shown(
+fn shown_stream(
     rt: &impl Abort,
     alloc: Global,
     tokens: &[WrappedToken<'_>],
@@ -85,61 +226,153 @@ fn shown(
     out
 }
 
-static STREAMS: [(&str, &str); 18] = [
-    (
-        "// a\npermit // b\n// c\n(// d",
-        "[5..11 permit <// a\n// b>][22..23 ( <// c\n// d>]|",
-    ),
-    ("truex 7a", "[0..5 truex <>][6..7 7 <>][7..8 a <>]|"),
-    ("", "|"),
-    ("// c", "|// c;"),
-    ("//a\na", "[4..5 a <//a\n>]|"),
-    ("a // a\n//b\nb//b", "[0..1 a <// a>][11..12 b <//b\n//b>]|"),
-    (
-        "a;// t\r// u\n// v \n w // x // y\r //z",
-        "[0..1 a <>][1..2 ; <// t\r// u>][19..20 w <// v\n// x // y\r //z>]|",
-    ),
-    (";\r// a\r// b\n// c\n", "[0..1 ; <// a\r// b>]|// c;"),
-    ("a\r\n//b\r\nc", "[0..1 a <>][8..9 c <//b\n>]|"),
-    ("a\n// e\r// f \n\"//x", "no split"),
-    ("a\n// e\r// f \n", "[0..1 a <>]|// e;// f;"),
-    ("\u{feff}a", "no split"),
-    ("é\u{a0}", "no split"),
-    ("permit\u{a0}(", "[0..6 permit <>][8..9 ( <>]|"),
-    (";// a\u{2028}b", "[0..1 ; <// a\u{2028}b>]|"),
-    ("a//é\n\u{2028}\"é\"", "[0..1 a <//é>][9..13 \"é\" <>]|"),
-    ("\"a\n//b\"", "[0..7 \"a\n//b\" <>]|"),
-    (
-        "a==b<=c<d:::",
-        "[0..1 a <>][1..3 == <>][3..4 b <>][4..6 <= <>][6..7 c <>][7..8 < <>][8..9 d <>][9..11 :: <>][11..12 : <>]|",
-    ),
+static STREAMS: [Shown; 18] = [
+    Shown {
+        name: "leading and trailing comments",
+        text: r#"// a
+permit // b
+// c
+(// d"#,
+        shown: r#"[5..11 permit <// a
+// b>][22..23 ( <// c
+// d>]|"#,
+    },
+    Shown {
+        name: "words and numbers side by side",
+        text: "truex 7a",
+        shown: "[0..5 truex <>][6..7 7 <>][7..8 a <>]|",
+    },
+    Shown {
+        name: "empty text",
+        text: "",
+        shown: "|",
+    },
+    Shown {
+        name: "only a comment",
+        text: "// c",
+        shown: "|// c;",
+    },
+    Shown {
+        name: "comment before a token",
+        text: r#"//a
+a"#,
+        shown: r#"[4..5 a <//a
+>]|"#,
+    },
+    Shown {
+        name: "comments behind and between",
+        text: r#"a // a
+//b
+b//b"#,
+        shown: r#"[0..1 a <// a>][11..12 b <//b
+//b>]|"#,
+    },
+    Shown {
+        name: "carriage returns between comments",
+        text: "a;// t\r// u\n// v \n w // x // y\r //z",
+        shown: "[0..1 a <>][1..2 ; <// t\r// u>][19..20 w <// v\n// x // y\r //z>]|",
+    },
+    Shown {
+        name: "carriage returns before a closing comment",
+        text: ";\r// a\r// b\n// c\n",
+        shown: "[0..1 ; <// a\r// b>]|// c;",
+    },
+    Shown {
+        name: "carriage returns before line feeds",
+        text: "a\r\n//b\r\nc",
+        shown: r#"[0..1 a <>][8..9 c <//b
+>]|"#,
+    },
+    Shown {
+        name: "unfinished string behind slashes",
+        text: "a\n// e\r// f \n\"//x",
+        shown: "no split",
+    },
+    Shown {
+        name: "two closing comments",
+        text: "a\n// e\r// f \n",
+        shown: "[0..1 a <>]|// e;// f;",
+    },
+    Shown {
+        name: "byte order mark",
+        text: "\u{feff}a",
+        shown: "no split",
+    },
+    Shown {
+        name: "letter beyond ASCII",
+        text: "é\u{a0}",
+        shown: "no split",
+    },
+    Shown {
+        name: "no-break space",
+        text: "permit\u{a0}(",
+        shown: "[0..6 permit <>][8..9 ( <>]|",
+    },
+    Shown {
+        name: "line separator in a comment",
+        text: ";// a\u{2028}b",
+        shown: "[0..1 ; <// a\u{2028}b>]|",
+    },
+    Shown {
+        name: "letters beyond ASCII in a comment and a string",
+        text: "a//é\n\u{2028}\"é\"",
+        shown: r#"[0..1 a <//é>][9..13 "é" <>]|"#,
+    },
+    Shown {
+        name: "slashes in a string",
+        text: r#""a
+//b""#,
+        shown: r#"[0..7 "a
+//b" <>]|"#,
+    },
+    Shown {
+        name: "signs side by side",
+        text: "a==b<=c<d:::",
+        shown: "[0..1 a <>][1..3 == <>][3..4 b <>][4..6 <= <>][6..7 c <>][7..8 < <>][8..9 d <>][9..11 :: <>][11..12 : <>]|",
+    },
 ];
 
 #[test]
 fn streams(rt: HostRuntime) {
-    for (text, want) in &STREAMS {
-        expect_stream(&rt, rt.alloc(), text, false, want);
+    for row in &STREAMS {
+        expect_stream(&rt, rt.alloc(), row, false);
     }
 }
 
 // The stream of the text, `plain` without its trailing commas.
-fn expect_stream(rt: &impl Abort, alloc: Global, text: &str, plain: bool, want: &str) {
-    let stream = get_token_stream(alloc, text).expect(rt, text);
+fn expect_stream(rt: &impl Abort, alloc: Global, row: &Shown, plain: bool) {
+    let stream = get_token_stream(alloc, row.text).expect(rt, row.name);
     let Some((mut tokens, closing)) = stream else {
-        expect_text(rt, "no split", want, text);
+        expect_text(rt, "no split", row.shown, row.name);
         return;
     };
     if plain {
-        drop_trailing_commas(alloc, &mut tokens).expect(rt, text);
+        drop_trailing_commas(alloc, &mut tokens).expect(rt, row.name);
     }
-    expect_text(rt, shown(rt, alloc, &tokens, closing).as_str(), want, text);
+    let got = shown_stream(rt, alloc, &tokens, closing);
+    expect_text(rt, got.as_str(), row.shown, row.name);
 }
 
-// The kinds of a text's tokens, each with a space behind it.
-static KINDS: [(&str, &str); 3] = [
-    ("// a\npermit // b\n// c\n(// d", "Permit LParen "),
-    ("truex 7a", "Identifier Number Identifier "),
-    ("\"permit\" permits", "Str Identifier "),
+// The kinds of the tokens, each with a space behind it.
+static KINDS: [Shown; 3] = [
+    Shown {
+        name: "keyword and bracket",
+        text: r#"// a
+permit // b
+// c
+(// d"#,
+        shown: "Permit LParen ",
+    },
+    Shown {
+        name: "words and numbers side by side",
+        text: "truex 7a",
+        shown: "Identifier Number Identifier ",
+    },
+    Shown {
+        name: "keyword in a string, and a longer word",
+        text: r#""permit" permits"#,
+        shown: "Str Identifier ",
+    },
 ];
 
 fn kind_name(token: &Token) -> &'static str {
@@ -153,90 +386,155 @@ fn kind_name(token: &Token) -> &'static str {
     }
 }
 
-fn expect_kinds(rt: &impl Abort, alloc: Global, text: &str, want: &str) {
-    let stream = get_token_stream(alloc, text).expect(rt, text);
-    let (tokens, _closing) = stream.expect(rt, text);
+fn expect_kinds(rt: &impl Abort, alloc: Global, row: &Shown) {
+    let stream = get_token_stream(alloc, row.text).expect(rt, row.name);
+    let (tokens, _closing) = stream.expect(rt, row.name);
     let mut out = String::new(alloc);
     for token in &tokens {
         let name = kind_name(&token.token);
-        write!(out, "{name} ").expect(rt, "memory");
+        write!(out, "{name} ").expect(rt, row.name);
     }
-    expect_text(rt, out.as_str(), want, text);
+    expect_text(rt, out.as_str(), row.shown, row.name);
 }
 
 #[test]
 fn kinds(rt: HostRuntime) {
-    for (text, want) in &KINDS {
-        expect_kinds(&rt, rt.alloc(), text, want);
+    for row in &KINDS {
+        expect_kinds(&rt, rt.alloc(), row);
     }
 }
 
 #[test]
 fn streams_token_by_token(rt: HostRuntime) {
-    for (text, want) in &STREAMS {
-        expect_given(&rt, rt.alloc(), text, want);
+    for row in &STREAMS {
+        expect_given(&rt, rt.alloc(), row);
     }
 }
 
 // A reader gives the tokens of the text's stream, then none, again and again, and at any time the same closing comments.
-fn expect_given(rt: &impl Abort, alloc: Global, text: &str, want: &str) {
-    let stream = get_token_stream(alloc, text).expect(rt, text);
+fn expect_given(rt: &impl Abort, alloc: Global, row: &Shown) {
+    let (text, name) = (row.text, row.name);
+    let stream = get_token_stream(alloc, text).expect(rt, name);
     let Some((tokens, _)) = stream else {
-        assert!(rt; TokenReader::new(text).is_none(), "{text}");
+        assert!(rt; TokenReader::new(text).is_none(), "{name}");
         return;
     };
-    let mut reader = TokenReader::new(text).expect(rt, text);
+    let mut reader = TokenReader::new(text).expect(rt, name);
     for token in &tokens {
-        let shown = shown(rt, alloc, &tokens, reader.closing());
-        expect_text(rt, shown.as_str(), want, text);
-        let given = reader.next(alloc).expect(rt, text);
-        expect_equal(rt, &given.expect(rt, text), token, true);
+        let got = shown_stream(rt, alloc, &tokens, reader.closing());
+        expect_text(rt, got.as_str(), row.shown, name);
+        let given = reader.next(alloc).expect(rt, name);
+        expect_equal(rt, &given.expect(rt, name), token, true);
     }
     for _ in 0..2 {
-        assert!(rt; reader.next(alloc).expect(rt, text).is_none(), "{text}");
+        assert!(rt; reader.next(alloc).expect(rt, name).is_none(), "{name}");
     }
-    let shown = shown(rt, alloc, &tokens, reader.closing());
-    expect_text(rt, shown.as_str(), want, text);
+    let got = shown_stream(rt, alloc, &tokens, reader.closing());
+    expect_text(rt, got.as_str(), row.shown, name);
 }
 
-// Texts, and their streams without trailing commas. A comma's trailing text stays on the token before it, where no comment
-// stands between the two; else all its comments lead the bracket, before the bracket's own lines.
-static COMMAS: [(&str, &str); 14] = [
-    ("(a,)", "[0..1 ( <>][1..2 a <>][3..4 ) <>]|"),
-    (
-        "[1,2,]==[]",
-        "[0..1 [ <>][1..2 1 <>][2..3 , <>][3..4 2 <>][5..6 ] <>][6..8 == <>][8..9 [ <>][9..10 ] <>]|",
-    ),
-    (
-        "f({a:1,},)",
-        "[0..1 f <>][1..2 ( <>][2..3 { <>][3..4 a <>][4..5 : <>][5..6 1 <>][7..8 } <>][9..10 ) <>]|",
-    ),
-    (",", "[0..1 , <>]|"),
-    (",,)", "[0..1 , <>][2..3 ) <>]|"),
-    (",) // x", "[1..2 ) <// x>]|"),
+// The streams without trailing commas.
+static COMMAS: [Shown; 14] = [
+    Shown {
+        name: "comma before a bracket",
+        text: "(a,)",
+        shown: "[0..1 ( <>][1..2 a <>][3..4 ) <>]|",
+    },
+    Shown {
+        name: "comma in a list",
+        text: "[1,2,]==[]",
+        shown: "[0..1 [ <>][1..2 1 <>][2..3 , <>][3..4 2 <>][5..6 ] <>][6..8 == <>][8..9 [ <>][9..10 ] <>]|",
+    },
+    Shown {
+        name: "commas in a record and a call",
+        text: "f({a:1,},)",
+        shown: "[0..1 f <>][1..2 ( <>][2..3 { <>][3..4 a <>][4..5 : <>][5..6 1 <>][7..8 } <>][9..10 ) <>]|",
+    },
+    Shown {
+        name: "only a comma",
+        text: ",",
+        shown: "[0..1 , <>]|",
+    },
+    Shown {
+        name: "two commas",
+        text: ",,)",
+        shown: "[0..1 , <>][2..3 ) <>]|",
+    },
+    Shown {
+        name: "comma before a commented bracket",
+        text: ",) // x",
+        shown: "[1..2 ) <// x>]|",
+    },
     // The comma's trailing text stays on the token before it, where no comment stands between the two.
-    ("r, // r\n)", "[0..1 r <// r>][8..9 ) <>]|"),
+    Shown {
+        name: "comment of the comma alone",
+        text: r#"r, // r
+)"#,
+        shown: "[0..1 r <// r>][8..9 ) <>]|",
+    },
     // Else all its comments lead the bracket, before the bracket's own lines.
-    (
-        "r // a\n// b\n, // c\n// d\n)",
-        "[0..1 r <// a>][24..25 ) <// b\n// c\n// d\n>]|",
-    ),
-    ("1 // a\n, // b\n]", "[0..1 1 <// a>][14..15 ] <// b\n>]|"),
-    (
-        "r\n// b\n, // c\r// d\n} // e",
-        "[0..1 r <>][19..20 } <// b\n// c\n// d\n// e>]|",
-    ),
+    Shown {
+        name: "comments of the token, the comma and the bracket",
+        text: r#"r // a
+// b
+, // c
+// d
+)"#,
+        shown: r#"[0..1 r <// a>][24..25 ) <// b
+// c
+// d
+>]|"#,
+    },
+    Shown {
+        name: "comments of the token and the comma",
+        text: r#"1 // a
+, // b
+]"#,
+        shown: r#"[0..1 1 <// a>][14..15 ] <// b
+>]|"#,
+    },
+    Shown {
+        name: "comment on the line of the bracket",
+        text: "r\n// b\n, // c\r// d\n} // e",
+        shown: r#"[0..1 r <>][19..20 } <// b
+// c
+// d
+// e>]|"#,
+    },
     // The first token has none before it.
-    ("// a\n, // b\n// c\n)", "[17..18 ) <// a\n// b\n// c\n>]|"),
-    ("(, // b\n)", "[0..1 ( <// b>][8..9 ) <>]|"),
-    ("a,b", "[0..1 a <>][1..2 , <>][2..3 b <>]|"),
-    ("", "|"),
+    Shown {
+        name: "comma without a token before it",
+        text: r#"// a
+, // b
+// c
+)"#,
+        shown: r#"[17..18 ) <// a
+// b
+// c
+>]|"#,
+    },
+    Shown {
+        name: "comma behind a bracket",
+        text: r#"(, // b
+)"#,
+        shown: "[0..1 ( <// b>][8..9 ) <>]|",
+    },
+    Shown {
+        name: "comma between",
+        text: "a,b",
+        shown: "[0..1 a <>][1..2 , <>][2..3 b <>]|",
+    },
+    Shown {
+        name: "empty text",
+        text: "",
+        shown: "|",
+    },
 ];
 
 #[test]
 fn trailing_commas(rt: HostRuntime) {
-    for (text, want) in &COMMAS {
-        expect_stream(&rt, rt.alloc(), text, true, want);
+    for row in &COMMAS {
+        expect_stream(&rt, rt.alloc(), row, true);
     }
 }
 
@@ -360,51 +658,185 @@ fn comments_moved_out(rt: HostRuntime) {
     expect_equal(&rt, &token, &empty, true);
 }
 
-// Two texts of one token, and whether the tokens without their comments are equal, the comments, and all with the places.
-static EQUALS: [(&str, &str, (bool, bool, bool)); 11] = [
-    ("// a\n, // t", "// a\n, // t", (true, true, true)),
-    ("// a\n, // t", "// a\n, // u", (true, false, false)),
-    ("// a\n, // t", "// a\n,", (true, false, false)),
-    ("// a\n, // t", "// b\n, // t", (true, false, false)),
-    ("// a\n, // t", "    \n, // t", (true, false, false)),
-    ("// a\n, // t", "// a\n , // t", (true, true, false)),
-    ("// a\n, // t", "// a\n; // t", (false, true, false)),
-    ("a", "b", (false, true, false)),
-    ("1", "2", (false, true, false)),
-    ("\"a\"", "\"b\"", (false, true, false)),
-    ("a", "1", (false, true, false)),
+// Whether two tokens without their comments are equal, their comments, and all with the places.
+#[derive(Clone, Copy)]
+struct Equal {
+    tokens: bool,
+    comments: bool,
+    all: bool,
+}
+
+const EQUAL: Equal = Equal {
+    tokens: true,
+    comments: true,
+    all: true,
+};
+
+// Two texts of one token.
+struct Pair {
+    name: &'static str,
+    first: &'static str,
+    second: &'static str,
+    equal: Equal,
+}
+
+static EQUALS: [Pair; 11] = [
+    Pair {
+        name: "same",
+        first: r#"// a
+, // t"#,
+        second: r#"// a
+, // t"#,
+        equal: EQUAL,
+    },
+    Pair {
+        name: "other trailing text",
+        first: r#"// a
+, // t"#,
+        second: r#"// a
+, // u"#,
+        equal: Equal {
+            comments: false,
+            all: false,
+            ..EQUAL
+        },
+    },
+    Pair {
+        name: "no trailing text",
+        first: r#"// a
+, // t"#,
+        second: r#"// a
+,"#,
+        equal: Equal {
+            comments: false,
+            all: false,
+            ..EQUAL
+        },
+    },
+    Pair {
+        name: "other leading line",
+        first: r#"// a
+, // t"#,
+        second: r#"// b
+, // t"#,
+        equal: Equal {
+            comments: false,
+            all: false,
+            ..EQUAL
+        },
+    },
+    Pair {
+        name: "no leading line",
+        first: r#"// a
+, // t"#,
+        second: "    \n, // t",
+        equal: Equal {
+            comments: false,
+            all: false,
+            ..EQUAL
+        },
+    },
+    Pair {
+        name: "other place",
+        first: r#"// a
+, // t"#,
+        second: r#"// a
+ , // t"#,
+        equal: Equal {
+            all: false,
+            ..EQUAL
+        },
+    },
+    Pair {
+        name: "other sign",
+        first: r#"// a
+, // t"#,
+        second: r#"// a
+; // t"#,
+        equal: Equal {
+            tokens: false,
+            all: false,
+            ..EQUAL
+        },
+    },
+    Pair {
+        name: "names",
+        first: "a",
+        second: "b",
+        equal: Equal {
+            tokens: false,
+            all: false,
+            ..EQUAL
+        },
+    },
+    Pair {
+        name: "numbers",
+        first: "1",
+        second: "2",
+        equal: Equal {
+            tokens: false,
+            all: false,
+            ..EQUAL
+        },
+    },
+    Pair {
+        name: "strings",
+        first: r#""a""#,
+        second: r#""b""#,
+        equal: Equal {
+            tokens: false,
+            all: false,
+            ..EQUAL
+        },
+    },
+    Pair {
+        name: "name and number",
+        first: "a",
+        second: "1",
+        equal: Equal {
+            tokens: false,
+            all: false,
+            ..EQUAL
+        },
+    },
 ];
 
 fn expect_equality(
     rt: &impl Abort,
     a: &WrappedToken<'_>,
     b: &WrappedToken<'_>,
-    want: (bool, bool, bool),
+    want: Equal,
+    name: &str,
 ) {
     let got = (a.token == b.token, a.comment == b.comment, a == b);
-    assert_eq!(rt; got, want, "{a} {b}");
+    let want = (want.tokens, want.comments, want.all);
+    assert_eq!(rt; got, want, "{name}");
 }
 
-fn expect_equals(rt: &impl Abort, alloc: Global, a: &str, b: &str, want: (bool, bool, bool)) {
-    let first = last_token(rt, alloc, a, 0);
-    let second = last_token(rt, alloc, b, 0);
-    expect_equality(rt, &first, &second, want);
-    expect_equality(rt, &second, &first, want);
-    let copy = first.clone().expect(rt, a);
-    expect_equality(rt, &first, &copy, (true, true, true));
+fn expect_equals(rt: &impl Abort, alloc: Global, row: &Pair) {
+    let first = last_token(rt, alloc, row.first, 0);
+    let second = last_token(rt, alloc, row.second, 0);
+    expect_equality(rt, &first, &second, row.equal, row.name);
+    expect_equality(rt, &second, &first, row.equal, row.name);
+    let copy = first.clone().expect(rt, row.name);
+    expect_equality(rt, &first, &copy, EQUAL, row.name);
     let span = Span {
         start: first.span.start,
         end: 99,
     };
     let longer = WrappedToken::new(copy.token, span, copy.comment);
-    expect_equality(rt, &first, &longer, (true, true, false));
+    let elsewhere = Equal {
+        all: false,
+        ..EQUAL
+    };
+    expect_equality(rt, &first, &longer, elsewhere, row.name);
 }
 
 // Each token is equal to its clone, and not to one that ends at another place.
 #[test]
 fn equal_tokens(rt: HostRuntime) {
-    for (a, b, want) in &EQUALS {
-        expect_equals(&rt, rt.alloc(), a, b, *want);
+    for row in &EQUALS {
+        expect_equals(&rt, rt.alloc(), row);
     }
 }
 

@@ -1,0 +1,48 @@
+//! What the rows of tests are made of: texts with their layouts, and long texts in parts.
+//! Only a test may end on a wrong answer, so the assertions stand in the crates of tests.
+#![tactic(auto)]
+
+use std::alloc::{AllocError, Global};
+
+/// A text and its layout at a width and an indentation.
+#[derive(Clone, Copy)]
+pub struct Row {
+    /// What the row shows.
+    pub name: &'static str,
+    pub text: &'static str,
+    pub layout: &'static str,
+    pub width: usize,
+    pub indent: isize,
+}
+
+/// What a row has that says nothing else: the default width and indentation.
+pub const ROW: Row = Row {
+    name: "",
+    text: "",
+    layout: "",
+    width: 80,
+    indent: 2,
+};
+
+/// A part of a long text.
+#[derive(Clone, Copy)]
+pub enum Part {
+    Once(&'static str),
+    /// The text so many times.
+    Times(usize, &'static str),
+}
+
+/// The parts, one behind the other.
+pub fn joined(alloc: Global, parts: &[Part]) -> Result<String, AllocError> {
+    let mut out = String::new(alloc);
+    for part in parts {
+        let (times, text) = match part {
+            Part::Once(text) => (1, *text),
+            Part::Times(times, text) => (*times, *text),
+        };
+        for _ in 0..times {
+            out.push_str(text)?;
+        }
+    }
+    Ok(out)
+}
