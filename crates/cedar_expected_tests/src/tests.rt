@@ -49,6 +49,7 @@ const ROW: Row = Row {
 };
 
 static ROWS: [Row; 38] = [
+    // Scopes and annotations.
     Row {
         name: "end behind the scope",
         text: "permit(principal,action,resource)",
@@ -137,6 +138,7 @@ static ROWS: [Row; 38] = [
         message: "expected a string, found 'b'",
         ..ROW
     },
+    // Between policies, and after a scope.
     Row {
         name: "bracket behind a policy",
         text: "permit(principal,action,resource); )",
@@ -196,6 +198,7 @@ permit(principal,action,resource) when { true } 1;"#,
         message: "expected a condition or ';', found '1'",
         ..ROW
     },
+    // Conditions.
     Row {
         name: "empty condition",
         text: "permit(principal,action,resource)when{};",

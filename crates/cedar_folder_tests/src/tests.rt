@@ -13,6 +13,13 @@ const LAID_OUT: &str = "permit (principal, action, resource);\n";
 
 const REFUSED: &str = "permit(principal,action,resource) when { 1 + };";
 
+const REPORT: &str = r#"packed: unformatted
+formatted: formatted
+refused: refused
+nowhere: unread
+other: unformatted
+"#;
+
 // The names of the files, with one that isn't there.
 fn names(alloc: Global) -> Result<Vec<String>, AllocError> {
     let mut names = Vec::new(alloc);
@@ -59,11 +66,7 @@ fn expect_report(rt: &impl Abort, folder: &Memory, wanted: &str) {
 #[test]
 fn files_are_replaced(rt: HostRuntime) -> Result<(), AllocError> {
     let folder = run(rt.alloc(), 0, false)?;
-    expect_report(
-        &rt,
-        &folder,
-        "packed: unformatted\nformatted: formatted\nrefused: refused\nnowhere: unread\nother: unformatted\n",
-    );
+    expect_report(&rt, &folder, REPORT);
     expect_file(&rt, &folder, "packed", LAID_OUT);
     expect_file(&rt, &folder, "formatted", LAID_OUT);
     expect_file(&rt, &folder, "refused", REFUSED);
@@ -76,11 +79,7 @@ fn files_are_replaced(rt: HostRuntime) -> Result<(), AllocError> {
 #[test]
 fn a_check_changes_nothing(rt: HostRuntime) -> Result<(), AllocError> {
     let folder = run(rt.alloc(), 0, true)?;
-    expect_report(
-        &rt,
-        &folder,
-        "packed: unformatted\nformatted: formatted\nrefused: refused\nnowhere: unread\nother: unformatted\n",
-    );
+    expect_report(&rt, &folder, REPORT);
     expect_file(&rt, &folder, "packed", PACKED);
     expect_file(&rt, &folder, "other", PACKED);
     assert_eq!(rt; folder.len(), 5);

@@ -424,7 +424,7 @@ fn expect_given(rt: &impl Abort, alloc: Global, row: &Shown) {
         let got = shown_stream(rt, alloc, &tokens, reader.closing());
         expect_text(rt, got.as_str(), row.shown, name);
         let given = reader.next(alloc).expect(rt, name);
-        expect_equal(rt, &given.expect(rt, name), token, true);
+        expect_equal(rt, &given.expect(rt, name), token, true, name);
     }
     for _ in 0..2 {
         assert!(rt; reader.next(alloc).expect(rt, name).is_none(), "{name}");
@@ -628,8 +628,14 @@ fn expect_printed(
     expect_text(rt, printed.as_str(), want.as_str(), text);
 }
 
-fn expect_equal(rt: &impl Abort, a: &WrappedToken<'_>, b: &WrappedToken<'_>, want: bool) {
-    assert_eq!(rt; a == b, want);
+fn expect_equal(
+    rt: &impl Abort,
+    a: &WrappedToken<'_>,
+    b: &WrappedToken<'_>,
+    want: bool,
+    name: &str,
+) {
+    assert_eq!(rt; a == b, want, "{name}: {a} and {b}");
 }
 
 #[test]
@@ -641,7 +647,7 @@ fn comments_moved_out(rt: HostRuntime) {
     expect_text(&rt, printed.as_str(), "// a\n// b\n// t", "comment");
     let mut token = WrappedToken::new(Token::Comma, span, comment);
     let copy = token.clone().expect(&rt, "memory");
-    expect_equal(&rt, &copy, &token, true);
+    expect_equal(&rt, &copy, &token, true, "copy");
     let lines = token.consume_leading_comment();
     expect_text(
         &rt,
@@ -649,13 +655,13 @@ fn comments_moved_out(rt: HostRuntime) {
         "// t",
         "trailing text",
     );
-    expect_equal(&rt, &copy, &token, false);
+    expect_equal(&rt, &copy, &token, false, "without its lines");
     let mut token = WrappedToken::new(Token::Comma, span, Comment::from_parts(lines, "// t"));
-    expect_equal(&rt, &copy, &token, true);
+    expect_equal(&rt, &copy, &token, true, "with its lines again");
     let taken = token.consume_comment();
     assert!(rt; taken == copy.comment);
     let empty = WrappedToken::new(Token::Comma, span, Comment::empty(alloc));
-    expect_equal(&rt, &token, &empty, true);
+    expect_equal(&rt, &token, &empty, true, "without its comment");
 }
 
 // Whether two tokens without their comments are equal, their comments, and all with the places.
@@ -810,7 +816,7 @@ fn expect_equality(
 ) {
     let got = (a.token == b.token, a.comment == b.comment, a == b);
     let want = (want.tokens, want.comments, want.all);
-    assert_eq!(rt; got, want, "{name}");
+    assert_eq!(rt; got, want, "{name}: {a} and {b}");
 }
 
 fn expect_equals(rt: &impl Abort, alloc: Global, row: &Pair) {

@@ -12,6 +12,7 @@ struct Pair {
 }
 
 static PAIRS: [Pair; 51] = [
+    // Scopes and annotations.
     Pair {
         name: "blanks in a scope",
         first: "permit(principal,action,resource);",
@@ -78,6 +79,7 @@ static PAIRS: [Pair; 51] = [
         second: r#"permit(principal,action in [A::"a"],resource);"#,
         same: Some(false),
     },
+    // Conditions.
     Pair {
         name: "when and unless",
         first: "permit(principal,action,resource)when{1};",
@@ -264,6 +266,7 @@ static PAIRS: [Pair; 51] = [
         second: "permit(principal,action,resource)when{action};",
         same: Some(false),
     },
+    // Texts of several lines.
     Pair {
         name: "lines of blanks in a string",
         first: "permit (principal, action, resource)\n        when { \"\n        \n        a\n        \" };",
@@ -302,6 +305,7 @@ permit (principal, action, resource)
 when { "b"};"#,
         same: Some(true),
     },
+    // More of scopes, conditions and annotations, and refused texts.
     Pair {
         name: "equal and in before a slot",
         first: "permit(principal in ?principal,action,resource);",

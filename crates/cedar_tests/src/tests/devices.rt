@@ -156,6 +156,7 @@ const RUN: Run<'static> = Run {
 };
 
 static RUNS: [Run<'static>; 11] = [
+    // Runs that succeed.
     Run {
         name: "at once",
         written: r#"permit (principal, action, resource);
@@ -176,6 +177,7 @@ static RUNS: [Run<'static>; 11] = [
         written: "\n",
         ..RUN
     },
+    // Reads and writes that fail.
     Run {
         name: "no first read",
         reading: Device {
@@ -236,6 +238,7 @@ static RUNS: [Run<'static>; 11] = [
         writer_fails: true,
         ..RUN
     },
+    // Refused texts.
     Run {
         name: "no UTF-8",
         text: &[255],

@@ -68,6 +68,7 @@ fn expect_call<R: Files + AllocGlobal + Abort>(rt: &R, call: &Call) -> Result<()
 }
 
 static FORMATS: [Call; 19] = [
+    // Layouts.
     Call {
         name: "default width",
         output: r#"permit (principal, action, resource);
@@ -158,6 +159,7 @@ static FORMATS: [Call; 19] = [
         status: 1,
         ..CALL
     },
+    // Checks, and the long words.
     Call {
         name: "check of a layout",
         words: &["cedar", "format", "--check"],

@@ -21,13 +21,13 @@ fn same_tokens(a: &[WrappedToken<'_>], b: &[WrappedToken<'_>]) -> bool {
 
 // Whether the tokens of `a` without trailing commas are those of `b`, with their comments, and the closing comments too.
 fn same_list(rt: &impl Abort, alloc: Global, a: &str, b: &str) -> bool {
-    let stream = get_token_stream(alloc, a).expect(rt, "memory");
+    let stream = get_token_stream(alloc, a).expect(rt, a);
     let (mut tokens, closing) = stream.expect(rt, a);
-    let stream = get_token_stream(alloc, b).expect(rt, "memory");
+    let stream = get_token_stream(alloc, b).expect(rt, b);
     let (others, ending) = stream.expect(rt, b);
-    drop_trailing_commas(alloc, &mut tokens).expect(rt, "memory");
-    let lines: Vec<&str> = closing.collect(alloc).expect(rt, "memory");
-    let ends: Vec<&str> = ending.collect(alloc).expect(rt, "memory");
+    drop_trailing_commas(alloc, &mut tokens).expect(rt, a);
+    let lines: Vec<&str> = closing.collect(alloc).expect(rt, a);
+    let ends: Vec<&str> = ending.collect(alloc).expect(rt, b);
     same_tokens(&tokens, &others) && lines == ends
 }
 
