@@ -479,8 +479,11 @@ fn expect_type(rt: &impl Abort, alloc: Global, text: &str, want: &str) {
 
 #[test]
 fn a_type_with_a_comment(rt: HostRuntime) {
-    let text = "permit(principal is A // x\n::B,action,resource);";
-    expect_type(&rt, rt.alloc(), text, "A // x\n::B");
+    let text = r#"permit(principal is A // x
+::B,action,resource);"#;
+    let want = r#"A // x
+::B"#;
+    expect_type(&rt, rt.alloc(), text, want);
 }
 
 // A text, whether the context has its tokens, and each part of a type that has a document with `none`, or what it is

@@ -203,7 +203,6 @@ static RUNS: [Run<'static>; 11] = [
         reading: Device {
             most: 5,
             fails_at: 2,
-            ..DEVICE
         },
         answer: Err(RunFault::Read),
         reader_fails: true,
@@ -224,7 +223,6 @@ static RUNS: [Run<'static>; 11] = [
         writing: Device {
             most: 5,
             fails_at: 2,
-            ..DEVICE
         },
         answer: Err(RunFault::Write),
         writer_fails: true,
@@ -345,7 +343,6 @@ static CHECKS: [Check; 7] = [
         },
         answer: Err(RunFault::Read),
         reader_fails: true,
-        ..CHECK
     },
     Check {
         name: "no read in mid-stream",
@@ -354,11 +351,9 @@ static CHECKS: [Check; 7] = [
         reading: Device {
             most: 5,
             fails_at: 3,
-            ..DEVICE
         },
         answer: Err(RunFault::Read),
         reader_fails: true,
-        ..CHECK
     },
 ];
 

@@ -633,7 +633,6 @@ when
 "#,
         width: 0,
         indent: -3,
-        ..ROW
     },
     Row {
         name: "brackets at the least indentation",
@@ -648,7 +647,6 @@ when
 "#,
         width: 0,
         indent: isize::MIN,
-        ..ROW
     },
     Row {
         name: "largest width",
@@ -734,7 +732,6 @@ when
 "#,
         width: 37,
         indent: 0,
-        ..ROW
     },
 ];
 
