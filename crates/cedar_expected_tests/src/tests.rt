@@ -22,7 +22,7 @@ const EXPRESSIONS: &str =
 
 const OPERATORS: &str = "+ - * < <= > >= != == in has like is && ||";
 
-// A refused text, with so many `(` behind it, where it is refused, the token that stands there, and what is said of it.
+// A refused text, with so many `(` after it, where it is refused, the token that stands there, and what is said of it.
 struct Row {
     name: &'static str,
     text: &'static str,
@@ -51,7 +51,7 @@ const ROW: Row = Row {
 static ROWS: [Row; 38] = [
     // Scopes and annotations.
     Row {
-        name: "end behind the scope",
+        name: "end after the scope",
         text: "permit(principal,action,resource)",
         at: 33,
         kinds: "when unless ;",
@@ -68,7 +68,7 @@ static ROWS: [Row; 38] = [
         ..ROW
     },
     Row {
-        name: "no comma behind the principal",
+        name: "no comma after the principal",
         text: "permit(principal action",
         at: 17,
         found: Some("action"),
@@ -95,7 +95,7 @@ static ROWS: [Row; 38] = [
         ..ROW
     },
     Row {
-        name: "two commas behind a type",
+        name: "two commas after a type",
         text: "permit(principal,action,resource is A,,);",
         at: 38,
         found: Some(","),
@@ -104,7 +104,7 @@ static ROWS: [Row; 38] = [
         ..ROW
     },
     Row {
-        name: "brace behind a type",
+        name: "brace after a type",
         text: "permit(principal,action,resource is A{);",
         at: 37,
         found: Some("{"),
@@ -140,7 +140,7 @@ static ROWS: [Row; 38] = [
     },
     // Between policies, and after a scope.
     Row {
-        name: "bracket behind a policy",
+        name: "bracket after a policy",
         text: "permit(principal,action,resource); )",
         at: 35,
         found: Some(")"),
@@ -170,7 +170,7 @@ permit(principal,action,resource);"#,
         ..ROW
     },
     Row {
-        name: "bracket behind a comment",
+        name: "bracket after a comment",
         text: r#"permit(principal,action,resource) // c
 )"#,
         at: 39,
@@ -188,7 +188,7 @@ permit(principal,action,resource);"#,
         ..ROW
     },
     Row {
-        name: "number behind a condition",
+        name: "number after a condition",
         text: r#"permit(principal,action,resource);
 permit(principal,action,resource);
 permit(principal,action,resource) when { true } 1;"#,
@@ -281,7 +281,7 @@ permit(principal,action,resource) when { true } 1;"#,
         ..ROW
     },
     Row {
-        name: "name behind a number",
+        name: "name after a number",
         text: "permit(principal,action,resource)when { 7a };",
         at: 41,
         found: Some("a"),
@@ -362,7 +362,7 @@ permit(principal,action,resource) when { true } 1;"#,
         ..ROW
     },
     Row {
-        name: "brace behind a type in a condition",
+        name: "brace after a type in a condition",
         text: "permit(principal,action,resource)when { context is A { };",
         at: 53,
         found: Some("{"),
@@ -428,7 +428,7 @@ fn kinds_of(alloc: Global, words: &str) -> Result<Vec<Kind>, AllocError> {
     Ok(kinds)
 }
 
-// The text with so many `(` behind it.
+// The text with so many `(` after it.
 fn full(alloc: Global, text: &str, brackets: usize) -> Result<String, AllocError> {
     let mut whole = String::from_str(alloc, text)?;
     for _ in 0..brackets {
@@ -516,7 +516,7 @@ fn others(rt: HostRuntime) -> Result<(), AllocError> {
     Ok(())
 }
 
-// A refused text, with so many `(` behind it, and what is said of it.
+// A refused text, with so many `(` after it, and what is said of it.
 struct Sentence {
     name: &'static str,
     text: &'static str,
@@ -550,7 +550,7 @@ static SENTENCES: [Sentence; 5] = [
         sentence: "nested too deeply: more than 128 brackets and ifs",
     },
     Sentence {
-        name: "end behind the scope",
+        name: "end after the scope",
         text: "permit(principal,action,resource)",
         brackets: 0,
         sentence: "expected a condition or ';', found the end of the text",

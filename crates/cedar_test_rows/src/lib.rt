@@ -32,7 +32,7 @@ pub enum Part {
     Times(usize, &'static str),
 }
 
-/// The parts, one behind the other.
+/// The parts, one after the other.
 pub fn joined(alloc: Global, parts: &[Part]) -> Result<String, AllocError> {
     let mut out = String::new(alloc);
     for part in parts {

@@ -13,7 +13,7 @@ fn expect_shown(rt: &impl Abort, alloc: Global, doc: &Document<'_>, want: &str, 
     expect_text(rt, out.as_str(), want, name);
 }
 
-// The text `x` with a comment of these leading lines and this trailing text, what stands behind it, and the layout.
+// The text `x` with a comment of these leading lines and this trailing text, what stands after it, and the layout.
 struct Commented {
     name: &'static str,
     leading: &'static str,
@@ -218,7 +218,7 @@ static COMMENTS_FOUND: [Search; 6] = [
         found: Some(Span { start: 5, end: 8 }),
     },
     Search {
-        name: "slashes behind a quote",
+        name: "slashes after a quote",
         text: r#""//""#,
         begin: 0,
         found: Some(Span { start: 1, end: 4 }),
@@ -251,19 +251,19 @@ static STRINGS_FOUND: [Search; 7] = [
         found: None,
     },
     Search {
-        name: "string behind slashes",
+        name: "string after slashes",
         text: r#"// "a""#,
         begin: 0,
         found: Some(Span { start: 3, end: 6 }),
     },
     Search {
-        name: "quote behind a backslash",
+        name: "quote after a backslash",
         text: r#""a\"b""#,
         begin: 0,
         found: Some(Span { start: 0, end: 6 }),
     },
     Search {
-        name: "line feed behind a backslash",
+        name: "line feed after a backslash",
         text: r#""a\
 "b""#,
         begin: 0,

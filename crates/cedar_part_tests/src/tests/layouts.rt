@@ -290,13 +290,13 @@ static LARGE: [Large; 5] = [
         layout: &[Once("\n"), Times(1_000_000, "x"), Once("x")],
     },
     Large {
-        name: "1,000,000 texts behind each other",
+        name: "1,000,000 texts in a row",
         growth: Growth::Texts,
         times: 1_000_000,
         layout: &[Once("\n"), Times(1_000_000, "x"), Once("x")],
     },
     Large {
-        name: "1,000,000 groups behind each other",
+        name: "1,000,000 groups in a row",
         growth: Growth::Groups,
         times: 1_000_000,
         layout: &[Once("\n"), Times(1_000_000, "x"), Once("x")],

@@ -435,7 +435,7 @@ fn expect_empty(rt: &impl Abort, alloc: Global, tokens: &mut [WrappedToken<'_>])
     }
 }
 
-// A scan behind the stated steps needs hours here.
+// A scan after the stated steps needs hours here.
 #[test]
 fn many_tokens(rt: HostRuntime) {
     let text = joined(rt.alloc(), &[Times(500_000, ";")]).expect(&rt, "the text");

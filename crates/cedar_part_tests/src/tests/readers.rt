@@ -56,7 +56,7 @@ permit(principal,action,resource)"#,
         ],
     },
     Reading {
-        name: "bracket behind a policy",
+        name: "bracket after a policy",
         text: r#"permit(principal,action,resource);
 )"#,
         steps: &[
@@ -136,7 +136,7 @@ permit(principal,action,resource);"#,
         rest: "",
     },
     Pieces {
-        name: "comments behind a policy",
+        name: "comments after a policy",
         text: r#"permit(principal,action,resource); // b
 // c"#,
         pieces: &[Piece {

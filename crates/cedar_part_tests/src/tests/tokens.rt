@@ -22,7 +22,7 @@ static FAULTS: [Faulty; 18] = [
         }),
     },
     Faulty {
-        name: "line feed behind a backslash in a string",
+        name: "line feed after a backslash in a string",
         text: r#""a\
 ""#,
         fault: Some(LexFault {
@@ -126,7 +126,7 @@ b""#,
         fault: None,
     },
     Faulty {
-        name: "lone quote behind a name",
+        name: "lone quote after a name",
         text: r#"a "b"#,
         fault: Some(LexFault {
             kind: LexFaultKind::UnfinishedString,
@@ -134,7 +134,7 @@ b""#,
         }),
     },
     Faulty {
-        name: "string that ends behind a backslash",
+        name: "string that ends after a backslash",
         text: r#""a\""#,
         fault: Some(LexFault {
             kind: LexFaultKind::UnfinishedString,
@@ -157,7 +157,7 @@ struct Shown {
     shown: &'static str,
 }
 
-// Each comment with a `;` behind it.
+// Each comment with a `;` after it.
 static COMMENTS: [Shown; 6] = [
     Shown {
         name: "two comments",
@@ -260,7 +260,7 @@ a"#,
 >]|"#,
     },
     Shown {
-        name: "comments behind and between",
+        name: "comments after and between",
         text: r#"a // a
 //b
 b//b"#,
@@ -284,7 +284,7 @@ b//b"#,
 >]|"#,
     },
     Shown {
-        name: "unfinished string behind slashes",
+        name: "unfinished string after slashes",
         text: "a\n// e\r// f \n\"//x",
         shown: "no split",
     },
@@ -353,7 +353,7 @@ fn expect_stream(rt: &impl Abort, alloc: Global, row: &Shown, plain: bool) {
     expect_text(rt, got.as_str(), row.shown, row.name);
 }
 
-// The kinds of the tokens, each with a space behind it.
+// The kinds of the tokens, each with a space after it.
 static KINDS: [Shown; 3] = [
     Shown {
         name: "keyword and bracket",
@@ -514,7 +514,7 @@ static COMMAS: [Shown; 14] = [
 >]|"#,
     },
     Shown {
-        name: "comma behind a bracket",
+        name: "comma after a bracket",
         text: r#"(, // b
 )"#,
         shown: "[0..1 ( <// b>][8..9 ) <>]|",
@@ -613,7 +613,7 @@ fn last_token<'a>(
     token
 }
 
-// The text's last token, which so many stand before, prints `want` and `behind`.
+// The text's last token, which so many stand before, prints `want` and `after`.
 fn expect_printed(
     rt: &impl Abort,
     alloc: Global,

@@ -377,7 +377,7 @@ fn comparisons(rt: HostRuntime) {
     }
 }
 
-// A text of 10,000 parts: what stands before the parts, the part, and what stands behind them.
+// A text of 10,000 parts: what stands before the parts, the part, and what stands after them.
 struct Long {
     name: &'static str,
     before: &'static str,
@@ -459,7 +459,7 @@ static LONG: [Long; 19] = [
         after: "};",
     },
     Long {
-        name: "fields behind has",
+        name: "fields after has",
         before: "permit(principal,action,resource)when{1 has a",
         part: ".a",
         after: "};",

@@ -78,7 +78,7 @@ static TEXTS: [Answer; 110] = [
         refusal: None,
     },
     Answer {
-        name: "bracket behind two policies",
+        name: "bracket after two policies",
         text: r#"permit(principal,action,resource);
 permit(principal,action,resource);)"#,
         refusal: Some(Grammar { at: 69 }),
@@ -90,19 +90,19 @@ permit(principal,action,resource)"#,
         refusal: Some(Grammar { at: 72 }),
     },
     Answer {
-        name: "unknown character behind a misplaced token",
+        name: "unknown character after a misplaced token",
         text: r#"permit(principal,action,resource);
 ;="#,
         refusal: Some(UnknownCharacter { at: 36 }),
     },
     Answer {
-        name: "unfinished string behind a misplaced token",
+        name: "unfinished string after a misplaced token",
         text: r#"permit(principal,action,resource);
 ;"x"#,
         refusal: Some(UnfinishedString { at: 36 }),
     },
     Answer {
-        name: "number too large behind a misplaced token",
+        name: "number too large after a misplaced token",
         text: r#"permit(principal,action,resource);
 ;18446744073709551616"#,
         refusal: Some(NumberTooLarge { at: 36 }),
@@ -214,7 +214,7 @@ permit(principal,action,resource)"#,
         refusal: Some(Grammar { at: 0 }),
     },
     Answer {
-        name: "number too large behind a bracket",
+        name: "number too large after a bracket",
         text: ")18446744073709551616",
         refusal: Some(NumberTooLarge { at: 1 }),
     },
@@ -234,12 +234,12 @@ permit(principal,action,resource)"#,
         refusal: Some(NumberTooLarge { at: 2 }),
     },
     Answer {
-        name: "unknown character behind a number too large",
+        name: "unknown character after a number too large",
         text: "99999999999999999999 =",
         refusal: Some(UnknownCharacter { at: 21 }),
     },
     Answer {
-        name: "unfinished string behind a bracket",
+        name: "unfinished string after a bracket",
         text: r#") ""#,
         refusal: Some(UnfinishedString { at: 2 }),
     },
@@ -452,7 +452,7 @@ permit(principal,action,resource)"#,
         refusal: Some(Grammar { at: 41 }),
     },
     Answer {
-        name: "path behind an entity",
+        name: "path after an entity",
         text: r#"permit(principal,action,resource)when{a::"b"::c};"#,
         refusal: Some(Grammar { at: 44 }),
     },

@@ -106,7 +106,7 @@ static OTHERS: [Accepted; 17] = [
         text: "permit(principal,action,resource)when{7==007};",
     },
     Accepted {
-        name: "comment on the line behind a policy",
+        name: "comment on the line after a policy",
         text: r#"permit(principal,action,resource);
 // t"#,
     },
