@@ -1,6 +1,10 @@
 //! What the rows of tests are made of: texts with their layouts, and long texts in parts.
-//! Only a test may end on a wrong answer, so the assertions stand in the crates of tests.
+//! Only a test may abort, so the assertions are in the crates of tests.
 #![tactic(auto)]
+
+ghost use Rattle.std.specs.Prelude.{◌≡◌, IfOk, string_bytes};
+ghost use Rattle.std.specs.List.{flat_map};
+ghost use Rattle.cedar_test_rows.specs.Parts.{part_text};
 
 use std::alloc::{AllocError, Global};
 
@@ -33,15 +37,14 @@ pub enum Part {
 }
 
 /// The parts, one after the other.
-pub fn joined(alloc: Global, parts: &[Part]) -> Result<String, AllocError> {
+pub fn joined(alloc: Global, parts: &[Part]) -> Result<String, AllocError>
+    ensures { IfOk result (λ s. string_bytes s ≡ flat_map part_text parts.now) }
+{
     let mut out = String::new(alloc);
     for part in parts {
-        let (times, text) = match part {
-            Part::Once(text) => (1, *text),
-            Part::Times(times, text) => (*times, *text),
-        };
-        for _ in 0..times {
-            out.push_str(text)?;
+        match part {
+            Part::Once(text) => out.push_str(text)?,
+            Part::Times(times, text) => out.push_str(text.repeat(alloc, *times)?.as_str())?,
         }
     }
     Ok(out)

@@ -1,4 +1,4 @@
-//! Comments and brackets round documents, and the cleaning of a text.
+//! Comments and brackets around documents, and the cleaning of a text.
 use super::*;
 use cedar_policy_formatter::layout::{Document, render};
 use cedar_policy_formatter::token::{Comment, Span};

@@ -58,7 +58,7 @@ fn to_the_left(alloc: Global) -> Built {
     seq(alloc, Document::Hard, Document::Text("x"), Document::Nil)?.nest(alloc, -5)
 }
 
-fn parted(alloc: Global) -> Built {
+fn separated(alloc: Global) -> Built {
     let docs = vec![in alloc;
         Document::Text("a"),
         Document::Text("b"),
@@ -98,7 +98,7 @@ enum Sample {
     WithHard,
     Wide,
     ToTheLeft,
-    Parted,
+    Separated,
     NoneParted,
     BarePolicy,
 }
@@ -111,7 +111,7 @@ fn document_of(alloc: Global, sample: &Sample) -> Built {
         Sample::WithHard => with_hard(alloc),
         Sample::Wide => wide(alloc),
         Sample::ToTheLeft => to_the_left(alloc),
-        Sample::Parted => parted(alloc),
+        Sample::Separated => separated(alloc),
         Sample::NoneParted => none_parted(alloc),
         Sample::BarePolicy => bare_policy(alloc),
     }
@@ -193,7 +193,7 @@ x"#,
     },
     Layout {
         name: "texts with commas between",
-        sample: Sample::Parted,
+        sample: Sample::Separated,
         width: 80,
         layout: "a,b,c",
     },

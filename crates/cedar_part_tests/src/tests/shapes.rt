@@ -3,7 +3,7 @@ use super::*;
 use cedar_policy_formatter::cst::*;
 use cedar_policy_formatter::token::Span;
 
-// Appends the text. Want of memory shows as a wrong tree.
+// Appends the text. Out of memory shows as a wrong tree.
 fn put(out: &mut String, text: &str) {
     let _ = out.push_str(text);
 }

@@ -471,7 +471,7 @@ static FLUSHES: [Flush; 5] = [
     },
 ];
 
-// What a run of the program wrote to the output, how much of that is flushed, what it told, and its status.
+// What a run of the program wrote to the output, how much of that is flushed, what it reported, and its status.
 #[derive(Drop)]
 struct Written {
     output: Vec<u8>,

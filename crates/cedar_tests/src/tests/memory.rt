@@ -1,4 +1,4 @@
-//! Want of memory: to be run with each allocation refused in turn. The answer is then want of memory or the row's.
+//! Out of memory: to be run with each allocation refused in turn. The answer is then out of memory or the row's.
 //! `tests/memory` runs the proved tests so, and `./fail-alloc` those that aren't proved yet.
 use super::devices::{Sink, Source};
 use super::program::{CALL, Call};
@@ -102,7 +102,7 @@ when
     },
 ];
 
-// The answer is yes, or want of memory.
+// The answer is yes, or out of memory.
 fn expect_yes(rt: &impl Abort, got: Result<bool, FormatError>, name: &str) {
     if got.err() != Some(FormatError::OutOfMemory) {
         expect_told(rt, got, Ok(true), name);
@@ -263,7 +263,7 @@ fn are_comments_of(found: &[Comment<'_>], tokens: &[WrappedToken<'_>]) -> bool {
     found.len() == tokens.len() && found.iter().zip(tokens).all(|(x, y)| *x == y.comment)
 }
 
-// Whether a text has so many tokens, and all their comments are taken; or want of memory, after which they are where they
+// Whether a text has so many tokens, and all their comments are taken; or out of memory, after which they are where they
 // were.
 fn takes_comments(
     rt: &impl Abort,
@@ -287,7 +287,7 @@ fn takes_comments(
     }
 }
 
-// Whether so many of a text's tokens are left without trailing commas; or want of memory, after which all are as they were.
+// Whether so many of a text's tokens are left without trailing commas; or out of memory, after which all are as they were.
 fn drops_commas(alloc: Global, text: &str, left: usize) -> Result<bool, FormatError> {
     let Some((mut tokens, _)) = get_token_stream(alloc, text)? else {
         return Ok(false);
@@ -380,7 +380,7 @@ permit (principal, action, resource);"#,
     },
 ];
 
-// Whether a document is rendered so; or want of memory, after which nothing was appended.
+// Whether a document is rendered so; or out of memory, after which nothing was appended.
 fn renders(alloc: Global, doc: &Document<'_>, want: &str) -> Result<bool, FormatError> {
     let mut out = String::from_str(alloc, "x")?;
     match render(alloc, doc, Config::default().line_width, &mut out) {

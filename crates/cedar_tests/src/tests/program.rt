@@ -519,7 +519,7 @@ fn reads_files(rt: HostRuntime) -> Result<(), io::Error> {
     fs::remove_file(&rt, "f.cedar")
 }
 
-// Why the words could not be had, and what is told of it.
+// Why the words could not be had, and what is reported.
 struct Unread {
     kind: ErrorKind,
     errors: &'static str,

@@ -74,7 +74,7 @@ struct Accepted {
     text: &'static str,
 }
 
-// Accepted texts of worked examples that are told by other calls: of trees, of checks, of single documents, of comparing.
+// Accepted texts of worked examples that other calls answer: of trees, of checks, of single documents, of comparing.
 static OTHERS: [Accepted; 17] = [
     Accepted {
         name: "list",
