@@ -1,9 +1,10 @@
 -- What a reader of policies has read, and what the next part of the text adds.
-use Rattle.std.proofs.Common.{◌≡◌, ◌≤◌, ◌<◌, ◌+◌, ◌-◌, ℕ, Bool, true, false, get_or, Some, List, [], ◌∷◌, ◌++◌, length, take, drop, refl, ap, sym, ◌∙◌, subst, arith, inl, inr, append-nil}
-use Rattle.std.specs.Prelude.{Option, slice_range}
+use Rattle.std.proofs.Common.{◌≡◌, ◌≤◌, ◌<◌, ◌+◌, ◌-◌, ◌||◌, ℕ, Bool, true, false, get_or, Some, List, [], ◌∷◌, ◌++◌, length, take, drop, refl, ap, sym, ◌∙◌, subst, arith, inl, inr, append-nil}
+use Rattle.std.specs.Prelude.{Option, Result, Ok, Err, MatchResult, slice_range}
 use Rattle.std.specs.List.{list_any}
 use Rattle.std.specs.Str.{IsCharBoundary}
 use Rattle.std.proofs.lemmas.List.{length-take-le, length-drop}
+use Rattle.std.proofs.lemmas.List.Folds.{list_any-append}
 use Rattle.std.proofs.lemmas.Str.{IsCharBoundary-from_rest}
 use Rattle.cedar_tokens.specs.Split.{SplitsInto}
 use Rattle.cedar_tokens.proofs.Scanning.{fault_prevents, split_unique}
@@ -15,7 +16,7 @@ use Rattle.cedar_tree.specs.declared.error.FormatError.{FormatError}
 use Rattle.cedar_tree.specs.declared.error.FormatError.TheVariants.{UnknownCharacter, UnfinishedString, NumberTooLarge, Grammar, TooDeep, NoDocument, Unsound, OutOfMemory}
 use Rattle.cedar_tree.specs.declared.tree.Node.{Node}
 use Rattle.cedar_tree.specs.declared.tree.Policy.{Policy}
-use Rattle.cedar_tree.specs.Refusals.{OutOfMemoryOr, Refuses}
+use Rattle.cedar_tree.specs.Refusals.{OutOfMemoryOr, Refuses, RefusesTokens}
 use Rattle.cedar_parser_steps.specs.Tokens.{HasTokens}
 use Rattle.cedar_pieces.specs.Pieces.{IsPiece, HasNoPiece, IsFirstPiece}
 use Rattle.cedar_pieces.proofs.Accepted.{accepted_join, accepted_empty}
@@ -77,8 +78,8 @@ reads_more text at n ps qs e q a b =
 -- ---- readers
 
 -- nothing is read yet
-pub reader_begins : (text : List ℕ) → HasTokens text → IsCharBoundary text 0 → IsAfterPolicies text 0
-reader_begins text t b = record { tokens = t; inside = omega arith; boundary = b; ends = inl refl; accepted = accepted_empty [] [] refl refl refl }
+pub reader_begins : (text : List ℕ) → IsCharBoundary text 0 → IsAfterPolicies text 0
+reader_begins text b = record { inside = omega arith; boundary = b; ends = inl refl; accepted = accepted_empty [] [] refl refl refl }
 
 pub read_none : (text : List ℕ) → HasRead (record { text = text; at = 0 }) text []
 read_none text = record { of_text = refl; ends = inl refl; read = from_start [] [] (none_from 0 [] [] refl refl refl) }
@@ -90,7 +91,6 @@ next_inside text at piece b x = omega (arith, piece_inside (drop at text) (lengt
 -- the reader continues with the next piece, which has a policy
 pub reader_goes_on : (text : List ℕ) (at by : ℕ) (piece : List ℕ) (q : Node Policy) → IsAfterPolicies text at → IsNext (record { text = text; at = at }) piece → IsPolicyFrom by piece q → IsAfterPolicies text (at + length piece)
 reader_goes_on text at by piece q b x (p, h, e) = record {
-  tokens = b.tokens;
   inside = next_inside text at piece b.inside x;
   boundary = x.boundary;
   ends = ends_more text at (length piece) b.ends x.first.piece;
@@ -160,10 +160,31 @@ only_grammar from part text vs s f h OutOfMemory r = tt
 abbrev Fitting : List ℕ → Type 0
 Fitting text = (vs : List (List ℕ)) × SplitsInto text vs × (list_any is_too_large vs ≡ false)
 
-module _ (text : List ℕ) (at : ℕ) (b : IsAfterPolicies text at) where
+-- where the tokens of the rest can be parsed, those of the text can
+pub tokens_join : (text : List ℕ) (at : ℕ) → IsAfterPolicies text at → HasTokens (drop at text) → HasTokens text
+tokens_join text at b h =
+    let a = b.accepted.1 in
+    record {
+      units = a.units ++ h.units;
+      split = splits_join text at a.units h.units b.ends a.split h.split;
+      fitting = list_any-append is_too_large a.units h.units ∙ (ap (λ z. z || list_any is_too_large h.units) a.fitting ∙ h.fitting);
+    }
+
+-- where a text's tokens are refused, the text is
+pub tokens_refuse : (text : List ℕ) (e : FormatError) → RefusesTokens text e → OutOfMemoryOr (Refuses text) e
+tokens_refuse text (UnknownCharacter p) r = r
+tokens_refuse text (UnfinishedString p) r = r
+tokens_refuse text (NumberTooLarge p) r = r
+tokens_refuse text (Grammar p) r = absurd r
+tokens_refuse text (TooDeep p) r = absurd r
+tokens_refuse text NoDocument r = r
+tokens_refuse text Unsound r = r
+tokens_refuse text OutOfMemory r = tt
+
+module _ (text : List ℕ) (at : ℕ) (b : IsAfterPolicies text at) (t : HasTokens text) where
   rest_fits : EndsPiece text at → Fitting (drop at text)
-  rest_fits (inl e) = subst (λ k. Fitting (drop k text)) (sym e) (b.tokens.units, b.tokens.split, b.tokens.fitting)
-  rest_fits (inr p) = (parts_fit text at b.tokens.units p b.tokens.split b.tokens.fitting).1
+  rest_fits (inl e) = subst (λ k. Fitting (drop k text)) (sym e) (t.units, t.split, t.fitting)
+  rest_fits (inr p) = (parts_fit text at t.units p t.split t.fitting).1
 
   rest_moves : EndsPiece text at → (p : ℕ) (deep : Bool) → LeavesGrammar (drop at text) p deep → LeavesGrammar text (at + p) deep
   rest_moves (inl e) p deep r =
@@ -171,7 +192,7 @@ module _ (text : List ℕ) (at : ℕ) (b : IsAfterPolicies text at) where
       let same : p ≡ at + p = omega (arith, e) in
       subst (λ k. LeavesGrammar text k deep) same z
   rest_moves (inr q) p deep r =
-      leaves_grammar text (at + p) deep (rest_refused text at p deep b.tokens.units q b.tokens.split b.tokens.fitting b.accepted (is_refused (drop at text) p deep r))
+      leaves_grammar text (at + p) deep (rest_refused text at p deep t.units q t.split t.fitting b.accepted (is_refused (drop at text) p deep r))
 
   -- the tokens of the rest can be parsed
   pub rest_tokens : HasTokens (drop at text)
@@ -188,6 +209,11 @@ module _ (text : List ℕ) (at : ℕ) (b : IsAfterPolicies text at) where
       let g = (parts_fit (drop at text) n f.0 q f.1 f.2).0 in
       only_grammar at (take n (drop at text)) text g.0 g.1 g.2 (λ p deep h. rest_moves b.ends p deep
       (leaves_grammar (drop at text) p deep (piece_refused (drop at text) n p deep f.0 q f.1 f.2 (is_refused (take n (drop at text)) p deep h)))) e r
+
+-- what a check of the whole text says of the rest
+pub rest_checked : {A : Type 0} (text : List ℕ) (at : ℕ) → IsAfterPolicies text at → (r : Result A FormatError) → MatchResult r (λ _. HasTokens text) (RefusesTokens text) → MatchResult r (λ _. HasTokens (drop at text)) (RefusesTokens text)
+rest_checked text at b (Ok x) h = rest_tokens text at b h
+rest_checked text at b (Err e) h = h
 
 -- ---- the policy of a piece
 

@@ -18,7 +18,6 @@ use Rattle.cedar_tree.specs.declared.tree.Policy.{Policy}
 use Rattle.cedar_tree.specs.declared.tree.Policies.{Policies}
 use Rattle.cedar_tree.specs.Erased.{variant, policy_trees}
 use Rattle.cedar_tree.specs.NodeTrees.{spanned, IsTreeOf}
-use Rattle.cedar_parser_steps.specs.Tokens.{HasTokens}
 use Rattle.cedar_pieces.specs.Pieces.{IsPiece, IsFirstPiece, HasNoPiece}
 
 -- a place in a text: so many of its bytes are read
@@ -30,9 +29,8 @@ pub record Position : Type 0 where
 abbrev pub EndsPiece : List ℕ → ℕ → Type 0
 EndsPiece text at = (at ≡ 0) ⊎ IsPiece text at
 
--- policies may be read from here on: the text's tokens can be parsed, and what comes before is accepted
+-- policies may be read from here on: what comes before is none or a piece, and accepted
 pub record IsAfterPolicies (text : List ℕ) (at : ℕ) : Type 0 where
-  pub tokens : HasTokens text
   pub inside : at ≤ length text
   pub boundary : IsCharBoundary text at
   pub ends : EndsPiece text at

@@ -30,7 +30,7 @@ pub fn parse_policies<'src>(alloc: Global, text: &'src str) -> Result<Policies<'
     ensures refusal { IfErr result (OutOfMemoryOr (Refuses text.now)) }
 {
     tree_has_the_policies();
-    let mut reader = PolicyReader::new(text)?;
+    let mut reader = PolicyReader::new(text);
     let mut policies = Vec::new(alloc);
     'policies: while let Some(policy) = reader.next(alloc)? {
         policies.push(policy)?;

@@ -59,7 +59,7 @@ never_other : RefusalIsUnique → (text : List ℕ) (e : FormatError) → Refuse
 never_other law text e r g d at (false, l) = g at (law text e (Grammar at) r l)
 never_other law text e r g d at (true, l) = d at (law text e (TooDeep at) r l)
 
-pub never_tokens : RefusalIsUnique → (text : List ℕ) (e : FormatError) → RefusesTokens text e → NeverLeaves text
+never_tokens : RefusalIsUnique → (text : List ℕ) (e : FormatError) → RefusesTokens text e → NeverLeaves text
 never_tokens law text (UnknownCharacter n) r = never_other law text (UnknownCharacter n) r (λ m i. cc) (λ m i. cc)
 never_tokens law text (UnfinishedString n) r = never_other law text (UnfinishedString n) r (λ m i. cc) (λ m i. cc)
 never_tokens law text (NumberTooLarge n) r = never_other law text (NumberTooLarge n) r (λ m i. cc) (λ m i. cc)

@@ -49,9 +49,7 @@ fn leave<'src>(alloc: Global, text: &'src str) -> Result<Option<Leaving<'src>>, 
 {
     refusal_is_unique();
     accepted_is_not_refused();
-    let Ok(mut reader) = PolicyReader::new(text) else {
-        return Ok(None);
-    };
+    let mut reader = PolicyReader::new(text);
     'policies: loop {
         match reader.next(alloc) {
             Ok(Some(_)) => {}

@@ -39,8 +39,8 @@ pub fn is_number(text: &str) -> bool
     }
 }
 
-// Whether the text is a number above 18446744073709551615.
-fn is_too_large(text: &str) -> bool
+/// Whether the text is a number above 18446744073709551615.
+pub fn is_too_large(text: &str) -> bool
     ensures { result ≡ is_too_large text.now }
 {
     is_number(text) && text.parse::<u64>().is_err()

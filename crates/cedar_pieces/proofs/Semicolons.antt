@@ -21,7 +21,7 @@ use Rattle.cedar_tokens.specs.declared.units.Unit.{Unit}
 use Rattle.cedar_tokens.proofs.UnitsSoFar.{texts, texts_more, EndsAt}
 use Rattle.cedar_tokens.proofs.Streaming.{no_token}
 use Rattle.cedar_laws.proofs.Scanned.{scans_append}
-use Rattle.cedar_pieces.specs.Pieces.{is_semicolon, HaveNoFeed, BeginsNoBlank, IsFirstPiece}
+use Rattle.cedar_pieces.specs.Pieces.{HaveNoFeed, BeginsNoBlank, IsFirstPiece}
 use Rattle.cedar_pieces.specs.Inside.Steps.{EndsInSemicolon, EndsLine}
 
 any_more : (p : List ℕ → Bool) (units : List (List ℕ)) (u : List ℕ) → list_any p units ≡ false → p u ≡ false → list_any p (units ++ u ∷ []) ≡ false

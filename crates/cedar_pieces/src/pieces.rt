@@ -6,7 +6,7 @@ ghost use Rattle.cedar_parser_steps.specs.Lexemes.{AreLexemes};
 ghost use Rattle.cedar_pieces.specs.Pieces.{IsFirstPiece, HasNoPiece};
 ghost use Rattle.cedar_pieces.specs.Inside.Steps.{EndsLine, LexesToSemicolon};
 
-use cedar_parser_steps::lexeme::Lexeme;
+use cedar_parser_steps::lexeme::{Lexeme, is_too_large};
 use cedar_tokens::kind::kind_of;
 use cedar_tokens::lexer::UnitKind;
 use cedar_tokens::token::Span;
@@ -14,15 +14,15 @@ use cedar_tokens::units::Units;
 use std::alloc::AllocError;
 
 /// The bytes of the first piece of `text`; its lexemes are stored in `lexemes`. A piece extends through its first `;` and
-/// the rest of that line, including the line feed, up to the next token. If there is no `;`, the answer is `None`, and the
-/// lexemes are those of the whole text. The former contents of `lexemes` are dropped, and its memory is reused.
+/// the rest of that line, including the line feed, up to the next token. The answer is `None` if there is no `;`, and the
+/// lexemes are then those of the whole text; or if the tokens of the text can't be parsed. The former contents of `lexemes`
+/// are dropped, and its memory is reused.
 pub fn read_piece<'src>(
     text: &'src str,
     lexemes: &mut Vec<Lexeme<'src>>,
 ) -> Result<Option<usize>, AllocError>
-    requires { HasTokens text.now }
-    ensures piece { IfOk result (λ len. MatchOption len (HasNoPiece text.now) (IsFirstPiece text.now)) }
-    ensures lexemes { IfOk result (λ len. MatchOption len (AreLexemes text.now lexemes.new.items) (λ n. AreLexemes (take n text.now) lexemes.new.items)) }
+    ensures piece { IfOk result (λ len. MatchOption len (HasTokens text.now → HasNoPiece text.now) (IsFirstPiece text.now)) }
+    ensures lexemes { IfOk result (λ len. MatchOption len (HasTokens text.now → AreLexemes text.now lexemes.new.items) (λ n. AreLexemes (take n text.now) lexemes.new.items)) }
     ensures boundary { IfOk result (λ len. IfSome len (λ n. IsCharBoundary text.now n)) }
     ensures nonempty { IfOk result (λ len. IfSome len (λ n. 0 < n)) }
     ensures within { IfOk result (λ len. IfSome len (λ n. n ≤ length text.now)) }
@@ -33,14 +33,14 @@ pub fn read_piece<'src>(
     Ok(Some(end + rest_of_line(&text[end..])))
 }
 
-// The bytes through the first `;`, and the lexemes up to there; without a `;`, all lexemes.
+// The bytes through the first `;`, and the lexemes up to there; without a `;`, all lexemes. `None` also at a number that is
+// too large, or where no unit begins.
 fn lex_to_semicolon<'src>(
     text: &'src str,
     lexemes: &mut Vec<Lexeme<'src>>,
 ) -> Result<Option<usize>, AllocError>
-    requires { HasTokens text.now }
-    ensures none { IfOk result (λ end. MatchOption end (HasNoPiece text.now) (λ n. 0 < n)) }
-    ensures lexemes { IfOk result (λ end. MatchOption end (AreLexemes text.now lexemes.new.items) (λ n. LexesToSemicolon text.now n lexemes.new.items)) }
+    ensures none { IfOk result (λ end. MatchOption end (HasTokens text.now → HasNoPiece text.now) (λ n. 0 < n)) }
+    ensures lexemes { IfOk result (λ end. MatchOption end (HasTokens text.now → AreLexemes text.now lexemes.new.items) (λ n. LexesToSemicolon text.now n lexemes.new.items)) }
     ensures boundary { IfOk result (λ end. IfSome end (λ n. IsCharBoundary text.now n)) }
     ensures within { IfOk result (λ end. IfSome end (λ n. n ≤ length text.now)) }
 {
@@ -50,6 +50,9 @@ fn lex_to_semicolon<'src>(
         let start = end;
         end += unit.text.len();
         if unit.kind == UnitKind::Token {
+            if is_too_large(unit.text) {
+                return Ok(None);
+            }
             lexemes.push(Lexeme {
                 kind: kind_of(unit.text),
                 text: unit.text,

@@ -80,7 +80,7 @@ fn write_policies<S: Sink>(
     ensures answer { MatchResult result (λ _. Accepted ps.now) (OutOfMemoryOr (Refuses ps.now)) }
     ensures output { OnOk result ((out : List ℕ) × IsOutputOf config.now.line_width config.now.indent_width ps.now out × S.takes sink.old out sink.new) }
 {
-    let mut reader = PolicyReader::new(ps)?;
+    let mut reader = PolicyReader::new(ps);
     let mut buffers = Buffers::new(alloc);
     let mut is_empty = true;
     'pieces: while let Some(piece) = reader.next_piece(alloc)? {

@@ -72,7 +72,7 @@ fn touched_span(alloc: Global, text: &str, range: Span) -> Result<Span, FormatEr
     ensures answer { MatchResult result (λ _. Accepted text.now) (OutOfMemoryOr (Refuses text.now)) }
     ensures span { IfOk result (λ span. IsTouchedSpan text.now range span) }
 {
-    let mut reader = PolicyReader::new(text)?;
+    let mut reader = PolicyReader::new(text);
     let mut at = 0;
     let mut span = Span { start: 0, end: 0 };
     'pieces: while let Some(piece) = reader.next_piece(alloc)? {

@@ -1,9 +1,9 @@
 //! The policies of a text, one after the other.
-ghost use Rattle.std.specs.Prelude.{◌≡◌, ◌≢◌, ◌≤◌, ◌<◌, ◌+◌, ◌^◌, List, [], ◌∷◌, ◌++◌, length, map, drop, IfOk, IfErr, IfSome, OnErr, MatchResult, MatchOption};
+ghost use Rattle.std.specs.Prelude.{◌≡◌, ◌≤◌, ◌<◌, ◌+◌, ◌^◌, List, [], ◌∷◌, ◌++◌, length, map, drop, IfOk, IfErr, IfSome, OnErr, MatchResult, MatchOption};
 ghost use Rattle.std.specs.List.{All};
 ghost use Rattle.cedar_tree.specs.Refusals.{OutOfMemoryOr, Refuses, RefusesTokens};
-ghost use Rattle.cedar_tree.specs.declared.error.FormatError.TheVariants.{OutOfMemory};
 ghost use Rattle.cedar_parser_steps.specs.Lexemes.{AreLexemes};
+ghost use Rattle.cedar_parser_steps.specs.Tokens.{HasTokens};
 ghost use Rattle.cedar_cst.specs.Inside.Parts.{moved_lexeme, place_before, HasPoliciesFrom, AreLexemesFrom, RefusesFrom, IsNext, IsPolicyFrom};
 ghost use Rattle.cedar_cst.specs.PolicyReaders.{HasPolicies, HasRead, HasEnded, GoesOn, IsPolicyOf, AreTokensOf};
 
@@ -58,20 +58,15 @@ impl<'src> Model for PolicyReader<'src> {
 }
 
 impl<'src> PolicyReader<'src> {
-    /// A reader of the policies of `text`, which has answered none. Where the text does not split into blanks, comments and
-    /// tokens, it is refused at the first place where none begins; and where it does, at its first number above
-    /// 18446744073709551615. It takes no memory.
-    pub fn new(text: &'src str) -> Result<PolicyReader<'src>, FormatError>
-        ensures reader { IfOk result (λ reader. HasRead reader text.now []) }
-        ensures refusal { IfErr result (RefusesTokens text.now) }
-        ensures memory { IfErr result (λ e. e ≢ OutOfMemory) }
+    /// A reader of the policies of `text`, which has answered none. It looks at no byte yet, and takes no memory.
+    pub fn new(text: &'src str) -> PolicyReader<'src>
+        ensures { HasRead result text.now [] }
     {
-        check_tokens(text)?;
-        Ok(PolicyReader {
+        PolicyReader {
             text,
             at: 0,
             room: None,
-        })
+        }
     }
 
     /// The next policy of the text, with the places of the whole text; `None` where there is none, as often as it is asked.
@@ -152,11 +147,19 @@ impl<'src> PolicyReader<'src> {
         let rest = self.rest();
         let mut lexemes = room;
         let Some(len) = read_piece(rest, &mut lexemes)? else {
+            self.check_rest()?;
             let _ = parse_part(alloc, rest, &mut lexemes, at, by)?;
             return Ok(None);
         };
         let text = &rest[..len];
-        let Policies { mut policies } = parse_part(alloc, text, &mut lexemes, at, by)?;
+        let Policies { mut policies } = match parse_part(alloc, text, &mut lexemes, at, by) {
+            Ok(policies) => policies,
+            Err(refusal) => {
+                // A fault of the text comes first, wherever it stands.
+                check_tokens(self.text)?;
+                return Err(refusal);
+            }
+        };
         match policies.pop() {
             Some(policy) => Ok(Some(ParsedPiece {
                 text,
@@ -164,6 +167,16 @@ impl<'src> PolicyReader<'src> {
                 lexemes,
             })),
             None => Ok(None),
+        }
+    }
+
+    // Refuses the text where the tokens of what is left can't be parsed.
+    fn check_rest(&self) -> Result<(), FormatError>
+        ensures { MatchResult result (λ _. HasTokens (drop self.now.at self.now.text)) (RefusesTokens self.now.text) }
+    {
+        match check_tokens(self.rest()) {
+            Ok(()) => Ok(()),
+            Err(_) => check_tokens(self.text),
         }
     }
 }

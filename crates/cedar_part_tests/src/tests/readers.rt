@@ -67,7 +67,7 @@ permit(principal,action,resource)"#,
 ];
 
 fn expect_steps(rt: &impl Abort, alloc: Global, row: &Reading) {
-    let mut reader = PolicyReader::new(row.text).expect(rt, row.name);
+    let mut reader = PolicyReader::new(row.text);
     for want in row.steps {
         let got = match reader.next(alloc) {
             Ok(Some(policy)) => Ok(Some(policy.span)),
@@ -149,7 +149,7 @@ permit(principal,action,resource);"#,
 ];
 
 fn expect_pieces(rt: &impl Abort, alloc: Global, row: &Pieces) {
-    let mut reader = PolicyReader::new(row.text).expect(rt, row.name);
+    let mut reader = PolicyReader::new(row.text);
     for want in row.pieces {
         let Some(piece) = reader.next_piece(alloc).expect(rt, row.name) else {
             break;
@@ -176,17 +176,68 @@ fn pieces_one_by_one(rt: HostRuntime) {
 fn refused_pieces_have_places_of_the_text(rt: HostRuntime) {
     let text = r#"permit(principal,action,resource); // b
 permit(principal,action,resource) when;permit(principal,action,resource);"#;
-    let mut reader = PolicyReader::new(text).expect(&rt, text);
+    let mut reader = PolicyReader::new(text);
     let first = reader.next_piece(rt.alloc()).expect(&rt, text);
     assert!(rt; first.is_some());
     let refusal = reader.next_piece(rt.alloc()).err();
     expect_refusal(&rt, refusal, Some(FormatError::Grammar { at: 78 }), text);
 }
 
+// Texts with faults: a refusal is that of the first fault, even if the grammar refuses a piece before it.
+static FAULTS: [Reading; 6] = [
+    Reading {
+        name: "unfinished string after two policies",
+        text: r#"permit(principal,action,resource);permit(principal,action,resource); "x"#,
+        steps: &[
+            Ok(Some(Span { start: 0, end: 34 })),
+            Ok(Some(Span { start: 34, end: 68 })),
+            Err(FormatError::UnfinishedString { at: 69 }),
+            Err(FormatError::UnfinishedString { at: 69 }),
+        ],
+    },
+    Reading {
+        name: "unfinished string after a refused policy",
+        text: r#"permit(principal,action,resource) when;permit(principal,action,resource); "x"#,
+        steps: &[
+            Err(FormatError::UnfinishedString { at: 74 }),
+            Err(FormatError::UnfinishedString { at: 74 }),
+        ],
+    },
+    Reading {
+        name: "large number in the second policy",
+        text: r#"permit(principal,action,resource);permit(principal,action,resource) when { 18446744073709551616 };"#,
+        steps: &[
+            Ok(Some(Span { start: 0, end: 34 })),
+            Err(FormatError::NumberTooLarge { at: 75 }),
+            Err(FormatError::NumberTooLarge { at: 75 }),
+        ],
+    },
+    Reading {
+        name: "large number after a refused policy",
+        text: r#"permit(principal,action,resource);)permit(principal,action,resource); 18446744073709551616"#,
+        steps: &[
+            Ok(Some(Span { start: 0, end: 34 })),
+            Err(FormatError::NumberTooLarge { at: 70 }),
+        ],
+    },
+    Reading {
+        name: "unknown character after a large number",
+        text: r#"18446744073709551616; permit(principal,action,resource); $"#,
+        steps: &[Err(FormatError::UnknownCharacter { at: 57 })],
+    },
+    Reading {
+        name: "unknown character in the second policy",
+        text: r#"permit(principal,action,resource);permit(principal,action,resource) $"#,
+        steps: &[
+            Ok(Some(Span { start: 0, end: 34 })),
+            Err(FormatError::UnknownCharacter { at: 68 }),
+        ],
+    },
+];
+
 #[test]
 fn faults_come_first(rt: HostRuntime) {
-    let text = r#"permit(principal,action,resource);permit(principal,action,resource); "x"#;
-    let refusal = PolicyReader::new(text).err();
-    let want = Some(FormatError::UnfinishedString { at: 69 });
-    expect_refusal(&rt, refusal, want, text);
+    for row in &FAULTS {
+        expect_steps(&rt, rt.alloc(), row);
+    }
 }

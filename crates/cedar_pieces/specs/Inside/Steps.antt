@@ -3,6 +3,7 @@ use Rattle.std.specs.Prelude.{◌≡◌, ℕ, false, List, [], ◌∷◌, ◌++�
 use Rattle.std.specs.List.{list_any, sum_by, AllByRecursion}
 use Rattle.cedar_tokens.specs.Split.{Scans}
 use Rattle.cedar_tokens.specs.Places.{token_spans}
+use Rattle.cedar_grammar.specs.Numbers.{is_too_large}
 use Rattle.cedar_grammar.specs.Texts.{only_tokens}
 use Rattle.cedar_tokens.specs.TokenKinds.{kind_of}
 use Rattle.cedar_parser_steps.specs.declared.lexeme.Lexeme.{Lexeme}
@@ -15,9 +16,10 @@ pub record EndsInSemicolon (text : List ℕ) (n : ℕ) : Type 0 where
   pub place : n ≡ sum_by length (before ++ (codes ";" ∷ []))
   pub first : list_any is_semicolon before ≡ false
 
--- the same, and these are the lexemes among the units
+-- the same, these are the lexemes among the units, and no number is too large
 pub record LexesToSemicolon (text : List ℕ) (n : ℕ) (lexemes : List Lexeme) : Type 0 where
   pub ends : EndsInSemicolon text n
+  pub fitting : list_any is_too_large ends.before ≡ false
   pub texts : map (λ l. l.text.now) lexemes ≡ only_tokens (ends.before ++ (codes ";" ∷ []))
   pub places : map (λ l. l.span) lexemes ≡ token_spans 0 (ends.before ++ (codes ";" ∷ []))
   pub kinds : AllByRecursion (λ l. l.kind ≡ kind_of l.text.now) lexemes

@@ -3,12 +3,9 @@ use Rattle.std.specs.Prelude.{drop}
 use Rattle.cedar_tree.specs.Refusals.{Refuses, OutOfMemoryOr}
 use Rattle.cedar_cst.specs.PolicyReaders.{HasPolicies, HasRead}
 use Rattle.cedar_cst.proofs.Readers.{ends_inside}
-use Rattle.cedar_expected.proofs.RightAfter.{never_read, never_tokens, never_placed, left_after}
+use Rattle.cedar_expected.proofs.RightAfter.{never_read, never_placed, left_after}
 use Rattle.cedar_expected.proofs.expected.leave.Goals.{in-Some, in-None}
 use Rattle.cedar_expected.proofs.expected.leave.Goals as goal
-
-pub returns-in_default : goal.returns-in_default
-returns-in_default c = never_tokens c.refusal_is_unique.ensures c.args.text.now c.in_default.field-0 c.in_default.ensures.refusal
 
 pub returns-in-Ok-None : goal.returns-in-Ok-None
 returns-in-Ok-None c =

@@ -10,4 +10,4 @@ returns-clause-piece c =
 pub returns-clause-lexemes : goal.returns-clause-lexemes
 returns-clause-lexemes c =
     let s = rw c.in-Some.is at c.in_ok-end.ensures.lexemes in
-    piece_lexemes _ _ _ _ _ c.requires s c.range_from.ensures.value c.rest_of_line.ensures.line
+    piece_lexemes _ _ _ _ _ s c.range_from.ensures.value c.rest_of_line.ensures.line

@@ -11,11 +11,11 @@ use Rattle.cedar_policy_formatter.proofs.fmt.write_policies.Goals as goal
 
 pub pieces-init : goal.pieces-init
 pieces-init g c = record {
-  of_text = c.in_ok-reader.ensures.reader.of_text;
+  of_text = c.new-reader.ensures.of_text;
   out = [];
   taken = g.met.S.Sink.takes_nothing c.args.sink.now;
   empty = refl;
-  laid = laid_begun _ _ _ c.in_ok-reader.reader _ c.in_ok-reader.ensures.reader refl;
+  laid = laid_begun _ _ _ c.new-reader.result _ c.new-reader.ensures refl;
 }
 
 pub lay_out-requires : goal.lay_out-requires

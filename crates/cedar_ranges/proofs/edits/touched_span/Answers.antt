@@ -8,8 +8,8 @@ use Rattle.cedar_ranges.proofs.edits.touched_span.Goals as goal
 
 pub pieces-init : goal.pieces-init
 pieces-init c = record {
-  of_text = c.in_ok-reader.ensures.reader.of_text;
-  place = sym (read_nothing c.in_ok-reader.reader c.args.text.now c.in_ok-reader.ensures.reader);
+  of_text = c.new-reader.ensures.of_text;
+  place = sym (read_nothing c.new-reader.result c.args.text.now c.new-reader.ensures);
   touched = none_touched c.args.text.now c.args.range (record { start = 0; end = 0 }) 0 refl refl;
 }
 
