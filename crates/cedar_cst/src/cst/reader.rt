@@ -58,7 +58,7 @@ impl<'src> Model for PolicyReader<'src> {
 }
 
 impl<'src> PolicyReader<'src> {
-    /// A reader of the policies of `text`, which has answered none. It looks at no byte yet, and takes no memory.
+    /// A reader of the policies of `text`, which has returned none. Reads nothing yet, and allocates nothing.
     pub fn new(text: &'src str) -> PolicyReader<'src>
         ensures { HasRead result text.now [] }
     {
@@ -69,9 +69,9 @@ impl<'src> PolicyReader<'src> {
         }
     }
 
-    /// The next policy of the text, with the places of the whole text; `None` where there is none, as often as it is asked.
-    /// The policies are those of `parse_policies`, in order, and so is a refusal. After a refusal or `None` the reader is as
-    /// before.
+    /// The next policy of the text, with its places in the whole text; `None` if there is none, however often it is called.
+    /// The policies are those of `parse_policies`, in order, and so is a refusal. After a refusal or `None` the reader is
+    /// unchanged.
     pub fn next(&mut self, alloc: Global) -> Result<Option<Node<Policy<'src>>>, FormatError>
         ensures answer { (text : List _) (ps : List _) → HasRead self.old text ps → IfOk result (λ next. MatchOption next (HasPolicies text ps) (λ p. HasRead self.new text (ps ++ p ∷ []))) }
         ensures refusal { IfErr result (OutOfMemoryOr (Refuses self.old.text)) }
@@ -88,9 +88,9 @@ impl<'src> PolicyReader<'src> {
         Ok(Some(piece.policy))
     }
 
-    /// The next policy with its part of the text, and with its places in that part; `None` where there is none, as often as it is
-    /// asked. A refusal is that of `parse_policies`, with its place in the whole text. After a refusal or `None` the reader is as
-    /// before.
+    /// The next policy with its part of the text, and with its places in that part; `None` if there is none, however often it
+    /// is called. A refusal is that of `parse_policies`, with its place in the whole text. After a refusal or `None` the reader
+    /// is unchanged.
     pub fn next_piece(&mut self, alloc: Global) -> Result<Option<Piece<'src>>, FormatError>
         ensures answer { IfOk result (λ next. MatchOption next (HasEnded self.old) (λ piece. GoesOn self.old self.new piece.text.now)) }
         ensures policy { IfOk result (λ next. MatchOption next (self.new ≡ self.old) (λ piece. IsPolicyOf piece.text.now piece.policy)) }
@@ -113,14 +113,14 @@ impl<'src> PolicyReader<'src> {
         }))
     }
 
-    /// What of the text is not read yet.
+    /// The part of the text that is not read yet.
     pub fn rest(&self) -> &'src str
         ensures { result.now ≡ drop self.now.at self.now.text }
     {
         &self.text[self.at..]
     }
 
-    // The room of the policy before, if there was one.
+    // The memory of the lexemes of the previous policy, if there was one.
     fn take_room(&mut self, alloc: Global) -> Vec<Lexeme<'src>>
         ensures { self.new ≡ self.old }
     {
@@ -131,7 +131,7 @@ impl<'src> PolicyReader<'src> {
     }
 
     // The next policy with its part of the text and its lexemes, their places moved by `by` bytes. A refusal has its place in the
-    // whole text. The lexemes stand in this room; what it held is dropped.
+    // whole text. The lexemes are stored in `room`, whose former contents are dropped.
     fn read_piece(
         &self,
         alloc: Global,
@@ -155,7 +155,7 @@ impl<'src> PolicyReader<'src> {
         let Policies { mut policies } = match parse_part(alloc, text, &mut lexemes, at, by) {
             Ok(policies) => policies,
             Err(refusal) => {
-                // A fault of the text comes first, wherever it stands.
+                // A fault of the text is reported first, wherever it is.
                 check_tokens(self.text)?;
                 return Err(refusal);
             }
@@ -170,7 +170,7 @@ impl<'src> PolicyReader<'src> {
         }
     }
 
-    // Refuses the text where the tokens of what is left can't be parsed.
+    // Refuses the text if the tokens of what is left can't be parsed.
     fn check_rest(&self) -> Result<(), FormatError>
         ensures { MatchResult result (λ _. HasTokens (drop self.now.at self.now.text)) (RefusesTokens self.now.text) }
     {
@@ -223,7 +223,7 @@ fn move_spans(lexemes: &mut [Lexeme], by: usize)
     }
 }
 
-// Where the token starts from which on so many are left; `end` where none is left.
+// The start of the token from which on so many are left; `end` if none is left.
 fn place(end: usize, lexemes: &[Lexeme], left: usize) -> usize
     ensures { result ≡ place_before end lexemes.now left }
 {
