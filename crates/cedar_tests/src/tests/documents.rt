@@ -8,15 +8,15 @@ use cedar_policy_formatter::layout::render;
 use cedar_policy_formatter::lexer::{drop_trailing_commas, get_token_stream};
 use cedar_policy_formatter::utils::{in_order, remove_empty_lines};
 
-// The layouts of the policies of a row's text, an empty line between them, and then the closing comments.
+// The layouts of a text's policies, an empty line between them, and then the closing comments.
 fn rendered(
     rt: &impl Abort,
     alloc: Global,
-    row: &Row,
+    text: &str,
     config: &Config,
 ) -> Result<String, FormatError> {
-    let tree = parse_policies(alloc, row.text)?;
-    let (mut tokens, closing) = get_token_stream(alloc, row.text)?.expect(rt, row.name);
+    let tree = parse_policies(alloc, text)?;
+    let (mut tokens, closing) = get_token_stream(alloc, text)?.expect(rt, text);
     drop_trailing_commas(alloc, &mut tokens)?;
     let mut context = Context { config, tokens };
     let mut out = String::new(alloc);
@@ -43,9 +43,11 @@ fn rendered(
     Ok(out)
 }
 
-fn expect_row(rt: &impl Abort, alloc: Global, row: &Row) {
-    let got = rendered(rt, alloc, row, &config(row.width, row.indent)).expect(rt, row.name);
-    expect_text(rt, got.as_str(), row.layout, row.name);
+fn expect_row(rt: &impl Abort, alloc: Global, row: &(usize, isize, &str, &str)) {
+    let text = expand(rt, alloc, row.2);
+    let want = expand(rt, alloc, row.3);
+    let got = rendered(rt, alloc, text.as_str(), &config(row.0, row.1)).expect(rt, row.2);
+    expect_text(rt, got.as_str(), want.as_str(), row.2);
 }
 
 #[test]
