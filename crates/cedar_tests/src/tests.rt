@@ -2,7 +2,9 @@
 //! are tables, since each function is proved and a table isn't.
 use cedar_policy_formatter::cst::parse_policies;
 use cedar_policy_formatter::{Config, FormatError, policies_str_to_pretty};
-use std::alloc::Global;
+use cedar_test_rows::Part::{Once, Times};
+use cedar_test_rows::{Part, ROW, Row, joined};
+use std::alloc::{AllocError, Global};
 use std::process::Abort;
 
 mod answers;
@@ -16,34 +18,11 @@ mod program;
 mod rows;
 mod sweep;
 
-// Appends the text with `permit(principal,action,resource)` in place of each `§`, and
-// `permit (principal, action, resource)` in place of each `¶`.
-fn append(rt: &impl Abort, out: &mut String, text: &str) {
-    for c in text.chars() {
-        let grown = match c {
-            '§' => out.push_str("permit(principal,action,resource)"),
-            '¶' => out.push_str("permit (principal, action, resource)"),
-            other => out.push(other),
-        };
-        grown.expect(rt, "memory");
-    }
-}
-
-fn expand(rt: &impl Abort, alloc: Global, text: &str) -> String {
-    let mut out = String::new(alloc);
-    append(rt, &mut out, text);
-    out
-}
-
-// The parts, each so many times, one behind the other.
-fn joined(rt: &impl Abort, alloc: Global, parts: &[(&str, usize)]) -> String {
-    let mut out = String::new(alloc);
-    for (part, times) in parts {
-        for _ in 0..*times {
-            append(rt, &mut out, part);
-        }
-    }
-    out
+// A text, and its refusal if it is refused.
+struct Answer {
+    name: &'static str,
+    text: &'static str,
+    refusal: Option<FormatError>,
 }
 
 fn config(line_width: usize, indent_width: isize) -> Config {
@@ -53,33 +32,59 @@ fn config(line_width: usize, indent_width: isize) -> Config {
     }
 }
 
-// Each assertion stands in a function of its own: it is a good part of what its function costs to prove.
-fn expect_text(rt: &impl Abort, got: &str, want: &str, row: &str) {
-    assert_eq!(rt; got, want, "{row:?}");
+// The words of a command line.
+fn words_of(alloc: Global, words: &[&str]) -> Result<Vec<String>, AllocError> {
+    let mut given = Vec::new(alloc);
+    for word in words {
+        given.push(String::from_str(alloc, word)?)?;
+    }
+    Ok(given)
 }
 
-fn expect_refusal(rt: &impl Abort, got: Option<FormatError>, want: Option<FormatError>, row: &str) {
-    assert_eq!(rt; got, want, "{row:?}");
+// Each assertion stands in a function of its own: it is a good part of what its function costs to prove.
+fn expect_text(rt: &impl Abort, got: &str, want: &str, name: &str) {
+    assert_eq!(rt; got, want, "{name}");
+}
+
+fn expect_bytes(rt: &impl Abort, got: &[u8], want: &str, name: &str) {
+    let got = str::from_utf8(got).unwrap_or("bytes that are not UTF-8");
+    expect_text(rt, got, want, name);
+}
+
+fn expect_refusal(
+    rt: &impl Abort,
+    got: Option<FormatError>,
+    want: Option<FormatError>,
+    name: &str,
+) {
+    assert_eq!(rt; got, want, "{name}");
 }
 
 fn expect_told(
     rt: &impl Abort,
     got: Result<bool, FormatError>,
     want: Result<bool, FormatError>,
-    row: &str,
+    name: &str,
 ) {
-    expect_refusal(rt, got.err(), want.err(), row);
-    expect_same(rt, got.ok(), want.ok(), row);
+    expect_refusal(rt, got.err(), want.err(), name);
+    expect_same(rt, got.ok(), want.ok(), name);
 }
 
-fn expect_same(rt: &impl Abort, got: Option<bool>, want: Option<bool>, row: &str) {
-    assert_eq!(rt; got, want, "{row:?}");
+fn expect_same(rt: &impl Abort, got: Option<bool>, want: Option<bool>, name: &str) {
+    assert_eq!(rt; got, want, "{name}");
 }
 
 // The text is laid out like this, and the result is laid out as it is.
-fn expect_layout(rt: &impl Abort, alloc: Global, text: &str, config: &Config, want: &str) {
-    let got = policies_str_to_pretty(alloc, text, config).expect(rt, text);
-    expect_text(rt, got.as_str(), want, text);
-    let again = policies_str_to_pretty(alloc, want, config).expect(rt, want);
-    expect_text(rt, again.as_str(), want, want);
+fn expect_layout(
+    rt: &impl Abort,
+    alloc: Global,
+    name: &str,
+    text: &str,
+    config: &Config,
+    want: &str,
+) {
+    let got = policies_str_to_pretty(alloc, text, config).expect(rt, name);
+    expect_text(rt, got.as_str(), want, name);
+    let again = policies_str_to_pretty(alloc, want, config).expect(rt, name);
+    expect_text(rt, again.as_str(), want, name);
 }

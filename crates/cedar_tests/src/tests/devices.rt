@@ -89,14 +89,16 @@ impl Write for Sink<'_> {
 struct Buffer<'a> {
     taken: &'a mut Vec<u8>,
     flushed: &'a mut Vec<u8>,
-    calls: (usize, usize),
-    fails_at: (usize, usize),
+    writes: usize,
+    flushes: usize,
+    write_fails_at: usize,
+    flush_fails_at: usize,
 }
 
 impl Write for Buffer<'_> {
     fn write(&mut self, buf: &[u8]) -> io::Result<usize> {
-        self.calls.0 = self.calls.0.saturating_add(1);
-        if self.calls.0 == self.fails_at.0 {
+        self.writes = self.writes.saturating_add(1);
+        if self.writes == self.write_fails_at {
             return Err(io::Error::from(ErrorKind::Other));
         }
         self.taken.extend_from_slice(buf)?;
@@ -104,8 +106,8 @@ impl Write for Buffer<'_> {
     }
 
     fn flush(&mut self) -> io::Result<()> {
-        self.calls.1 = self.calls.1.saturating_add(1);
-        if self.calls.1 == self.fails_at.1 {
+        self.flushes = self.flushes.saturating_add(1);
+        if self.flushes == self.flush_fails_at {
             return Err(io::Error::from(ErrorKind::Other));
         }
         self.flushed.clear();
@@ -114,142 +116,161 @@ impl Write for Buffer<'_> {
     }
 }
 
-// A run: its text, how the reader and the writer go (`most` and `fails_at`), what it answers, whether the reader and the
-// writer failed, and what was written.
-#[derive(Drop)]
+// How a reader or a writer goes: how many bytes a call moves at most, and the call that fails, counted from 1.
+#[derive(Clone, Copy)]
+struct Device {
+    most: usize,
+    fails_at: usize,
+}
+
+// One that moves all bytes at once, and never fails.
+const DEVICE: Device = Device {
+    most: usize::MAX,
+    fails_at: 0,
+};
+
+// A run: its text, how the reader and the writer go, what it answers, whether the reader and the writer failed, and what was
+// written.
+#[derive(Clone, Copy)]
 struct Run<'a> {
     name: &'static str,
     text: &'a [u8],
-    reading: (usize, usize),
-    writing: (usize, usize),
+    reading: Device,
+    writing: Device,
     answer: Result<(), RunFault>,
-    failed: (bool, bool),
+    reader_fails: bool,
+    writer_fails: bool,
     written: &'a str,
 }
 
+// What a row has that says nothing else.
+const RUN: Run<'static> = Run {
+    name: "",
+    text: b"permit(principal,action,resource);",
+    reading: DEVICE,
+    writing: DEVICE,
+    answer: Ok(()),
+    reader_fails: false,
+    writer_fails: false,
+    written: "",
+};
+
 static RUNS: [Run<'static>; 11] = [
+    // Runs that succeed.
     Run {
         name: "at once",
-        text: b"permit(principal,action,resource);",
-        reading: (usize::MAX, 0),
-        writing: (usize::MAX, 0),
-        answer: Ok(()),
-        failed: (false, false),
-        written: "permit (principal, action, resource);\n",
+        written: r#"permit (principal, action, resource);
+"#,
+        ..RUN
     },
     Run {
         name: "byte by byte",
-        text: b"permit(principal,action,resource);",
-        reading: (1, 0),
-        writing: (3, 0),
-        answer: Ok(()),
-        failed: (false, false),
-        written: "permit (principal, action, resource);\n",
+        reading: Device { most: 1, ..DEVICE },
+        writing: Device { most: 3, ..DEVICE },
+        written: r#"permit (principal, action, resource);
+"#,
+        ..RUN
     },
     Run {
         name: "nothing",
         text: b"",
-        reading: (usize::MAX, 0),
-        writing: (usize::MAX, 0),
-        answer: Ok(()),
-        failed: (false, false),
         written: "\n",
+        ..RUN
     },
+    // Reads and writes that fail.
     Run {
         name: "no first read",
-        text: b"permit(principal,action,resource);",
-        reading: (usize::MAX, 1),
-        writing: (usize::MAX, 0),
+        reading: Device {
+            fails_at: 1,
+            ..DEVICE
+        },
         answer: Err(RunFault::Read),
-        failed: (true, false),
-        written: "",
+        reader_fails: true,
+        ..RUN
     },
     Run {
         name: "no second read",
-        text: b"permit(principal,action,resource);",
-        reading: (usize::MAX, 2),
-        writing: (usize::MAX, 0),
+        reading: Device {
+            fails_at: 2,
+            ..DEVICE
+        },
         answer: Err(RunFault::Read),
-        failed: (true, false),
-        written: "",
+        reader_fails: true,
+        ..RUN
     },
     Run {
         name: "no read in mid-stream",
-        text: b"permit(principal,action,resource);",
-        reading: (5, 2),
-        writing: (usize::MAX, 0),
+        reading: Device {
+            most: 5,
+            fails_at: 2,
+        },
         answer: Err(RunFault::Read),
-        failed: (true, false),
-        written: "",
+        reader_fails: true,
+        ..RUN
     },
     Run {
         name: "no first write",
-        text: b"permit(principal,action,resource);",
-        reading: (usize::MAX, 0),
-        writing: (usize::MAX, 1),
+        writing: Device {
+            fails_at: 1,
+            ..DEVICE
+        },
         answer: Err(RunFault::Write),
-        failed: (false, true),
-        written: "",
+        writer_fails: true,
+        ..RUN
     },
     Run {
         name: "no write in mid-stream",
-        text: b"permit(principal,action,resource);",
-        reading: (usize::MAX, 0),
-        writing: (5, 2),
+        writing: Device {
+            most: 5,
+            fails_at: 2,
+        },
         answer: Err(RunFault::Write),
-        failed: (false, true),
+        writer_fails: true,
         written: "permi",
+        ..RUN
     },
     Run {
         name: "a write of nothing",
-        text: b"permit(principal,action,resource);",
-        reading: (usize::MAX, 0),
-        writing: (0, 0),
+        writing: Device { most: 0, ..DEVICE },
         answer: Err(RunFault::Write),
-        failed: (false, true),
-        written: "",
+        writer_fails: true,
+        ..RUN
     },
+    // Refused texts.
     Run {
         name: "no UTF-8",
         text: &[255],
-        reading: (usize::MAX, 0),
-        writing: (usize::MAX, 0),
         answer: Err(RunFault::NotUtf8),
-        failed: (false, false),
-        written: "",
+        ..RUN
     },
     Run {
         name: "no policy",
         text: b"permit(principal,action,resource)",
-        reading: (usize::MAX, 0),
-        writing: (usize::MAX, 0),
         answer: Err(RunFault::Format(FormatError::Grammar { at: 33 })),
-        failed: (false, false),
-        written: "",
+        ..RUN
     },
 ];
 
-// What the run answers, and whether the reader and the writer failed.
-fn outcome(
-    rt: &impl Abort,
-    alloc: Global,
-    run: &Run<'_>,
-    taken: &mut Vec<u8>,
-) -> (Result<(), RunFault>, (bool, bool)) {
-    let mut input = Watched::new(Source::new(run.text, run.reading.0, run.reading.1));
-    let (most, fails_at) = run.writing;
-    let mut output = Watched::new(Sink::new(taken, most, fails_at, ErrorKind::Interrupted));
-    assert!(rt; !input.failed() && !output.failed());
-    let got = format_stream(alloc, &mut input, &mut output, &Config::default());
-    (got, (input.failed(), output.failed()))
+fn expect_failed(rt: &impl Abort, failed: bool, want: bool, name: &str) {
+    assert_eq!(rt; failed, want, "{name}: a device fails");
 }
 
 fn expect_run(rt: &impl Abort, alloc: Global, run: &Run<'_>) {
     let mut taken = Vec::new(alloc);
-    let got = outcome(rt, alloc, run, &mut taken);
-    assert_eq!(rt; got, (run.answer, run.failed), "{}", run.name);
-    let is_written = taken.as_slice() == run.written.as_bytes();
-    assert!(rt; is_written, "{}", run.name);
+    let (reading, writing) = (run.reading, run.writing);
+    let mut input = Watched::new(Source::new(run.text, reading.most, reading.fails_at));
+    let mut output = Watched::new(Sink::new(
+        &mut taken,
+        writing.most,
+        writing.fails_at,
+        ErrorKind::Interrupted,
+    ));
+    expect_failed(rt, input.failed() || output.failed(), false, run.name);
+    let got = format_stream(alloc, &mut input, &mut output, &Config::default());
+    assert_eq!(rt; got, run.answer, "{}", run.name);
+    expect_failed(rt, input.failed(), run.reader_fails, run.name);
+    expect_failed(rt, output.failed(), run.writer_fails, run.name);
+    expect_bytes(rt, taken.as_slice(), run.written, run.name);
 }
 
 #[test]
@@ -259,73 +280,89 @@ fn runs(rt: HostRuntime) {
     }
 }
 
-// A check: its text, how the reader goes (`most` and `fails_at`), what it answers, and whether the reader failed.
-#[derive(Drop)]
-struct Check<'a> {
+// A check: its text, how the reader goes, what it answers, and whether the reader failed.
+#[derive(Clone, Copy)]
+struct Check {
     name: &'static str,
-    text: &'a [u8],
-    reading: (usize, usize),
+    text: &'static [u8],
+    reading: Device,
     answer: Result<bool, RunFault>,
-    failed: bool,
+    reader_fails: bool,
 }
 
-static CHECKS: [Check<'static>; 7] = [
+const CHECK: Check = Check {
+    name: "",
+    text: b"",
+    reading: DEVICE,
+    answer: Ok(true),
+    reader_fails: false,
+};
+
+static CHECKS: [Check; 7] = [
     Check {
         name: "packed",
         text: b"permit(principal,action,resource);",
-        reading: (usize::MAX, 0),
         answer: Ok(false),
-        failed: false,
+        ..CHECK
     },
     Check {
         name: "laid out",
-        text: b"permit (principal, action, resource);\n",
-        reading: (usize::MAX, 0),
+        text: br#"permit (principal, action, resource);
+"#,
         answer: Ok(true),
-        failed: false,
+        ..CHECK
     },
     Check {
         name: "laid out, byte by byte",
-        text: b"permit (principal, action, resource);\n",
-        reading: (1, 0),
+        text: br#"permit (principal, action, resource);
+"#,
+        reading: Device { most: 1, ..DEVICE },
         answer: Ok(true),
-        failed: false,
+        ..CHECK
     },
     Check {
         name: "no policy",
         text: b"permit(principal,action,resource)",
-        reading: (5, 0),
+        reading: Device { most: 5, ..DEVICE },
         answer: Err(RunFault::Format(FormatError::Grammar { at: 33 })),
-        failed: false,
+        ..CHECK
     },
     Check {
         name: "no UTF-8",
         text: &[255],
-        reading: (usize::MAX, 0),
         answer: Err(RunFault::NotUtf8),
-        failed: false,
+        ..CHECK
     },
     Check {
         name: "no first read",
-        text: b"permit (principal, action, resource);\n",
-        reading: (usize::MAX, 1),
+        text: br#"permit (principal, action, resource);
+"#,
+        reading: Device {
+            fails_at: 1,
+            ..DEVICE
+        },
         answer: Err(RunFault::Read),
-        failed: true,
+        reader_fails: true,
     },
     Check {
         name: "no read in mid-stream",
-        text: b"permit (principal, action, resource);\n",
-        reading: (5, 3),
+        text: br#"permit (principal, action, resource);
+"#,
+        reading: Device {
+            most: 5,
+            fails_at: 3,
+        },
         answer: Err(RunFault::Read),
-        failed: true,
+        reader_fails: true,
     },
 ];
 
-fn expect_check(rt: &impl Abort, alloc: Global, check: &Check<'_>) {
-    let mut input = Watched::new(Source::new(check.text, check.reading.0, check.reading.1));
+fn expect_check(rt: &impl Abort, alloc: Global, check: &Check) {
+    let reading = check.reading;
+    let mut input = Watched::new(Source::new(check.text, reading.most, reading.fails_at));
     let got = check_stream(alloc, &mut input, &Config::default());
     assert_eq!(rt; got, check.answer, "{}", check.name);
-    assert_eq!(rt; input.failed(), check.failed, "{}", check.name);
+    expect_failed(rt, input.failed(), check.reader_fails, check.name);
 }
 
 #[test]
@@ -337,23 +374,104 @@ fn checks(rt: HostRuntime) {
 
 #[test]
 fn large_runs(rt: HostRuntime) {
-    let text = joined(&rt, rt.alloc(), &[("§;", 5000)]);
-    let want = joined(&rt, rt.alloc(), &[("¶;\n", 1), ("\n¶;\n", 4999)]);
+    let policy = "permit(principal,action,resource);";
+    let text = joined(rt.alloc(), &[Times(5000, policy)]).expect(&rt, "the text");
+    let parts = [
+        Once("permit (principal, action, resource);\n"),
+        Times(4999, "\npermit (principal, action, resource);\n"),
+    ];
+    let layout = joined(rt.alloc(), &parts).expect(&rt, "the layout");
     for most in [1000, 65536, 1000000] {
+        let device = Device { most, ..DEVICE };
         let run = Run {
-            name: "large",
+            name: "5,000 policies",
             text: text.as_str().as_bytes(),
-            reading: (most, 0),
-            writing: (most, 0),
-            answer: Ok(()),
-            failed: (false, false),
-            written: want.as_str(),
+            reading: device,
+            writing: device,
+            written: layout.as_str(),
+            ..RUN
         };
         expect_run(&rt, rt.alloc(), &run);
     }
 }
 
-// What a run of the program wrote to the output, how much of that is flushed, what it told, and its status.
+// A run of the program: its words, its text, the calls at which writing and flushing fail, what it writes to the output,
+// what of that is flushed, what it reports, and its status.
+#[derive(Clone, Copy)]
+struct Flush {
+    name: &'static str,
+    words: &'static [&'static str],
+    text: &'static str,
+    write_fails_at: usize,
+    flush_fails_at: usize,
+    output: &'static str,
+    flushed: &'static str,
+    errors: &'static str,
+    status: u8,
+}
+
+const FLUSH: Flush = Flush {
+    name: "",
+    words: &["cedar", "format"],
+    text: "permit(principal,action,resource);",
+    write_fails_at: 0,
+    flush_fails_at: 0,
+    output: "",
+    flushed: "",
+    errors: "",
+    status: 0,
+};
+
+static FLUSHES: [Flush; 5] = [
+    Flush {
+        name: "all is flushed",
+        output: r#"permit (principal, action, resource);
+"#,
+        flushed: r#"permit (principal, action, resource);
+"#,
+        ..FLUSH
+    },
+    Flush {
+        name: "no flush",
+        flush_fails_at: 1,
+        output: r#"permit (principal, action, resource);
+"#,
+        errors: r#"cedar: cannot write the output
+"#,
+        status: 1,
+        ..FLUSH
+    },
+    Flush {
+        name: "nothing to flush",
+        words: &["cedar", "format", "--check"],
+        text: r#"permit (principal, action, resource);
+"#,
+        write_fails_at: 1,
+        flush_fails_at: 1,
+        ..FLUSH
+    },
+    Flush {
+        name: "a refused text and no write",
+        text: "permit(principal,action,resource)",
+        write_fails_at: 1,
+        errors: r#"cedar: not in the grammar at byte 33
+"#,
+        status: 1,
+        ..FLUSH
+    },
+    Flush {
+        name: "a refused text, no write and no flush",
+        text: "permit(principal,action,resource)",
+        write_fails_at: 1,
+        flush_fails_at: 1,
+        errors: r#"cedar: not in the grammar at byte 33
+"#,
+        status: 1,
+        ..FLUSH
+    },
+];
+
+// What a run of the program wrote to the output, how much of that is flushed, what it reported, and its status.
 #[derive(Drop)]
 struct Written {
     output: Vec<u8>,
@@ -362,31 +480,23 @@ struct Written {
     status: u8,
 }
 
-// A run on these words, with the calls at which writing and flushing fail.
-fn written_by<R: Files + AllocGlobal + Abort>(
-    rt: &R,
-    words: &[&str],
-    text: &str,
-    fails_at: (usize, usize),
-) -> Written {
+fn written_by<R: Files + AllocGlobal + Abort>(rt: &R, row: &Flush) -> Written {
     let alloc = rt.alloc();
-    let mut given = Vec::new(alloc);
-    for word in words {
-        let word = String::from_str(alloc, word).expect(rt, "memory");
-        given.push(word).expect(rt, "memory");
-    }
+    let words = words_of(alloc, row.words).expect(rt, row.name);
     let mut output = Vec::new(alloc);
     let mut flushed = Vec::new(alloc);
     let mut errors = Vec::new(alloc);
     let mut writer = Watched::new(Buffer {
         taken: &mut output,
         flushed: &mut flushed,
-        calls: (0, 0),
-        fails_at,
+        writes: 0,
+        flushes: 0,
+        write_fails_at: row.write_fails_at,
+        flush_fails_at: row.flush_fails_at,
     });
     let mut teller = Sink::new(&mut errors, 7, 0, ErrorKind::Other);
-    let reader = Source::new(text.as_bytes(), usize::MAX, 0);
-    let status = run_words(rt, given.as_slice(), reader, &mut writer, &mut teller);
+    let reader = Source::new(row.text.as_bytes(), usize::MAX, 0);
+    let status = run_words(rt, words.as_slice(), reader, &mut writer, &mut teller);
     Written {
         output,
         flushed,
@@ -395,97 +505,45 @@ fn written_by<R: Files + AllocGlobal + Abort>(
     }
 }
 
-// A run of the program: its words, its text, the calls at which writing and flushing fail, what it writes to the output,
-// what of that is flushed, what it tells, and its status.
-#[derive(Drop)]
-struct Flush<'a> {
-    name: &'static str,
-    words: &'a [&'static str],
-    text: &'a str,
-    fails_at: (usize, usize),
-    output: &'a str,
-    flushed: &'a str,
-    errors: &'a str,
-    status: u8,
-}
-
-static FLUSHES: [Flush<'static>; 5] = [
-    Flush {
-        name: "all is flushed",
-        words: &["cedar", "format"],
-        text: "permit(principal,action,resource);",
-        fails_at: (0, 0),
-        output: "permit (principal, action, resource);\n",
-        flushed: "permit (principal, action, resource);\n",
-        errors: "",
-        status: 0,
-    },
-    Flush {
-        name: "no flush",
-        words: &["cedar", "format"],
-        text: "permit(principal,action,resource);",
-        fails_at: (0, 1),
-        output: "permit (principal, action, resource);\n",
-        flushed: "",
-        errors: "cedar: cannot write the output\n",
-        status: 1,
-    },
-    Flush {
-        name: "nothing to flush",
-        words: &["cedar", "format", "--check"],
-        text: "permit (principal, action, resource);\n",
-        fails_at: (1, 1),
-        output: "",
-        flushed: "",
-        errors: "",
-        status: 0,
-    },
-    Flush {
-        name: "a refused text and no write",
-        words: &["cedar", "format"],
-        text: "permit(principal,action,resource)",
-        fails_at: (1, 0),
-        output: "",
-        flushed: "",
-        errors: "cedar: not in the grammar at byte 33\n",
-        status: 1,
-    },
-    Flush {
-        name: "a refused text, no write and no flush",
-        words: &["cedar", "format"],
-        text: "permit(principal,action,resource)",
-        fails_at: (1, 1),
-        output: "",
-        flushed: "",
-        errors: "cedar: not in the grammar at byte 33\n",
-        status: 1,
-    },
-];
-
-fn expect_written(rt: &impl Abort, got: &[u8], want: &str, row: &str) {
-    assert!(rt; got == want.as_bytes(), "{row}");
-}
-
 #[test]
 fn flushes(rt: HostRuntime) {
     for row in &FLUSHES {
-        let got = written_by(&rt, row.words, row.text, row.fails_at);
+        let got = written_by(&rt, row);
         assert_eq!(rt; got.status, row.status, "{}", row.name);
-        expect_written(&rt, got.output.as_slice(), row.output, row.name);
-        expect_written(&rt, got.flushed.as_slice(), row.flushed, row.name);
-        expect_written(&rt, got.errors.as_slice(), row.errors, row.name);
+        expect_bytes(&rt, got.output.as_slice(), row.output, row.name);
+        expect_bytes(&rt, got.flushed.as_slice(), row.flushed, row.name);
+        expect_bytes(&rt, got.errors.as_slice(), row.errors, row.name);
     }
 }
 
+static HELP: Flush = Flush {
+    name: "help",
+    words: &["cedar", "--help"],
+    text: "",
+    ..FLUSH
+};
+
+static HELP_UNFLUSHED: Flush = Flush {
+    name: "help that is not flushed",
+    words: &["cedar", "--help"],
+    text: "",
+    flush_fails_at: 1,
+    ..FLUSH
+};
+
 #[test]
 fn flushes_help(rt: HostRuntime) {
-    let words = ["cedar", "--help"].as_slice();
-    let whole = written_by(&rt, words, "", (0, 0));
+    let whole = written_by(&rt, &HELP);
     assert_eq!(rt; whole.status, 0);
     assert!(rt; !whole.output.is_empty() && whole.flushed == whole.output);
-    let unflushed = written_by(&rt, words, "", (0, 1));
+    let unflushed = written_by(&rt, &HELP_UNFLUSHED);
     assert_eq!(rt; unflushed.status, 1);
     assert!(rt; unflushed.output == whole.output && unflushed.flushed.is_empty());
     let told = "cedar: cannot write the output\n";
-    expect_written(&rt, unflushed.errors.as_slice(), told, "help");
+    expect_bytes(
+        &rt,
+        unflushed.errors.as_slice(),
+        told,
+        "help that is not flushed",
+    );
 }

@@ -4,7 +4,6 @@ use cedar_examples::{
     LintError, Store, comments_of, fingerprint, first_document, print_rewritten, save,
 };
 use cedar_policy_formatter::layout::{Document, render};
-use std::alloc::AllocError;
 
 const TEXT: &str = "permit(principal,action,resource,);// who";
 

@@ -1,5 +1,5 @@
 //! Layouts are laid out as they are, at many widths and indentations.
-use super::rows::rows;
+use super::rows::{COMMENTS, CONDITIONS, ENDS, SCOPES, WIDTHS};
 use super::*;
 use cedar_policy_formatter::lexer::{drop_trailing_commas, get_token_stream};
 use cedar_policy_formatter::token::{Token, WrappedToken};
@@ -21,115 +21,265 @@ fn same_tokens(a: &[WrappedToken<'_>], b: &[WrappedToken<'_>]) -> bool {
 
 // Whether the tokens of `a` without trailing commas are those of `b`, with their comments, and the closing comments too.
 fn same_list(rt: &impl Abort, alloc: Global, a: &str, b: &str) -> bool {
-    let stream = get_token_stream(alloc, a).expect(rt, "memory");
+    let stream = get_token_stream(alloc, a).expect(rt, a);
     let (mut tokens, closing) = stream.expect(rt, a);
-    let stream = get_token_stream(alloc, b).expect(rt, "memory");
+    let stream = get_token_stream(alloc, b).expect(rt, b);
     let (others, ending) = stream.expect(rt, b);
-    drop_trailing_commas(alloc, &mut tokens).expect(rt, "memory");
-    let lines: Vec<&str> = closing.collect(alloc).expect(rt, "memory");
-    let ends: Vec<&str> = ending.collect(alloc).expect(rt, "memory");
+    drop_trailing_commas(alloc, &mut tokens).expect(rt, a);
+    let lines: Vec<&str> = closing.collect(alloc).expect(rt, a);
+    let ends: Vec<&str> = ending.collect(alloc).expect(rt, b);
     same_tokens(&tokens, &others) && lines == ends
 }
 
-fn expect_kept(rt: &impl Abort, is_kept: bool, text: &str, first: &str, config: &Config) {
-    assert!(rt; is_kept, "{text:?} at {config:?} gives {first:?}");
+fn expect_kept(
+    rt: &impl Abort,
+    is_kept: bool,
+    name: &str,
+    text: &str,
+    first: &str,
+    config: &Config,
+) {
+    assert!(rt; is_kept, "{name}: {text:?} at {config:?} gives {first:?}");
 }
 
 // The text's layout is of the same list, and is laid out as it is.
-fn expect_stable(rt: &impl Abort, alloc: Global, text: &str, config: &Config) {
-    let layout = policies_str_to_pretty(alloc, text, config).expect(rt, text);
+fn expect_stable(rt: &impl Abort, alloc: Global, name: &str, text: &str, config: &Config) {
+    let layout = policies_str_to_pretty(alloc, text, config).expect(rt, name);
     let first = layout.as_str();
-    expect_kept(rt, same_list(rt, alloc, text, first), text, first, config);
-    let again = policies_str_to_pretty(alloc, first, config).expect(rt, text);
-    expect_kept(rt, again.as_str() == first, text, first, config);
+    let is_kept = same_list(rt, alloc, text, first);
+    expect_kept(rt, is_kept, name, text, first, config);
+    let again = policies_str_to_pretty(alloc, first, config).expect(rt, name);
+    let is_kept = again.as_str() == first;
+    expect_kept(rt, is_kept, name, text, first, config);
 }
 
 // Every width up to 90 and every indentation from -1 to 4.
-fn sweep(rt: &impl Abort, alloc: Global, text: &str) {
+fn sweep(rt: &impl Abort, alloc: Global, name: &str, text: &str) {
     for indent in -1..5 {
         for width in 0..91 {
-            expect_stable(rt, alloc, text, &config(width, indent));
+            expect_stable(rt, alloc, name, text, &config(width, indent));
         }
     }
 }
 
-#[test]
-fn rows_at_every_width(rt: HostRuntime) {
-    for row in rows() {
-        let text = expand(&rt, rt.alloc(), row.2);
-        sweep(&rt, rt.alloc(), text.as_str());
+fn sweep_rows(rt: &impl Abort, alloc: Global, rows: &[Row]) {
+    for row in rows {
+        sweep(rt, alloc, row.name, row.text);
     }
 }
 
-// Accepted texts of worked examples that are told by other calls: of trees, of checks, of single documents, of comparing.
-static OTHERS: [&str; 17] = [
-    "§when{[1,2]};",
-    "§when{{a:1}};",
-    "§when{(true // c\n)};",
-    "§when{(true)};",
-    "§when{007};",
-    "§when{7==07};",
-    "§when{7==007};",
-    "§;\n// t",
-    "permit(principal in ?principal,action,resource);",
-    "permit(principal == ?principal,action,resource);",
-    "permit (principal, action, resource,);\n",
-    "¶\n        when { \"\n        \n        a\n        \" };",
-    "¶\n        when { \"\n        a\n        \" };",
-    "¶\nwhen { \"a\"};\n¶\nwhen { \"\n\na\n\" };",
-    "¶\nwhen { \"\na\n\" };\n¶\nwhen { \"a\"};",
-    "¶\nwhen { \"a\"   };\n¶\nwhen { \"b\" };",
-    "¶\nwhen { \"a\" };\n¶\nwhen { \"b\"};",
+#[test]
+fn ends_at_every_width(rt: HostRuntime) {
+    sweep_rows(&rt, rt.alloc(), &ENDS);
+}
+
+#[test]
+fn scopes_at_every_width(rt: HostRuntime) {
+    sweep_rows(&rt, rt.alloc(), &SCOPES);
+}
+
+#[test]
+fn comments_at_every_width(rt: HostRuntime) {
+    sweep_rows(&rt, rt.alloc(), &COMMENTS);
+}
+
+#[test]
+fn conditions_at_every_width(rt: HostRuntime) {
+    sweep_rows(&rt, rt.alloc(), &CONDITIONS);
+}
+
+#[test]
+fn widths_at_every_width(rt: HostRuntime) {
+    sweep_rows(&rt, rt.alloc(), &WIDTHS);
+}
+
+struct Accepted {
+    name: &'static str,
+    text: &'static str,
+}
+
+// Accepted texts of worked examples that other calls answer: of trees, of checks, of single documents, of comparing.
+static OTHERS: [Accepted; 17] = [
+    Accepted {
+        name: "list",
+        text: "permit(principal,action,resource)when{[1,2]};",
+    },
+    Accepted {
+        name: "record",
+        text: "permit(principal,action,resource)when{{a:1}};",
+    },
+    Accepted {
+        name: "comment in brackets",
+        text: r#"permit(principal,action,resource)when{(true // c
+)};"#,
+    },
+    Accepted {
+        name: "brackets",
+        text: "permit(principal,action,resource)when{(true)};",
+    },
+    Accepted {
+        name: "number with zeros in front",
+        text: "permit(principal,action,resource)when{007};",
+    },
+    Accepted {
+        name: "number with one zero in front",
+        text: "permit(principal,action,resource)when{7==07};",
+    },
+    Accepted {
+        name: "number with two zeros in front",
+        text: "permit(principal,action,resource)when{7==007};",
+    },
+    Accepted {
+        name: "comment on the line after a policy",
+        text: r#"permit(principal,action,resource);
+// t"#,
+    },
+    Accepted {
+        name: "principal in a slot",
+        text: "permit(principal in ?principal,action,resource);",
+    },
+    Accepted {
+        name: "principal that equals a slot",
+        text: "permit(principal == ?principal,action,resource);",
+    },
+    Accepted {
+        name: "trailing comma in a scope",
+        text: r#"permit (principal, action, resource,);
+"#,
+    },
+    Accepted {
+        name: "string with lines of blanks",
+        text: "permit (principal, action, resource)\n        when { \"\n        \n        a\n        \" };",
+    },
+    Accepted {
+        name: "string of several lines",
+        text: r#"permit (principal, action, resource)
+        when { "
+        a
+        " };"#,
+    },
+    Accepted {
+        name: "two policies, the second with empty lines in a string",
+        text: r#"permit (principal, action, resource)
+when { "a"};
+permit (principal, action, resource)
+when { "
+
+a
+" };"#,
+    },
+    Accepted {
+        name: "two policies, the first with lines in a string",
+        text: r#"permit (principal, action, resource)
+when { "
+a
+" };
+permit (principal, action, resource)
+when { "a"};"#,
+    },
+    Accepted {
+        name: "blanks before a closing brace",
+        text: r#"permit (principal, action, resource)
+when { "a"   };
+permit (principal, action, resource)
+when { "b" };"#,
+    },
+    Accepted {
+        name: "no blank before the last closing brace",
+        text: r#"permit (principal, action, resource)
+when { "a" };
+permit (principal, action, resource)
+when { "b"};"#,
+    },
 ];
 
 #[test]
 fn others_at_every_width(rt: HostRuntime) {
-    for text in &OTHERS {
-        let text = expand(&rt, rt.alloc(), text);
-        sweep(&rt, rt.alloc(), text.as_str());
+    for row in &OTHERS {
+        sweep(&rt, rt.alloc(), row.name, row.text);
     }
 }
 
-// As deep as a text may be.
-static DEEPEST: [&[(&str, usize)]; 2] = [
-    &[
-        ("§when{", 1),
-        ("(", 128),
-        ("true", 1),
-        (")", 128),
-        ("};", 1),
-    ],
-    &[
-        ("§when{", 1),
-        ("(", 128),
-        ("principal[\"x\"]", 1),
-        (")", 128),
-        ("};", 1),
-    ],
+// A text that is as deep as one may be, in parts.
+struct Deepest {
+    name: &'static str,
+    parts: &'static [Part],
+}
+
+static DEEPEST: [Deepest; 2] = [
+    Deepest {
+        name: "128 brackets",
+        parts: &[
+            Once("permit(principal,action,resource)when{"),
+            Times(128, "("),
+            Once("true"),
+            Times(128, ")"),
+            Once("};"),
+        ],
+    },
+    Deepest {
+        name: "index in 128 brackets",
+        parts: &[
+            Once("permit(principal,action,resource)when{"),
+            Times(128, "("),
+            Once(r#"principal["x"]"#),
+            Times(128, ")"),
+            Once("};"),
+        ],
+    },
 ];
 
 #[test]
 fn deepest_texts(rt: HostRuntime) {
-    for parts in &DEEPEST {
-        let text = joined(&rt, rt.alloc(), parts);
-        sweep(&rt, rt.alloc(), text.as_str());
+    for row in &DEEPEST {
+        let text = joined(rt.alloc(), row.parts).expect(&rt, row.name);
+        sweep(&rt, rt.alloc(), row.name, text.as_str());
     }
 }
 
 // Each beginning of these is refused as it is by the parser, or its layout is laid out as it is.
-static BEGUN: [&str; 6] = [
-    "@id(\"x\")§;",
-    "§when{\"a\"\n// c\n== \"b\"};",
-    "§when{{a:1,\"b\":[2,-3]}==context&&principal is A::B in A::\"c\"};",
-    "§when{f(1 // x\n// y\n)};",
-    "§; // t\n// l\n§;\n// e",
-    "permit(principal,action,resource // a\n// b\n, // c\n// d\n);",
+static BEGUN: [Accepted; 6] = [
+    Accepted {
+        name: "annotation",
+        text: r#"@id("x")permit(principal,action,resource);"#,
+    },
+    Accepted {
+        name: "comment before an operator",
+        text: r#"permit(principal,action,resource)when{"a"
+// c
+== "b"};"#,
+    },
+    Accepted {
+        name: "record, list and is in",
+        text: r#"permit(principal,action,resource)when{{a:1,"b":[2,-3]}==context&&principal is A::B in A::"c"};"#,
+    },
+    Accepted {
+        name: "comments in an argument",
+        text: r#"permit(principal,action,resource)when{f(1 // x
+// y
+)};"#,
+    },
+    Accepted {
+        name: "trailing, leading and closing comments",
+        text: r#"permit(principal,action,resource); // t
+// l
+permit(principal,action,resource);
+// e"#,
+    },
+    Accepted {
+        name: "comments around a trailing comma",
+        text: r#"permit(principal,action,resource // a
+// b
+, // c
+// d
+);"#,
+    },
 ];
 
-fn expect_beginning(rt: &impl Abort, alloc: Global, begun: &str) {
+fn expect_beginning(rt: &impl Abort, alloc: Global, name: &str, begun: &str) {
     let config = Config::default();
     match parse_policies(alloc, begun).err() {
-        None => expect_stable(rt, alloc, begun, &config),
+        None => expect_stable(rt, alloc, name, begun, &config),
         refusal => {
             let got = policies_str_to_pretty(alloc, begun, &config).err();
             expect_refusal(rt, got, refusal, begun);
@@ -137,16 +287,15 @@ fn expect_beginning(rt: &impl Abort, alloc: Global, begun: &str) {
     }
 }
 
-fn expect_beginnings(rt: &impl Abort, alloc: Global, text: &str) {
+fn expect_beginnings(rt: &impl Abort, alloc: Global, name: &str, text: &str) {
     for (end, _) in text.char_indices() {
-        expect_beginning(rt, alloc, &text[..end]);
+        expect_beginning(rt, alloc, name, &text[..end]);
     }
 }
 
 #[test]
 fn beginnings(rt: HostRuntime) {
-    for text in &BEGUN {
-        let text = expand(&rt, rt.alloc(), text);
-        expect_beginnings(&rt, rt.alloc(), text.as_str());
+    for row in &BEGUN {
+        expect_beginnings(&rt, rt.alloc(), row.name, row.text);
     }
 }
