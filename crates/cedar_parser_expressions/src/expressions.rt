@@ -1,4 +1,6 @@
 //! Expressions. Recursion follows the nesting alone; `depth` says how many brackets and `if`s may still be nested.
+#![tactic(auto, using(cedar_parser_steps::proofs::Refusals::firsts))]
+
 ghost use Rattle.std.specs.Prelude.{suc, ◌<◌, ◌≤◌, length, IfOk};
 ghost use Rattle.cedar_tokens.specs.Kinds.{is_comparison};
 ghost use Rattle.cedar_grammar.specs.Trees.{Label};

@@ -1,4 +1,6 @@
 //! Accesses in a primary, and the operands of `has` and `like`, which are read without nesting.
+#![tactic(auto, using(crate::proofs::Refusals::firsts))]
+
 ghost use Rattle.std.specs.Prelude.{◌≡◌, [], ◌<◌, ◌||◌, ◌&&◌, length, IfOk};
 ghost use Rattle.cedar_tokens.specs.Kinds.{is, begins};
 ghost use Rattle.cedar_grammar.specs.Trees.{Label};

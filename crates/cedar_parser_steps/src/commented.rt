@@ -33,19 +33,22 @@ fn text_before<'src>(text: &'src str, at: usize, lexemes: &[Lexeme]) -> &'src st
     &text[at..first_start(lexemes, text.len())]
 }
 
-/// The tokens of a text with their comments, and the closing comments, from its lexemes: those of `get_token_stream`.
+/// Stores the tokens of a text with their comments in `tokens`, and returns the closing comments, from the text's lexemes:
+/// those of `get_token_stream`. The former contents of `tokens` are dropped, and its memory is reused.
 pub fn commented_tokens<'src>(
     alloc: Global,
     text: &'src str,
     lexemes: &[Lexeme<'src>],
-) -> Result<(Vec<WrappedToken<'src>>, Comments<'src>), AllocError>
+    tokens: &mut Vec<WrappedToken<'src>>,
+) -> Result<Comments<'src>, AllocError>
     requires { AreLexemes text.now lexemes.now }
-    ensures listing { IfOk result (λ p. IsListing text.now (record { tokens = map decorated p.0.items; closing = comments_left p.1 })) }
-    ensures spans { IfOk result (λ p. AreTokenSpans text.now (map (λ w. w.span) p.0.items)) }
-    ensures order { IfOk result (λ p. InOrderFrom 0 (map (λ w. w.span) p.0.items)) }
-    ensures slices { IfOk result (λ p. AllByRecursion (StandsIn text.now) p.0.items) }
+    ensures listing { IfOk result (λ closing. IsListing text.now (record { tokens = map decorated tokens.new.items; closing = comments_left closing })) }
+    ensures spans { IfOk result (λ _. AreTokenSpans text.now (map (λ w. w.span) tokens.new.items)) }
+    ensures order { IfOk result (λ _. InOrderFrom 0 (map (λ w. w.span) tokens.new.items)) }
+    ensures slices { IfOk result (λ _. AllByRecursion (StandsIn text.now) tokens.new.items) }
 {
-    let mut tokens = Vec::with_capacity(alloc, lexemes.len())?;
+    tokens.clear();
+    tokens.reserve(lexemes.len())?;
     let mut leading = text_before(text, 0, lexemes);
     for (at, lexeme) in lexemes.iter().enumerate() {
         let gap = text_before(text, lexeme.span.end, &lexemes[at + 1..]);
@@ -54,5 +57,5 @@ pub fn commented_tokens<'src>(
         tokens.push(commented_token(alloc, kind, text, span, leading, trailing)?)?;
         leading = ahead;
     }
-    Ok((tokens, get_comment(leading)))
+    Ok(get_comment(leading))
 }

@@ -1,4 +1,6 @@
 //! Primaries of one token: strings, numbers, truth values and slots.
+#![tactic(auto, using(crate::proofs::Refusals::firsts))]
+
 ghost use Rattle.std.specs.Prelude.{◌≡◌, ◌<◌, length, IfOk};
 ghost use Rattle.cedar_tokens.specs.Listing.{without_zeros};
 ghost use Rattle.cedar_grammar.specs.Trees.{Label};

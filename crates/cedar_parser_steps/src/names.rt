@@ -104,6 +104,7 @@ pub fn name_primary<'src>(name: Node<Name<'src>>) -> Node<Primary<'src>>
 }
 
 /// Words joined by `::`.
+#[tactic(auto, using(crate::proofs::Refusals::firsts))]
 pub fn parse_path<'t, 'src>(
     alloc: Global,
     tokens: &'t [Lexeme<'src>],

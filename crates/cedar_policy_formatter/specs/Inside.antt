@@ -1,3 +1,4 @@
 -- Definitions used only by contracts below the formatter's own calls.
 pub mod Written
 pub mod Sinks
+pub mod Alike

@@ -17,9 +17,8 @@ ghost use Rattle.cedar_laws.specs.Output.{closing_text};
 ghost use Rattle.cedar_document_rows.specs.Kept.{KeepsTokens};
 ghost use Rattle.cedar_document_rows.specs.NodeDocuments.{IsAt};
 ghost use Rattle.cedar_documents.specs.PartDocuments.{IsPartOf};
-ghost use Rattle.cedar_policy_formatter.specs.Compared.{HaveEqualLists};
 ghost use Rattle.cedar_policy_formatter.specs.Inside.Written.{IsCleanLayout, IsPolicyText, IsPlainStream};
-ghost use Rattle.cedar_policy_formatter.specs.Refused.{IsMemory, RefusesOne};
+ghost use Rattle.cedar_policy_formatter.specs.Refused.{IsMemory};
 ghost use Rattle.cedar_policy_formatter.specs.Texts.{IsTextOf, FailsCheck};
 
 use cedar_cst::cst::laws::{accepted_is_not_refused, tree_is_of_accepted};
@@ -43,11 +42,13 @@ use cedar_tokens::lexer::{drop_trailing_commas, listing_is_unique};
 use cedar_tokens::token::{Comments, WrappedToken, get_comment};
 use std::alloc::{AllocError, Global};
 
+mod compare;
 mod sink;
 mod stream;
 
 pub use crate::laws::{kept_policies_have_the_same_tokens, outputs_keep_the_policies};
 pub use cedar_streams::{ReadFault, Watched, read_text};
+pub use compare::same_layout;
 use sink::{Rest, Sink};
 pub use stream::{RunFault, check_stream, format_stream};
 
@@ -83,8 +84,8 @@ fn write_policies<S: Sink>(
     let mut reader = PolicyReader::new(ps);
     let mut buffers = Buffers::new(alloc);
     let mut is_empty = true;
-    'pieces: while let Some(piece) = reader.next_piece(alloc)? {
-        lay_out(&mut buffers, piece.text, piece.policy, piece.tokens, config)?;
+    'pieces: while let Some(piece) = reader.next_piece(alloc, &mut buffers.tokens)? {
+        lay_out(alloc, &mut buffers, piece.text, piece.policy, config)?;
         put_feed(!is_empty, sink)?;
         sink.put(buffers.clean.as_str())?;
         is_empty = false;
@@ -130,23 +131,10 @@ pub fn is_formatted(alloc: Global, ps: &str, config: &Config) -> Result<bool, Fo
     Ok(rest.is_used_up())
 }
 
-/// Whether `a` and `b` are laid out alike: their lists without trailing commas are equal by value. Accepted texts get an
-/// answer, unless out of memory. A refusal of `a` is returned before one of `b`.
-pub fn same_layout(alloc: Global, a: &str, b: &str, config: &Config) -> Result<bool, FormatError>
-    ensures answer { MatchResult result (λ _. Accepted a.now × Accepted b.now) (OutOfMemoryOr (RefusesOne a.now b.now)) }
-    ensures lists { IfOk result (λ r. IsTrue r ↔ HaveEqualLists a.now b.now) }
-{
-    outputs_are_canonical();
-    listing_is_unique();
-    let first = policies_str_to_pretty(alloc, a, config)?;
-    let mut rest = Rest::new(first.as_str());
-    write_policies(alloc, b, config, &mut rest)?;
-    Ok(rest.is_used_up())
-}
-
-// What a policy is laid out in. The memory is reused for the next policy.
+// What a policy is laid out from and in. The memory is reused for the next policy.
 #[derive(Drop)]
 struct Buffers<'src> {
+    tokens: Vec<WrappedToken<'src>>,
     sheet: Sheet<'src>,
     // The layout of the sheet.
     layout: String,
@@ -158,6 +146,7 @@ impl<'src> Buffers<'src> {
     // Empty, with no memory allocated yet.
     fn new(alloc: Global) -> Buffers<'src> {
         Buffers {
+            tokens: Vec::new(alloc),
             sheet: Sheet::new(alloc),
             layout: String::new(alloc),
             clean: String::new(alloc),
@@ -165,55 +154,51 @@ impl<'src> Buffers<'src> {
     }
 }
 
-// Leaves the layout of a policy, with a line feed, in the clean buffer. Its tokens are compared with those of the policy's
-// text. The previous contents of the buffers are replaced.
+// Leaves the layout of a policy, with a line feed, in the clean buffer. Its tokens, which are in their buffer, are compared with
+// those of the layout. The previous contents of the other buffers are replaced.
 fn lay_out<'src>(
+    alloc: Global,
     buffers: &mut Buffers<'src>,
     text: &'src str,
     policy: Node<Policy<'src>>,
-    tokens: Vec<WrappedToken<'src>>,
     config: &Config,
 ) -> Result<(), FormatError>
     requires piece { IsPiece text.now (length text.now) }
     requires policy { IsPolicyOf text.now policy }
-    requires tokens { AreTokensOf text.now tokens.items }
+    requires tokens { AreTokensOf text.now buffers.old.tokens.items }
     ensures { MatchResult result (λ _. IsOutputOf config.now.line_width config.now.indent_width text.now (string_bytes buffers.new.clean)) IsMemory }
 {
     tree_is_of_accepted();
     outputs_are_canonical();
-    let mut tokens = plain_tokens(buffers.sheet.allocator(), tokens)?;
-    policy_text(buffers, policy, tokens.as_mut_slice(), config)?;
+    make_plain(alloc, &mut buffers.tokens)?;
+    policy_text(buffers, policy, config)?;
     buffers.clean.push('\n')?;
-    if has_tokens(buffers.clean.as_str(), &tokens) {
+    if has_tokens(buffers.clean.as_str(), &buffers.tokens) {
         Ok(())
     } else {
         Err(FormatError::Unsound)
     }
 }
 
-// The tokens of a text, without trailing commas.
-fn plain_tokens<'src>(
-    alloc: Global,
-    mut tokens: Vec<WrappedToken<'src>>,
-) -> Result<Vec<WrappedToken<'src>>, AllocError>
-    requires { AreInOrder tokens.items }
-    ensures order { IfOk result (λ plain. AreInOrder plain.items) }
-    ensures stream { IfOk result (λ plain. (text : List ℕ) → AreTokensOf text tokens.entry.items → IsPlainStream text plain.items) }
+// Drops the trailing commas of a text's tokens.
+fn make_plain<'src>(alloc: Global, tokens: &mut Vec<WrappedToken<'src>>) -> Result<(), AllocError>
+    requires { AreInOrder tokens.old.items }
+    ensures order { OnOk result (AreInOrder tokens.new.items) }
+    ensures stream { OnOk result ((text : List ℕ) → AreTokensOf text tokens.old.items → IsPlainStream text tokens.new.items) }
 {
-    drop_trailing_commas(alloc, &mut tokens)?;
-    Ok(tokens)
+    drop_trailing_commas(alloc, tokens)?;
+    Ok(())
 }
 
 // Leaves the layout of a policy over its own tokens, without empty lines, in the clean buffer. The policy is dropped first.
 fn policy_text<'src>(
     buffers: &mut Buffers<'src>,
     policy: Node<Policy<'src>>,
-    tokens: &mut [WrappedToken<'src>],
     config: &Config,
 ) -> Result<(), FormatError>
-    requires { AreInOrder tokens.old }
-    ensures kept { KeepsTokens tokens.old tokens.new }
-    ensures text { (p : Clause Shown kind.policy) → IsAt policy.entry.span (part_yield p) → IsPartOf (erased.policy_parts policy.entry.inner) p → map shown tokens.old ≡ part_yield p
+    requires { AreInOrder buffers.old.tokens.items }
+    ensures kept { KeepsTokens buffers.old.tokens.items buffers.new.tokens.items }
+    ensures text { (p : Clause Shown kind.policy) → IsAt policy.entry.span (part_yield p) → IsPartOf (erased.policy_parts policy.entry.inner) p → map shown buffers.old.tokens.items ≡ part_yield p
         → MatchResult result (λ _. IsPolicyText config.now.line_width config.now.indent_width p (string_bytes buffers.new.clean)) IsMemory }
 {
     buffers.sheet.clear();
@@ -222,7 +207,7 @@ fn policy_text<'src>(
         &policy.inner,
         policy.span,
         config.indent_width,
-        tokens,
+        buffers.tokens.as_mut_slice(),
     );
     drop(policy);
     match wrote {
@@ -234,7 +219,8 @@ fn policy_text<'src>(
 
 // Leaves the layout of the sheet at a width, without empty lines, in the clean buffer.
 fn clean_layout(buffers: &mut Buffers<'_>, width: usize) -> Result<(), FormatError>
-    ensures { (d : Doc) → buffers.old.sheet ≡ flat d → MatchResult result (λ _. IsCleanLayout width d (string_bytes buffers.new.clean)) IsMemory }
+    ensures kept { buffers.new.tokens ≡ buffers.old.tokens }
+    ensures text { (d : Doc) → buffers.old.sheet ≡ flat d → MatchResult result (λ _. IsCleanLayout width d (string_bytes buffers.new.clean)) IsMemory }
 {
     buffers.layout.clear();
     layout::lay_out(&mut buffers.sheet, width, &mut buffers.layout)?;

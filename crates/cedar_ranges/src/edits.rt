@@ -73,9 +73,10 @@ fn touched_span(alloc: Global, text: &str, range: Span) -> Result<Span, FormatEr
     ensures span { IfOk result (λ span. IsTouchedSpan text.now range span) }
 {
     let mut reader = PolicyReader::new(text);
+    let mut tokens = Vec::new(alloc);
     let mut at = 0;
     let mut span = Span { start: 0, end: 0 };
-    'pieces: while let Some(piece) = reader.next_piece(alloc)? {
+    'pieces: while let Some(piece) = reader.next_piece(alloc, &mut tokens)? {
         let end = at + piece.text.len();
         span = with_piece(span, Span { start: at, end }, range);
         at = end;

@@ -90,6 +90,7 @@ fn parse_annotations<'t, 'src>(
 }
 
 // `@`, a word, and perhaps a string in brackets.
+#[tactic(auto, using(cedar_parser_steps::proofs::Refusals::firsts))]
 fn parse_annotation<'t, 'src>(
     tokens: &'t [Lexeme<'src>],
 ) -> Parsed<'t, 'src, Node<Annotation<'src>>>

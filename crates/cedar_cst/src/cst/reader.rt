@@ -26,8 +26,6 @@ pub struct Piece<'src> {
     pub text: &'src str,
     /// The policy, with its places in `text`.
     pub policy: Node<Policy<'src>>,
-    /// The tokens of `text` with their comments and places, trailing commas among them.
-    pub tokens: Vec<WrappedToken<'src>>,
 }
 
 // A policy, its part of a text, and the lexemes that it was parsed from.
@@ -91,10 +89,17 @@ impl<'src> PolicyReader<'src> {
     /// The next policy with its part of the text, and with its places in that part; `None` if there is none, however often it
     /// is called. A refusal is that of `parse_policies`, with its place in the whole text. After a refusal or `None` the reader
     /// is unchanged.
-    pub fn next_piece(&mut self, alloc: Global) -> Result<Option<Piece<'src>>, FormatError>
+    ///
+    /// The tokens of that part are stored in `tokens`, with their comments and places, trailing commas among them. The former
+    /// contents of `tokens` are dropped, and its memory is reused.
+    pub fn next_piece(
+        &mut self,
+        alloc: Global,
+        tokens: &mut Vec<WrappedToken<'src>>,
+    ) -> Result<Option<Piece<'src>>, FormatError>
         ensures answer { IfOk result (λ next. MatchOption next (HasEnded self.old) (λ piece. GoesOn self.old self.new piece.text.now)) }
         ensures policy { IfOk result (λ next. MatchOption next (self.new ≡ self.old) (λ piece. IsPolicyOf piece.text.now piece.policy)) }
-        ensures tokens { IfOk result (λ next. IfSome next (λ piece. AreTokensOf piece.text.now piece.tokens.items)) }
+        ensures tokens { IfOk result (λ next. IfSome next (λ piece. AreTokensOf piece.text.now tokens.new.items)) }
         ensures refusal { IfErr result (OutOfMemoryOr (Refuses self.old.text)) }
         ensures refused { OnErr result (self.new ≡ self.old) }
     {
@@ -103,13 +108,12 @@ impl<'src> PolicyReader<'src> {
         let Some(piece) = self.read_piece(alloc, room, 0)? else {
             return Ok(None);
         };
-        let (tokens, _) = commented_tokens(alloc, piece.text, &piece.lexemes)?;
+        commented_tokens(alloc, piece.text, &piece.lexemes, tokens)?;
         self.at += piece.text.len();
         self.room = Some(piece.lexemes);
         Ok(Some(Piece {
             text: piece.text,
             policy: piece.policy,
-            tokens,
         }))
     }
 

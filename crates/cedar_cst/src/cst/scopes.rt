@@ -1,4 +1,6 @@
 //! The scope of a policy: its three variables, and what follows them.
+#![tactic(auto, using(cedar_parser_steps::proofs::Refusals::firsts))]
+
 ghost use Rattle.std.specs.Prelude.{◌≡◌, ◌<◌, ◌≤◌, length, IfOk, MatchResult, box_value};
 ghost use Rattle.cedar_grammar.specs.Trees.{Label};
 ghost use Rattle.cedar_tokens.specs.Kinds.{is};

@@ -150,15 +150,16 @@ permit(principal,action,resource);"#,
 
 fn expect_pieces(rt: &impl Abort, alloc: Global, row: &Pieces) {
     let mut reader = PolicyReader::new(row.text);
+    let mut tokens = Vec::new(alloc);
     for want in row.pieces {
-        let Some(piece) = reader.next_piece(alloc).expect(rt, row.name) else {
+        let Some(piece) = reader.next_piece(alloc, &mut tokens).expect(rt, row.name) else {
             break;
         };
         expect_text(rt, piece.text, want.text, row.name);
         assert_eq!(rt; piece.policy.span, want.policy, "{}", row.name);
     }
     assert!(rt;
-        matches!(reader.next_piece(alloc), Ok(None)),
+        matches!(reader.next_piece(alloc, &mut tokens), Ok(None)),
         "{}",
         row.name
     );
@@ -177,9 +178,10 @@ fn refused_pieces_have_places_of_the_text(rt: HostRuntime) {
     let text = r#"permit(principal,action,resource); // b
 permit(principal,action,resource) when;permit(principal,action,resource);"#;
     let mut reader = PolicyReader::new(text);
-    let first = reader.next_piece(rt.alloc()).expect(&rt, text);
+    let mut tokens = Vec::new(rt.alloc());
+    let first = reader.next_piece(rt.alloc(), &mut tokens).expect(&rt, text);
     assert!(rt; first.is_some());
-    let refusal = reader.next_piece(rt.alloc()).err();
+    let refusal = reader.next_piece(rt.alloc(), &mut tokens).err();
     expect_refusal(&rt, refusal, Some(FormatError::Grammar { at: 78 }), text);
 }
 

@@ -14,5 +14,8 @@ returns-in_err-write_policies-clause-answer c =
 pub returns-clause-output : goal.returns-clause-output
 returns-clause-output c =
     let made = c.in_ok-write_policies.ensures.output in
-    formatted_tells c.outputs_are_canonical.ensures.equal c.listing_is_unique.ensures c.args.config.now.line_width c.args.config.now.indent_width c.args.ps.now made.0 c.is_used_up.result c.utf8.ps made.1
-    (used_up c.args.ps.now made.0 _ _ c.is_used_up.result c.new-rest.ensures made.2 c.is_used_up.ensures)
+    formatted_tells c.outputs_are_canonical.ensures.equal c.listing_is_unique.ensures
+    c.args.config.now.line_width c.args.config.now.indent_width c.args.ps.now made.0
+    c.is_used_up.result c.utf8.ps made.1
+    (used_up c.args.ps.now made.0 _ _ c.is_used_up.result c.new-rest.ensures made.2
+    c.is_used_up.ensures)

@@ -15,11 +15,20 @@ returns-in_err-ps-clause-check g c =
 pub returns-in-Ok-clause-check : goal.returns-in-Ok-clause-check
 returns-in-Ok-clause-check g c =
     let old = g.R.Read.remaining (device_of c.args.input.now) in
-    let new = g.R.Read.remaining (device_of c.read_text.new.input) in
-    (c.as_str.result.now, subst (GivesText old new) (sym c.as_str.ensures.value) c.in_ok-ps.ensures.text, c.in-Ok.ensures.answer, c.in-Ok.ensures.output)
+    let new = g.R.Read.remaining (device_of c.read_text.new.input) in (
+      c.as_str.result.now,
+      subst (GivesText old new) (sym c.as_str.ensures.value) c.in_ok-ps.ensures.text,
+      c.in-Ok.ensures.answer,
+      c.in-Ok.ensures.output,
+    )
 
 pub returns-clause-check : goal.returns-clause-check
 returns-clause-check g c =
     let old = g.R.Read.remaining (device_of c.args.input.now) in
     let new = g.R.Read.remaining (device_of c.read_text.new.input) in
-    memory_map (Refuses c.as_str.result.now) (λ e. (x : List ℕ) × GivesText old new x × Refuses x e) (λ e h. (c.as_str.result.now, subst (GivesText old new) (sym c.as_str.ensures.value) c.in_ok-ps.ensures.text, h)) c.in-Err.error c.in-Err.ensures.answer
+    memory_map (Refuses c.as_str.result.now) (λ e. (x : List ℕ) × GivesText old new x × Refuses x e)
+    (λ e h. (
+      c.as_str.result.now,
+      subst (GivesText old new) (sym c.as_str.ensures.value) c.in_ok-ps.ensures.text,
+      h,
+    )) c.in-Err.error c.in-Err.ensures.answer
