@@ -2,6 +2,7 @@ pub mod Conds
 pub mod LoneOrs
 pub mod Moved
 pub mod PartLaws
+pub mod Places
 pub mod Policies
 pub mod Readers
 pub mod Sets

@@ -11,19 +11,28 @@ use Rattle.cedar_tree.specs.declared.tree.Expr.TheBlock.{shown-the_row-And-exten
 use Rattle.cedar_tree.specs.declared.tree.Expr.TheViews.{out-Or, out-Add, out-Mult}
 use Rattle.cedar_tree.proofs.Views.{add_items, add_row, and_items, and_row, mult_items, mult_row, or_row, relation_items}
 
-pub mult_view : (m : Mult.Mult) → mult_parts m ≡ node Label.unary (out-Mult m).initial.span (unary_parts (out-Mult m).initial.inner) (mult_items (out-Mult m).extended.items)
+pub mult_view : (m : Mult.Mult) → mult_parts m ≡ node Label.unary (out-Mult m).initial.span
+    (unary_parts (out-Mult m).initial.inner) (mult_items (out-Mult m).extended.items)
 unfolding out-Mult denote.Hole.Carrier.out
-mult_view (Mult.Mult' u s v row) = ap (λ z. node Label.unary s (unary_parts u) z) (mult_row _ row ∙ ap mult_items (sym (items_shown-the_row-Mult-extended-4-5 v row)))
+mult_view (Mult.Mult' u s v row) = ap (λ z. node Label.unary s (unary_parts u) z)
+    (mult_row _ row ∙ ap mult_items (sym (items_shown-the_row-Mult-extended-4-5 v row)))
 
-pub add_view : (m : Add.Add) → add_parts m ≡ node Label.mult (out-Add m).initial.span (mult_parts (out-Add m).initial.inner) (add_items (out-Add m).extended.items)
+pub add_view : (m : Add.Add) → add_parts m ≡ node Label.mult (out-Add m).initial.span (mult_parts
+    (out-Add m).initial.inner) (add_items (out-Add m).extended.items)
 unfolding out-Add denote.Hole.Carrier.out
-add_view (Add.Add' m s v row) = ap (λ z. node Label.mult s (mult_parts m) z) (add_row _ row ∙ ap add_items (sym (items_shown-the_row-Add-extended-4-2 v row)))
+add_view (Add.Add' m s v row) = ap (λ z. node Label.mult s (mult_parts m) z)
+    (add_row _ row ∙ ap add_items (sym (items_shown-the_row-Add-extended-4-2 v row)))
 
-pub or_view : (m : Or.Or) → or_parts m ≡ node Label.and (out-Or m).initial.span (and_parts (out-Or m).initial.inner) (and_items (out-Or m).extended.items)
+pub or_view : (m : Or.Or) → or_parts m ≡ node Label.and (out-Or m).initial.span (and_parts
+    (out-Or m).initial.inner) (and_items (out-Or m).extended.items)
 unfolding out-Or denote.Hole.Carrier.out
 or_view (Or.Or' r s v row t w rest) =
-    ap (λ z. node Label.and t (node Label.relation s (relation_parts r) z) (or_rest rest)) (and_row _ row ∙ ap relation_items (sym (items_shown-the_row-And-extended-2-3 v row)))
-    ∙ ap (λ z. node Label.and t (node Label.relation s (relation_parts r) (relation_items (shown-the_row-And-extended-2-3 v row).items)) z) (or_row _ rest ∙ ap and_items (sym (items_shown-the_row-Or-extended-2-6 w rest)))
+    ap (λ z. node Label.and t (node Label.relation s (relation_parts r) z) (or_rest rest))
+    (and_row _ row ∙ ap relation_items (sym (items_shown-the_row-And-extended-2-3 v row)))
+    ∙ ap (λ z. node Label.and t (node Label.relation s (relation_parts r)
+    (relation_items (shown-the_row-And-extended-2-3 v row).items)) z) (or_row _ rest
+    ∙ ap and_items (sym (items_shown-the_row-Or-extended-2-6 w rest)))
 
-pub and_view : (a : And.And) → and_parts a ≡ node Label.relation a.initial.span (relation_parts a.initial.inner) (relation_items a.extended.items)
+pub and_view : (a : And.And) → and_parts a ≡ node Label.relation a.initial.span (relation_parts
+    a.initial.inner) (relation_items a.extended.items)
 and_view a = refl

@@ -8,7 +8,7 @@ use Rattle.cedar_tokens.specs.declared.token.WrappedToken.{WrappedToken}
 use Rattle.cedar_grammar.specs.Trees.{Label, Forest, none, leaf, branch, yield}
 use Rattle.cedar_grammar.specs.TypedTrees.{policy_trees}
 use Rattle.cedar_grammar.specs.TypedTrees as kind
-use Rattle.cedar_grammar.proofs.TreeLaws.{typed_leaves, part_leaves, typed_leaves_agree}
+use Rattle.cedar_grammar.proofs.Trees.Laws.{typed_leaves, part_leaves, typed_leaves_agree}
 use Rattle.cedar_layout.specs.Layout.{Doc}
 use Rattle.cedar_layout.specs.Lookups.{Shown}
 use Rattle.cedar_tree.specs.Erased.{Erased, policy_parts}
@@ -33,35 +33,72 @@ module _ (tokens : List WrappedToken) where
   front xs ys (b, a, e) = (b, ys ++ a, e ∙ ap (λ z. b ++ z) (append_assoc xs ys a))
 
   back : (xs ys : List Shown) → StandTogether tokens (xs ++ ys) → StandTogether tokens ys
-  back xs ys (b, a, e) = (b ++ xs, a, e ∙ ap (λ z. b ++ z) (append_assoc xs ys a) ∙ sym (append_assoc b xs (ys ++ a)))
+  back xs ys (b, a, e) =
+      (b ++ xs, a, e ∙ ap (λ z. b ++ z) (append_assoc xs ys a) ∙ sym (append_assoc b xs (ys ++ a)))
 
   -- what is made of these tokens at every indentation, and where they are
   abbrev Met : (ℤ → List Shown → Doc → Type 0) → Type 0
-  Met is_shown = (i : ℤ) → (ts : List Shown) × (doc : Doc) × is_shown i ts doc × StandTogether tokens ts
+  Met is_shown =
+      (i : ℤ) → (ts : List Shown) × (doc : Doc) × is_shown i ts doc × StandTogether tokens ts
 
-  tree_met : {k : kind.NodeKind} (f : Forest Label Shown) (s : Span) → OfTree k f → span_in f ≡ Some s → StandTogether tokens (yield f) → Met (IsNodeWith k s (nodes_of f))
+  tree_met : {k : kind.NodeKind} (f : Forest Label Shown) (s : Span) → OfTree k f
+      → span_in f ≡ Some s → StandTogether tokens (yield f) → Met (IsNodeWith k s (nodes_of f))
   tree_met f s (t, e) at w i =
-      let y : yield f ≡ kind.tree_yield t = ap yield e ∙ typed_leaves kind_of_shown t in
-      (kind.tree_yield t, document i t, (t, subst (λ z. span_of text_of (λ (x : Shown). x.span) z ≡ Some s) y at, ap nodes_of e, refl, refl), subst (StandTogether tokens) y w)
+      let y : yield f ≡ kind.tree_yield t = ap yield e ∙ typed_leaves kind_of_shown t in (
+        kind.tree_yield t,
+        document i t,
+        (
+          t,
+          subst (λ z. span_of text_of (λ (x : Shown). x.span) z ≡ Some s) y at,
+          ap nodes_of e,
+          refl,
+          refl,
+        ),
+        subst (StandTogether tokens) y w,
+      )
 
-  row_met : {k : kind.NodeKind} (f : Forest Label Shown) (inner : Erased) → inner ≡ nodes_of f → OfTree k f → StandTogether tokens (yield f) → Met (IsRowWith k inner)
-  row_met f inner q (t, e) w i = (kind.tree_yield t, document i t, (t, q ∙ ap nodes_of e, refl, refl), subst (StandTogether tokens) (ap yield e ∙ typed_leaves kind_of_shown t) w)
+  row_met : {k : kind.NodeKind} (f : Forest Label Shown) (inner : Erased) → inner ≡ nodes_of f
+      → OfTree k f → StandTogether tokens (yield f) → Met (IsRowWith k inner)
+  row_met f inner q (t, e) w i = (
+    kind.tree_yield t,
+    document i t,
+    (t, q ∙ ap nodes_of e, refl, refl),
+    subst (StandTogether tokens) (ap yield e ∙ typed_leaves kind_of_shown t) w,
+  )
 
-  part_met : {k : kind.PartKind} (f : Forest Label Shown) (s : Span) → OfPart k f → span_in f ≡ Some s → StandTogether tokens (yield f) → Met (IsPartWith k s (nodes_of f))
+  part_met : {k : kind.PartKind} (f : Forest Label Shown) (s : Span) → OfPart k f
+      → span_in f ≡ Some s → StandTogether tokens (yield f) → Met (IsPartWith k s (nodes_of f))
   part_met f s (t, e) at w i =
-      let y : yield f ≡ kind.part_yield t = ap yield e ∙ part_leaves kind_of_shown t in
-      (kind.part_yield t, part_document i t, (t, subst (λ z. span_of text_of (λ (x : Shown). x.span) z ≡ Some s) y at, ap nodes_of e, refl, refl), subst (StandTogether tokens) y w)
+      let y : yield f ≡ kind.part_yield t = ap yield e ∙ part_leaves kind_of_shown t in (
+        kind.part_yield t,
+        part_document i t,
+        (
+          t,
+          subst (λ z. span_of text_of (λ (x : Shown). x.span) z ≡ Some s) y at,
+          ap nodes_of e,
+          refl,
+          refl,
+        ),
+        subst (StandTogether tokens) y w,
+      )
 
   some_same : (a b : Span) → Some a ≡ Some b → a ≡ b
   some_same a b e = cc
 
-  token_met : (f : Forest Label Shown) (s : Span) → OfToken f → span_in f ≡ Some s → StandTogether tokens (yield f) → Met (λ i. IsTokenWith s (nodes_of f))
+  token_met : (f : Forest Label Shown) (s : Span) → OfToken f → span_in f ≡ Some s
+      → StandTogether tokens (yield f) → Met (λ i. IsTokenWith s (nodes_of f))
   token_met f s (x, e) at w i =
-      let is : x.span ≡ s = some_same x.span s (subst (λ z. span_in z ≡ Some s) e at) in
-      (x ∷ [], table.printed (as_leaf x), (token_value (text_of x), ap nodes_of e, (x, is, refl, refl, refl)), subst (λ z. StandTogether tokens (yield z)) e w)
+      let is : x.span ≡ s = some_same x.span s (subst (λ z. span_in z ≡ Some s) e at) in (
+        x ∷ [],
+        table.printed (as_leaf x),
+        (token_value (text_of x), ap nodes_of e, (x, is, refl, refl, refl)),
+        subst (λ z. StandTogether tokens (yield z)) e w,
+      )
 
   -- label by label
-  met : (l : Label) (f : Forest Label Shown) (s : Span) → IsTyped l f → (if is_node l then span_in f else None) ≡ Some s → StandTogether tokens (yield f) → MeetsItsTokens tokens l s (nodes_of f)
+  met : (l : Label) (f : Forest Label Shown) (s : Span) → IsTyped l f
+      → (if is_node l then span_in f else None) ≡ Some s → StandTogether tokens (yield f)
+      → MeetsItsTokens tokens l s (nodes_of f)
   met Label.policy f s t at w = part_met f s t at w
   met Label.annotation f s t at w = part_met f s t at w
   met Label.variable f s t at w = part_met f s t at w
@@ -74,7 +111,9 @@ module _ (tokens : List WrappedToken) where
   met Label.mult f s t at w = tree_met f s t at w
   met Label.unary f s t at w = tree_met f s t at w
   met Label.member f s t at w = row_met f (nodes_of f) refl t w
-  met Label.access f s t at w = row_met (branch Label.access f none) _ (ap (λ z. branch (Label.access, z) (nodes_of f) none) (sym at)) t (subst (StandTogether tokens) (sym (append-nil (yield f))) w)
+  met Label.access f s t at w = row_met (branch Label.access f none) _
+      (ap (λ z. branch (Label.access, z) (nodes_of f) none) (sym at)) t
+      (subst (StandTogether tokens) (sym (append-nil (yield f))) w)
   met Label.primary f s t at w = tree_met f s t at w
   met Label.rec_init f s t at w = tree_met f s t at w
   met Label.name f s t at w = tree_met f s t at w
@@ -88,26 +127,36 @@ module _ (tokens : List WrappedToken) where
   met l f s t at w = absurd cc
 
   -- every node that typed trees contain
-  held : (f : Forest Label Shown) → AreTyped f → StandTogether tokens (yield f) → (l : Label) (s : Span) (inner : Erased) → Holds (nodes_of f) l s inner → MeetsItsTokens tokens l s inner
+  held : (f : Forest Label Shown) → AreTyped f → StandTogether tokens (yield f) → (l : Label)
+      (s : Span) (inner : Erased) → Holds (nodes_of f) l s inner → MeetsItsTokens tokens l s inner
   held none t w l s inner h = absurd h
   held (leaf x f) t w l s inner h = held f t (back (x ∷ []) (yield f) w) l s inner h
   held (branch k f g) t w l s inner (inl h) =
       let m = met k f s t.0 (ap (λ z. z.1) h.0) (front (yield f) (yield g) w) in
-      subst (MeetsItsTokens tokens l s) h.1 (subst (λ z. MeetsItsTokens tokens z s (nodes_of f)) (ap (λ z. z.0) h.0) m)
-  held (branch k f g) t w l s inner (inr (inl h)) = held f t.1 (front (yield f) (yield g) w) l s inner h
-  held (branch k f g) t w l s inner (inr (inr h)) = held g t.2 (back (yield f) (yield g) w) l s inner h
+      subst (MeetsItsTokens tokens l s) h.1
+      (subst (λ z. MeetsItsTokens tokens z s (nodes_of f)) (ap (λ z. z.0) h.0) m)
+  held (branch k f g) t w l s inner (inr (inl h)) =
+      held f t.1 (front (yield f) (yield g) w) l s inner h
+  held (branch k f g) t w l s inner (inr (inr h)) =
+      held g t.2 (back (yield f) (yield g) w) l s inner h
 
 pub nodes_met : NodesMeetTheirTokens
 nodes_met text p tokens tree of l s inner h =
     let list : Listing = record { tokens = map decorated of.stream; closing = of.closing } in
     let o = nodes_over text p list of.stream tokens tree of.listing refl of.spans of.kept in
-    held tokens (policy_trees kind_of_shown o.policies) (typed_policies o.policies) ([], [], sym o.leaves ∙ sym (typed_leaves_agree kind_of_shown o.policies)) l s inner (subst (λ z. Holds z l s inner) o.nodes h)
+    held tokens (policy_trees kind_of_shown o.policies) (typed_policies o.policies)
+    ([], [], sym o.leaves ∙ sym (typed_leaves_agree kind_of_shown o.policies)) l s inner
+    (subst (λ z. Holds z l s inner) o.nodes h)
 
 -- a policy is one of the trees
-policy_held : (ns : List (Node Policy)) (n : Node Policy) (k : ℕ) → k < length ns → slice_index_or ns k n ≡ n → Holds (erased.policy_trees ns) Label.policy n.span (policy_parts n.inner)
+policy_held : (ns : List (Node Policy)) (n : Node Policy) (k : ℕ) → k < length ns
+    → slice_index_or ns k n ≡ n
+    → Holds (erased.policy_trees ns) Label.policy n.span (policy_parts n.inner)
 policy_held [] n k h e = absurd (omega (arith, h))
-policy_held (m ∷ ns) n zero h e = inl (ap (λ z. (Label.policy, Some z.span)) e, ap (λ z. policy_parts z.inner) e)
+policy_held (m ∷ ns) n zero h e =
+    inl (ap (λ z. (Label.policy, Some z.span)) e, ap (λ z. policy_parts z.inner) e)
 policy_held (m ∷ ns) n (suc k) h e = inr (inr (policy_held ns n k (omega (arith, h)) e))
 
 pub policies_met : PoliciesMeetTheirTokens
-policies_met text p tokens tree of n (k, h, e) = nodes_met text p tokens tree of Label.policy n.span (policy_parts n.inner) (policy_held p.policies.items n k h e)
+policies_met text p tokens tree of n (k, h, e) = nodes_met text p tokens tree of Label.policy n.span
+    (policy_parts n.inner) (policy_held p.policies.items n k h e)

@@ -1,7 +1,8 @@
 -- What the trees of a scope say about its variables, and the documents of these.
-use Rattle.std.proofs.Common.{◌≡◌, Bool, true, false, List, [], ◌∷◌, ◌++◌, map, ℕ, Option, Some, None, refl, sym, ap, subst, ◌∙◌, append_assoc, arith}
+use Rattle.std.proofs.Common.{◌≡◌, false, List, [], ◌∷◌, ◌++◌, map, ℕ, Option, Some, None, refl, sym, ap, subst, ◌∙◌, append_assoc, arith}
 use Rattle.std.proofs.lemmas.Bool.Decides.{nat_tests}
 use Rattle.std.specs.Prelude.{codes, not, is_some, ◌||◌, ◌&&◌, if◌then◌else◌, ◌==◌, length, suc}
+use Rattle.std.proofs.Math.Bool.{and-true}
 use Rattle.cedar_tokens.specs.Listing.{Decorated, token_value}
 use Rattle.cedar_tokens.specs.declared.token.Span.{Span}
 use Rattle.cedar_grammar.specs.Trees.{Label, Forest, leaf, branch, none}
@@ -39,7 +40,8 @@ pub record IsUnbound (n : Option (Node Name)) (q : Option Operator) : Type 0 whe
   pub no_type : n ≡ None
   pub no_operator : q ≡ None
 
-pub unbound : (n : Option (Node Name)) (q : Option Operator) → type_parts n (operator_parts q) ≡ none → IsUnbound n q
+pub unbound : (n : Option (Node Name)) (q : Option Operator)
+    → type_parts n (operator_parts q) ≡ none → IsUnbound n q
 unbound None None e = record { no_type = refl; no_operator = refl }
 unbound None (Some x) e = absurd cc
 unbound (Some m) q e = absurd cc
@@ -49,7 +51,8 @@ no_operator None e = refl
 no_operator (Some x) e = absurd cc
 
 -- a type, and what follows it
-pub record IsTyped (n : Option (Node Name)) (q : Option Operator) (w : Shown) (t : Tree Shown kind.name) (g : Forest Label Shown) : Type 0 where
+pub record IsTyped (n : Option (Node Name)) (q : Option Operator) (w : Shown)
+    (t : Tree Shown kind.name) (g : Forest Label Shown) : Type 0 where
   pub name : Node Name
   pub is : n ≡ Some name
   pub word : codes "is" ≡ token_value (text_of w)
@@ -57,7 +60,9 @@ pub record IsTyped (n : Option (Node Name)) (q : Option Operator) (w : Shown) (t
   pub place : IsAt name.span (tree_yield t)
   pub behind : operator_parts q ≡ nodes_of g
 
-pub typed : (n : Option (Node Name)) (q : Option Operator) (w : Shown) (t : Tree Shown kind.name) (g : Forest Label Shown) → type_parts n (operator_parts q) ≡ nodes_of (leaf w (branch Label.name (parts kind_of_shown t) g)) → IsTyped n q w t g
+pub typed : (n : Option (Node Name)) (q : Option Operator) (w : Shown) (t : Tree Shown kind.name)
+    (g : Forest Label Shown) → type_parts n (operator_parts q)
+    ≡ nodes_of (leaf w (branch Label.name (parts kind_of_shown t) g)) → IsTyped n q w t g
 typed None None w t g e = absurd cc
 typed None (Some x) w t g e =
     let o = opened_token _ _ w (branch Label.name (parts kind_of_shown t) g) e in
@@ -75,7 +80,9 @@ pub record IsCompared (q : Option Operator) (o : Shown) (t : Tree Shown kind.add
   pub word : relop_text operator.0 ≡ token_value (text_of o)
   pub right : IsNodeOf (add_parts operator.1.inner) t
 
-pub compared : (q : Option Operator) (o : Shown) (t : Tree Shown kind.add) → operator_parts q ≡ nodes_of (leaf o (branch Label.add (parts kind_of_shown t) none)) → IsCompared q o t
+pub compared : (q : Option Operator) (o : Shown) (t : Tree Shown kind.add)
+    → operator_parts q ≡ nodes_of (leaf o (branch Label.add (parts kind_of_shown t) none))
+    → IsCompared q o t
 compared None o t e = absurd cc
 compared (Some x) o t e =
     let p = opened_token _ _ o (branch Label.add (parts kind_of_shown t) none) e in
@@ -83,56 +90,73 @@ compared (Some x) o t e =
     record { operator = x; is = refl; word = p.0; right = r.0 }
 
 -- an operator, and no type
-pub untyped : (n : Option (Node Name)) (q : Option Operator) (o : Shown) (t : Tree Shown kind.add) → type_parts n (operator_parts q) ≡ nodes_of (leaf o (branch Label.add (parts kind_of_shown t) none)) → (n ≡ None) × IsCompared q o t
+pub untyped : (n : Option (Node Name)) (q : Option Operator) (o : Shown) (t : Tree Shown kind.add)
+    → type_parts n (operator_parts q) ≡ nodes_of (leaf o
+    (branch Label.add (parts kind_of_shown t) none)) → (n ≡ None) × IsCompared q o t
 untyped None q o t e = (refl, compared q o t e)
-untyped (Some m) q o t e = let p = opened_token _ _ o (branch Label.add (parts kind_of_shown t) none) e in let f : Some Label.name ≡ Some Label.add = ap first p.1 in absurd cc
+untyped (Some m) q o t e =
+    let p = opened_token _ _ o (branch Label.add (parts kind_of_shown t) none) e in
+    let f : Some Label.name ≡ Some Label.add = ap first p.1 in
+    absurd cc
 
-pub is_bound : (v : VariableDef) (t : Clause Shown kind.variable) → IsPartOf (variable_parts v) t → is_bare (part_map as_leaf t) ≡ not (is_some v.entity_type || is_some v.ineq)
+pub is_bound : (v : VariableDef) (t : Clause Shown kind.variable) → IsPartOf (variable_parts v) t
+    → is_bare (part_map as_leaf t) ≡ not (is_some v.entity_type || is_some v.ineq)
 is_bound v (variable_bare x) e =
     let o = opened_leaf Label.ident _ _ _ x none refl e in
     let u = unbound v.entity_type v.ineq o.3 in
     rw (u.no_type, u.no_operator) refl
 is_bound v (variable_is x w n) e =
-    let o = opened_leaf Label.ident _ _ _ x (leaf w (branch Label.name (parts kind_of_shown n) none)) refl e in
+    let o = opened_leaf Label.ident _ _ _ x
+    (leaf w (branch Label.name (parts kind_of_shown n) none)) refl e in
     rw ((typed v.entity_type v.ineq w n none o.3).is) refl
 is_bound v (variable_op x p a) e =
-    let o = opened_leaf Label.ident _ _ _ x (leaf p (branch Label.add (parts kind_of_shown a) none)) refl e in
+    let o = opened_leaf Label.ident _ _ _ x
+    (leaf p (branch Label.add (parts kind_of_shown a) none)) refl e in
     let u = untyped v.entity_type v.ineq p a o.3 in
     rw (u.0, u.1.is) refl
 is_bound v (variable_is_op x w n p a) e =
-    let o = opened_leaf Label.ident _ _ _ x (leaf w (branch Label.name (parts kind_of_shown n) (leaf p (branch Label.add (parts kind_of_shown a) none)))) refl e in
-    rw ((typed v.entity_type v.ineq w n (leaf p (branch Label.add (parts kind_of_shown a) none)) o.3).is) refl
+    let o = opened_leaf Label.ident _ _ _ x (leaf w (branch Label.name (parts kind_of_shown n)
+    (leaf p (branch Label.add (parts kind_of_shown a) none)))) refl e in
+    rw ((typed v.entity_type v.ineq w n
+    (leaf p (branch Label.add (parts kind_of_shown a) none)) o.3).is) refl
 
 -- ---- what is found for a variable
 
 -- a type has its tokens, apart from what follows it
-pub typed_found : (ps : List Span) (n : Option (Node Name)) (f : Erased) → has_its_tokens ps (type_parts n f) ≡ (has_its_tokens ps (type_parts n none) && has_its_tokens ps f)
+pub typed_found : (ps : List Span) (n : Option (Node Name)) (f : Erased) → has_its_tokens ps
+    (type_parts n f) ≡ (has_its_tokens ps (type_parts n none) && has_its_tokens ps f)
 typed_found ps None f = refl
-typed_found ps (Some n) f = with_true (has_its_tokens ps (path_parts n.inner.path.items n.inner.name)) (has_its_tokens ps f)
-  where
-    with_true : (b c : Bool) → (b && c) ≡ ((b && true) && c)
-    with_true true c = refl
-    with_true false c = refl
+typed_found ps (Some n) f = ap (λ b. b && has_its_tokens ps f)
+    (sym (and-true (has_its_tokens ps (path_parts n.inner.path.items n.inner.name))))
 
 -- ---- tokens in a row
 
 -- after tokens with this span, and one token before them
-pub ends_later : (s : Span) (x : Shown) (ts : List Shown) → IsAt s ts → (b : List Shown) → end_of_tokens (b ++ map emptied (x ∷ ts)) ≡ s.end
-ends_later s x ts h b = subst (λ z. end_of_tokens z ≡ s.end) (append_assoc b (emptied x ∷ []) (map emptied ts)) (ends_here s ts h (b ++ (emptied x ∷ [])))
+pub ends_later : (s : Span) (x : Shown) (ts : List Shown) → IsAt s ts → (b : List Shown)
+    → end_of_tokens (b ++ map emptied (x ∷ ts)) ≡ s.end
+ends_later s x ts h b = subst (λ z. end_of_tokens z ≡ s.end)
+    (append_assoc b (emptied x ∷ []) (map emptied ts)) (ends_here s ts h (b ++ (emptied x ∷ [])))
 
 -- ---- the document of a variable
 
 -- a variable's word with its trailing text, and what follows it
-pub word_same : (k : Doc → Doc) (x : Shown) (txt : List ℕ) (p : Parts) → txt ≡ token_value (text_of x) → p ≡ x.comment → text txt · k (trail_of p.trailing nil) ≡ tok (as_leaf x) · k (trail (as_leaf x) nil)
-word_same k x txt p h w = ap (λ z. text z · k (trail_of p.trailing nil)) h ∙ ap (λ z. tok (as_leaf x) · k (trail_of z.trailing nil)) w
+pub word_same : (k : Doc → Doc) (x : Shown) (txt : List ℕ) (p : Parts)
+    → txt ≡ token_value (text_of x) → p ≡ x.comment
+    → text txt · k (trail_of p.trailing nil) ≡ tok (as_leaf x) · k (trail (as_leaf x) nil)
+word_same k x txt p h w = ap (λ z. text z · k (trail_of p.trailing nil)) h
+    ∙ ap (λ z. tok (as_leaf x) · k (trail_of z.trailing nil)) w
 
-pub document_is : (x : Decorated) (type : Doc) → lead x · tok x · (trail x nil · type) ≡ leaf_document x · type
+pub document_is : (x : Decorated) (type : Doc)
+    → lead x · tok x · (trail x nil · type) ≡ leaf_document x · type
 document_is x type = sym (dot_assoc (lead x) (tok x · trail x nil) type)
 
 -- ---- the break after a scope
 
-pub break_before : (ns : List (Node Cond)) (t : Clause Shown kind.conds) → IsPartOf (cond_trees ns none) t → between_conds (part_map as_leaf t) ≡ if length ns == 0 then nil else hard
+pub break_before : (ns : List (Node Cond)) (t : Clause Shown kind.conds)
+    → IsPartOf (cond_trees ns none) t
+    → between_conds (part_map as_leaf t) ≡ if length ns == 0 then nil else hard
 break_before [] no_cond e = refl
 break_before [] (conds_more c m) e = absurd cc
 break_before (n ∷ ns) no_cond e = absurd cc
-break_before (n ∷ ns) (conds_more c m) e = let h : (suc (length ns) == 0) ≡ false = grind (arith, nat_tests) in rw (h) refl
+break_before (n ∷ ns) (conds_more c m) e =
+    let h : (suc (length ns) == 0) ≡ false = grind (arith, nat_tests) in rw (h) refl

@@ -77,13 +77,19 @@ typed_tree (reference r) = ((r, refl), typed_tree r, tt)
 typed_tree (named n) = ((n, refl), typed_tree n, tt)
 typed_tree (parens l e r) = (tt, ((e, refl), typed_tree e, tt), tt)
 typed_tree (list_empty l r) = (tt, tt, tt)
-typed_tree (list_of l a r) = (tt, joined (parts kind_of_shown a) (leaf r none) (typed_tree a) tt, tt)
+typed_tree (list_of l a r) =
+    (tt, joined (parts kind_of_shown a) (leaf r none) (typed_tree a) tt, tt)
 typed_tree (record_empty l r) = (tt, tt, tt)
-typed_tree (record_of l a r) = (tt, joined (parts kind_of_shown a) (leaf r none) (typed_tree a) tt, tt)
+typed_tree (record_of l a r) =
+    (tt, joined (parts kind_of_shown a) (leaf r none) (typed_tree a) tt, tt)
 typed_tree no_access = tt
 typed_tree (field d x m) = ((field d x no_access, refl), ((x, refl), tt, tt), typed_tree m)
 typed_tree (call_empty l r m) = ((call_empty l r no_access, refl), tt, typed_tree m)
-typed_tree (call l a r m) = ((call l a r no_access, refl), joined (parts kind_of_shown a) (leaf r none) (typed_tree a) tt, typed_tree m)
+typed_tree (call l a r m) = (
+  (call l a r no_access, refl),
+  joined (parts kind_of_shown a) (leaf r none) (typed_tree a) tt,
+  typed_tree m,
+)
 typed_tree (index l x r m) = ((index l x r no_access, refl), ((x, refl), tt, tt), typed_tree m)
 typed_tree (member_of p m) = ((p, refl), typed_tree p, typed_tree m)
 typed_tree (unsigned m) = ((m, refl), typed_tree m, tt)
@@ -98,19 +104,22 @@ typed_tree (single a) = ((a, refl), typed_tree a, tt)
 typed_tree (compare a o b) = ((a, refl), typed_tree a, (tt, ((b, refl), typed_tree b, tt), tt))
 typed_tree (has_or_like a o b) = ((a, refl), typed_tree a, (tt, ((b, refl), typed_tree b, tt), tt))
 typed_tree (is_type a o n) = ((a, refl), typed_tree a, (tt, ((n, refl), typed_tree n, tt), tt))
-typed_tree (is_in a o n p b) = ((a, refl), typed_tree a, (tt, ((n, refl), typed_tree n, ((b, refl), typed_tree b, tt)), tt))
+typed_tree (is_in a o n p b) =
+    ((a, refl), typed_tree a, (tt, ((n, refl), typed_tree n, ((b, refl), typed_tree b, tt)), tt))
 typed_tree (ands_one r) = ((r, refl), typed_tree r, tt)
 typed_tree (ands_more r o m) = ((r, refl), typed_tree r, typed_tree m)
 typed_tree (ors_one a) = ((a, refl), typed_tree a, tt)
 typed_tree (ors_more a o m) = ((a, refl), typed_tree a, typed_tree m)
 typed_tree (ors_expr o) = ((o, refl), typed_tree o, tt)
-typed_tree (if_expr i c t a f b) = ((c, refl), typed_tree c, ((a, refl), typed_tree a, ((b, refl), typed_tree b, tt)))
+typed_tree (if_expr i c t a f b) =
+    ((c, refl), typed_tree c, ((a, refl), typed_tree a, ((b, refl), typed_tree b, tt)))
 
 pub typed_part : {k : kind.PartKind} (t : Clause Shown k) → AreTyped (part_parts kind_of_shown t)
 typed_part (variable_bare v) = ((v, refl), tt, tt)
 typed_part (variable_is v i n) = ((v, refl), tt, ((n, refl), typed_tree n, tt))
 typed_part (variable_op v o a) = ((v, refl), tt, ((a, refl), typed_tree a, tt))
-typed_part (variable_is_op v i n o a) = ((v, refl), tt, ((n, refl), typed_tree n, ((a, refl), typed_tree a, tt)))
+typed_part (variable_is_op v i n o a) =
+    ((v, refl), tt, ((n, refl), typed_tree n, ((a, refl), typed_tree a, tt)))
 typed_part (cond_of k l e r) = ((k, refl), tt, ((e, refl), typed_tree e, tt))
 typed_part no_cond = tt
 typed_part (conds_more c m) = ((c, refl), typed_part c, typed_part m)
@@ -123,6 +132,7 @@ typed_part (policy_of ns e l p c a d r q cs s) =
     ((e, refl), tt, ((p, refl), typed_part p, ((a, refl), typed_part a, ((r, refl), typed_part r, joined (part_parts kind_of_shown cs) (leaf s none) (typed_part cs) tt))))
 
 -- policies in a row
-pub typed_policies : (ps : List (Clause Shown kind.policy)) → AreTyped (policy_trees kind_of_shown ps)
+pub typed_policies : (ps : List (Clause Shown kind.policy))
+    → AreTyped (policy_trees kind_of_shown ps)
 typed_policies [] = tt
 typed_policies (p ∷ ps) = ((p, refl), typed_part p, typed_policies ps)

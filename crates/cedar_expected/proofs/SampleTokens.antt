@@ -1,10 +1,9 @@
 -- The samples are tokens of their kinds.
-use Rattle.std.specs.Prelude.{◌≡◌, false}
+use Rattle.std.specs.Prelude.{◌≡◌}
 use Rattle.std.proofs.Common.{refl}
 use Rattle.cedar_tokens.specs.Units.{IsToken, slots, punctuators}
 use Rattle.cedar_tokens.specs.declared.kind.Kind.{Kind}
 use Rattle.cedar_tokens.specs.declared.kind.Kind.TheVariants as K
-use Rattle.cedar_grammar.specs.Numbers.{is_too_large}
 use Rattle.cedar_tokens.specs.TokenKinds.{kind_of}
 use Rattle.cedar_expected.specs.Inside.Samples.{sample}
 
@@ -108,53 +107,3 @@ sample_kind K.Mul = refl
 sample_kind K.Div = refl
 sample_kind K.Modulo = refl
 sample_kind K.Neg = refl
-
-pub sample_fits : (k : Kind) → is_too_large (sample k) ≡ false
-sample_fits K.True = refl
-sample_fits K.False = refl
-sample_fits K.If = refl
-sample_fits K.Then = refl
-sample_fits K.Else = refl
-sample_fits K.In = refl
-sample_fits K.Is = refl
-sample_fits K.Like = refl
-sample_fits K.Has = refl
-sample_fits K.Permit = refl
-sample_fits K.Forbid = refl
-sample_fits K.When = refl
-sample_fits K.Unless = refl
-sample_fits K.Principal = refl
-sample_fits K.Action = refl
-sample_fits K.Resource = refl
-sample_fits K.Context = refl
-sample_fits K.Identifier = refl
-sample_fits K.PrincipalSlot = refl
-sample_fits K.ResourceSlot = refl
-sample_fits K.Number = refl
-sample_fits K.Str = refl
-sample_fits K.At = refl
-sample_fits K.Dot = refl
-sample_fits K.Comma = refl
-sample_fits K.SemiColon = refl
-sample_fits K.Colon = refl
-sample_fits K.DoubleColon = refl
-sample_fits K.LParen = refl
-sample_fits K.RParen = refl
-sample_fits K.LBrace = refl
-sample_fits K.RBrace = refl
-sample_fits K.LBracket = refl
-sample_fits K.RBracket = refl
-sample_fits K.Equal = refl
-sample_fits K.NotEqual = refl
-sample_fits K.Lt = refl
-sample_fits K.Le = refl
-sample_fits K.Gt = refl
-sample_fits K.Ge = refl
-sample_fits K.Or = refl
-sample_fits K.And = refl
-sample_fits K.Add = refl
-sample_fits K.Dash = refl
-sample_fits K.Mul = refl
-sample_fits K.Div = refl
-sample_fits K.Modulo = refl
-sample_fits K.Neg = refl

@@ -1,5 +1,5 @@
 -- Texts that split, cut after some units, and one more token after them.
-use Rattle.std.specs.Prelude.{◌≡◌, ◌≤◌, ◌+◌, ◌||◌, ℕ, Bool, false, List, [], ◌∷◌, ◌++◌, length, take, drop}
+use Rattle.std.specs.Prelude.{◌≡◌, ◌≤◌, ◌+◌, ◌||◌, ℕ, false, List, [], ◌∷◌, ◌++◌, length, take, drop}
 use Rattle.std.specs.List.{concat, list_any, sum_by}
 use Rattle.std.specs.Str.{IsUtf8, IsCharBoundary}
 use Rattle.std.proofs.Common.{refl, sym, ap, ◌∙◌, subst, arith, append-nil, length-append}
@@ -7,32 +7,27 @@ use Rattle.std.proofs.Math.Seq.{take-append_seam, drop-append_seam}
 use Rattle.std.proofs.lemmas.List.{drop_all}
 use Rattle.std.proofs.lemmas.List.Elements.{filter-append}
 use Rattle.std.proofs.lemmas.List.Folds.{list_any-append}
-use Rattle.std.proofs.lemmas.List.Sums.{sum_by-cons}
-use Rattle.std.proofs.lemmas.Str.{IsCharBoundary-at_seam, IsUtf8-drop}
-use Rattle.cedar_tokens.specs.Units.{is_token, IsToken, IsUnit, IsFirstUnit, slots, punctuators}
+use Rattle.std.proofs.lemmas.Str.{IsCharBoundary-at_seam}
+use Rattle.std.proofs.lemmas.Bool.{or_from}
+use Rattle.cedar_tokens.specs.Units.{is_token, IsToken}
 use Rattle.cedar_tokens.specs.Units as U
 use Rattle.cedar_tokens.specs.Split.{Scans, SplitsInto}
-use Rattle.cedar_tokens.proofs.FirstUnit.{unit_boundary, unit_nonempty}
+use Rattle.cedar_tokens.proofs.FirstUnit.{unit_nonempty}
 use Rattle.cedar_tokens.proofs.Prefixes.{begins_fits}
+use Rattle.cedar_tokens.proofs.UnitsSoFar.{scans_concat, concat_length, scan_utf8}
 use Rattle.cedar_grammar.specs.Numbers.{is_too_large}
 use Rattle.cedar_grammar.specs.Texts.{only_tokens}
-use Rattle.cedar_grammar.proofs.KindSets.{or_left}
-use Rattle.cedar_laws.proofs.Scanned.{scans_concat, splits_join}
+use Rattle.cedar_grammar.proofs.Booleans.{neither_first as or_left}
+use Rattle.cedar_laws.proofs.Scanned.{splits_join}
 use Rattle.cedar_laws.proofs.Spaces.{scans_shorter}
-
--- the bytes of units
-pub concat_length : (us : List (List ℕ)) → length (concat us) ≡ sum_by length us
-concat_length [] = refl
-concat_length (u ∷ us) = length-append u (concat us) ∙ (ap (λ z. length u + z) (concat_length us) ∙ sym (sum_by-cons length u us))
+use Rattle.cedar_laws.proofs.Listed.{feed_no_token}
 
 -- units scan as far as their first ones, and on from there
-scans_parts : (us vs : List (List ℕ)) (text rest : List ℕ) → Scans (us ++ vs) text rest → (middle : List ℕ) × Scans us text middle × Scans vs middle rest
+scans_parts : (us vs : List (List ℕ)) (text rest : List ℕ) → Scans (us ++ vs) text rest
+    → (middle : List ℕ) × Scans us text middle × Scans vs middle rest
 scans_parts [] vs text rest s = (text, refl, s)
-scans_parts (u ∷ us) vs text rest s = let q = scans_parts us vs (drop (length u) text) rest s.1 in (q.0, (s.0, q.1), q.2)
-
-pub rest_utf8 : (us : List (List ℕ)) (text rest : List ℕ) → IsUtf8 text → Scans us text rest → IsUtf8 rest
-rest_utf8 [] text rest k s = subst (λ z. IsUtf8 z) s k
-rest_utf8 (u ∷ us) text rest k s = rest_utf8 us (drop (length u) text) rest (IsUtf8-drop text (length u) k (unit_boundary text u k s.0)) s.1
+scans_parts (u ∷ us) vs text rest s =
+    let q = scans_parts us vs (drop (length u) text) rest s.1 in (q.0, (s.0, q.1), q.2)
 
 -- a text that splits, cut after the first units
 pub record Cut (text : List ℕ) (at : ℕ) (before after : List (List ℕ)) : Type 0 where
@@ -41,56 +36,65 @@ pub record Cut (text : List ℕ) (at : ℕ) (before after : List (List ℕ)) : T
   pub within : at ≤ length text
   pub boundary : IsUtf8 text → IsCharBoundary text at
 
-pub cut : (text : List ℕ) (at : ℕ) (before after : List (List ℕ)) → SplitsInto text (before ++ after) → at ≡ sum_by length before → Cut text at before after
+pub cut : (text : List ℕ) (at : ℕ) (before after : List (List ℕ))
+    → SplitsInto text (before ++ after) → at ≡ sum_by length before → Cut text at before after
 cut text at before after s e =
     let q = scans_parts before after text [] s in
     let whole : text ≡ concat before ++ q.0 = scans_concat before text q.0 q.1 in
     let l : at ≡ length (concat before) = e ∙ sym (concat_length before) in
-    let front : take at text ≡ concat before = ap (λ k. take k text) l ∙ (ap (take (length (concat before))) whole ∙ take-append_seam (concat before) q.0) in
-    let back : drop at text ≡ q.0 = ap (λ k. drop k text) l ∙ (ap (drop (length (concat before))) whole ∙ drop-append_seam (concat before) q.0) in
+    let front : take at text ≡ concat before = ap (λ k. take k text) l
+    ∙ (ap (take (length (concat before))) whole ∙ take-append_seam (concat before) q.0) in
+    let back : drop at text ≡ q.0 = ap (λ k. drop k text) l
+    ∙ (ap (drop (length (concat before))) whole ∙ drop-append_seam (concat before) q.0) in
     record {
-      front = subst (λ z. SplitsInto z before) (append-nil (concat before) ∙ sym front) (scans_shorter before [] q.0 (subst (λ z. Scans before z q.0) whole q.1));
+      front = subst (λ z. SplitsInto z before) (append-nil (concat before) ∙ sym front)
+          (scans_shorter before [] q.0 (subst (λ z. Scans before z q.0) whole q.1));
       back = subst (λ z. SplitsInto z after) (sym back) q.2;
       within = omega (arith, l, ap length whole, length-append (concat before) q.0);
-      boundary = λ k. subst (λ n. IsCharBoundary text n) (sym l) (IsCharBoundary-at_seam text (concat before) q.0 whole (rest_utf8 before text q.0 k q.1));
+      boundary = λ k. subst (λ n. IsCharBoundary text n) (sym l)
+          (IsCharBoundary-at_seam text (concat before) q.0 whole (scan_utf8 before text q.0 k q.1));
     }
-
--- all bytes of a text that splits are those of its units
-pub units_length : (us : List (List ℕ)) (text : List ℕ) → SplitsInto text us → length text ≡ sum_by length us
-units_length us text s = ap length (scans_concat us text [] s ∙ append-nil (concat us)) ∙ concat_length us
 
 -- units without bytes are none
 pub no_units : (us : List (List ℕ)) (text : List ℕ) → SplitsInto text us → length text ≡ 0 → us ≡ []
 no_units [] text s e = refl
-no_units (u ∷ us) text s e = absurd (omega (arith, unit_nonempty u s.0.kind, begins_fits text u s.0.begins, e))
+no_units (u ∷ us) text s e =
+    absurd (omega (arith, unit_nonempty u s.0.kind, begins_fits text u s.0.begins, e))
 
 -- a token alone splits into itself
 one_token : (t : List ℕ) → IsToken t → SplitsInto t (t ∷ [])
-one_token t h = (record { kind = U.token h; begins = ([], sym (append-nil t)); longest = λ v k g. begins_fits t v g }, drop_all (length t) t (omega arith))
+one_token t h = (
+  record {
+    kind = U.token h;
+    begins = ([], sym (append-nil t));
+    longest = λ v k g. begins_fits t v g;
+  },
+  drop_all (length t) t (omega arith),
+)
 
 -- a text followed by a line feed and a token
 abbrev pub more_units : List (List ℕ) → List ℕ → List (List ℕ)
 more_units us t = us ++ ((10 ∷ []) ∷ (t ∷ []))
 
-pub more_split : (text t : List ℕ) (us : List (List ℕ)) → SplitsInto text us → IsToken t → SplitsInto (text ++ (10 ∷ t)) (more_units us t)
+pub more_split : (text t : List ℕ) (us : List (List ℕ)) → SplitsInto text us → IsToken t
+    → SplitsInto (text ++ (10 ∷ t)) (more_units us t)
 more_split text t us s h = splits_join us (t ∷ []) text t s (one_token t h)
-
-feed_no_token : is_token (10 ∷ []) ≡ false
-unfolding punctuators slots
-feed_no_token = refl
 
 last_tokens : (t : List ℕ) → IsToken t → only_tokens ((10 ∷ []) ∷ (t ∷ [])) ≡ t ∷ []
 last_tokens t h = rw (feed_no_token, h) refl
 
-pub more_tokens : (us : List (List ℕ)) (t : List ℕ) → IsToken t → only_tokens (more_units us t) ≡ only_tokens us ++ t ∷ []
-more_tokens us t h = filter-append is_token us ((10 ∷ []) ∷ (t ∷ [])) ∙ ap (λ z. only_tokens us ++ z) (last_tokens t h)
+pub more_tokens : (us : List (List ℕ)) (t : List ℕ) → IsToken t
+    → only_tokens (more_units us t) ≡ only_tokens us ++ t ∷ []
+more_tokens us t h = filter-append is_token us ((10 ∷ []) ∷ (t ∷ []))
+    ∙ ap (λ z. only_tokens us ++ z) (last_tokens t h)
 
-last_fit : (b : Bool) → b ≡ false → (b || false) ≡ false
-last_fit b e = rw e refl
-
-pub more_fit : (us : List (List ℕ)) (t : List ℕ) → list_any is_too_large us ≡ false → is_too_large t ≡ false → list_any is_too_large (more_units us t) ≡ false
-more_fit us t f h = list_any-append is_too_large us ((10 ∷ []) ∷ (t ∷ [])) ∙ ap (λ z. z || (is_too_large t || false)) f ∙ last_fit (is_too_large t) h
+pub more_fit : (us : List (List ℕ)) (t : List ℕ) → list_any is_too_large us ≡ false
+    → is_too_large t ≡ false → list_any is_too_large (more_units us t) ≡ false
+more_fit us t f h = list_any-append is_too_large us ((10 ∷ []) ∷ (t ∷ []))
+    ∙ ap (λ z. z || (is_too_large t || false)) f ∙ or_from (is_too_large t) false h refl
 
 -- the numbers of the first units fit if all do
-pub front_fit : (us vs : List (List ℕ)) → list_any is_too_large (us ++ vs) ≡ false → list_any is_too_large us ≡ false
-front_fit us vs f = or_left (list_any is_too_large us) (list_any is_too_large vs) (sym (list_any-append is_too_large us vs) ∙ f)
+pub front_fit : (us vs : List (List ℕ)) → list_any is_too_large (us ++ vs) ≡ false
+    → list_any is_too_large us ≡ false
+front_fit us vs f = or_left (list_any is_too_large us) (list_any is_too_large vs)
+    (sym (list_any-append is_too_large us vs) ∙ f)

@@ -1,18 +1,20 @@
 -- How a file is handled.
-use Rattle.std.proofs.Common.{◌≡◌, ◌≢◌, ◌∙◌, ◌⊎◌, ℕ, List, Bool, true, false, Option, None, Some, Result, Ok, Err, refl, sym, ap, inl, inr, subst}
+use Rattle.std.proofs.Common.{◌≡◌, ◌∙◌, ◌⊎◌, ℕ, List, Bool, true, false, Option, Some, refl, sym, ap, inl, inr, subst}
 use Rattle.std.specs.Str.{IsUtf8}
+use Rattle.std.proofs.lemmas.Option.{same_Some}
 use Rattle.cedar_documents.specs.declared.config.Config.{Config}
-use Rattle.cedar_folder.specs.Folders.{Names, Picture, Since, Stored}
+use Rattle.cedar_folder.specs.Folders.{Names, Picture, Stored}
 use Rattle.cedar_policy_formatter.specs.Outputs.{HasOutput}
-use Rattle.cedar_folder.specs.Runs.{Became, Handles, HoldsOutput, IsLeft, IsMoment, IsUnformatted, Replaced, Replaces}
-use Rattle.cedar_folder.specs.declared.folder.Access.{Access}
+use Rattle.cedar_folder.specs.Runs.{Became, Handles, HoldsOutput, IsMoment, IsUnformatted, Replaced, Replaces}
 use Rattle.cedar_folder.specs.declared.folder.Outcome.{Outcome}
 use Rattle.cedar_folder.specs.declared.folder.Outcome.TheVariants.{Formatted, Unformatted, NotUtf8, Refused, Unread, Unwritten, LeftBeside}
-use Rattle.cedar_folder.proofs.Steps.{moments_are, no_moment, some_is}
+use Rattle.cedar_folder.proofs.Steps.{moments_are, no_moment}
 
 module _ (c : Config) (name : List ℕ) where
   -- nothing changed
-  pub only_read : (only : Bool) (o : Outcome) (p q : Picture) → q ≡ p → ((f : Stored) → p.holds name ≡ Some f → Became only c f o (Some f)) → Handles c only name o p q
+  pub only_read : (only : Bool) (o : Outcome) (p q : Picture) → q ≡ p
+      → ((f : Stored) → p.holds name ≡ Some f → Became only c f o (Some f))
+      → Handles c only name o p q
   only_read only o p q same became = subst (λ r. Handles c only name o p r) (sym same) (record {
     own = λ f held. subst (λ h. Became only c f o h) (sym held) (became f held);
     others = λ n f other held. held;
@@ -23,10 +25,13 @@ module _ (c : Config) (name : List ℕ) where
   })
 
   -- the file that was read
-  pub of_read : (only : Bool) (o : Outcome) (x : Stored) (p q : Picture) → (q ≡ p) × (p.holds name ≡ Some x) → Became only c x o (Some x) → Handles c only name o p q
-  of_read only o x p q (same, read) became = only_read only o p q same (λ f held. subst (λ g. Became only c g o (Some g)) (some_is (sym read ∙ held)) became)
+  pub of_read : (only : Bool) (o : Outcome) (x : Stored) (p q : Picture)
+      → (q ≡ p) × (p.holds name ≡ Some x) → Became only c x o (Some x) → Handles c only name o p q
+  of_read only o x p q (same, read) became = only_read only o p q same
+      (λ f held. subst (λ g. Became only c g o (Some g)) (same_Some _ _ (sym read ∙ held)) became)
 
-  module _ (x : Stored) (ys : List ℕ) (unformatted : IsUnformatted c x.bytes) (output : HasOutput c x.bytes ys) (utf8 : IsUtf8 ys) where
+  module _ (x : Stored) (ys : List ℕ) (unformatted : IsUnformatted c x.bytes)
+      (output : HasOutput c x.bytes ys) (utf8 : IsUtf8 ys) where
     abbrev new : Stored
     new = record { bytes = ys; access = x.access }
 
@@ -42,20 +47,26 @@ module _ (c : Config) (name : List ℕ) where
     became (Unwritten e) h is = is
     became (LeftBeside e n) h is = is
 
-    at_moment : (p s : Names) → p name ≡ Some x → (n : List ℕ) (g : Stored) → p n ≡ Some g → (s n ≡ Some g) ⊎ ((n ≡ name) × (s n ≡ Some new)) → (s n ≡ Some g) ⊎ ((n ≡ name) × HoldsOutput c g (s n))
+    at_moment : (p s : Names) → p name ≡ Some x → (n : List ℕ) (g : Stored) → p n ≡ Some g
+        → (s n ≡ Some g) ⊎ ((n ≡ name) × (s n ≡ Some new))
+        → (s n ≡ Some g) ⊎ ((n ≡ name) × HoldsOutput c g (s n))
     at_moment p s read n g held (inl old) = inl old
     at_moment p s read n g held (inr (e, is)) =
-        let same : x ≡ g = some_is (sym read ∙ ap p (sym e) ∙ held) in
+        let same : x ≡ g = same_Some _ _ (sym read ∙ ap p (sym e) ∙ held) in
         inr (e, subst (λ f. HoldsOutput c f (s n)) same (holds_output (s n) is))
 
-    pub of_replaced : (o : Outcome) (p q r : Picture) → (q ≡ p) × (p.holds name ≡ Some x) → Replaces name ys x.access o q r → Handles c false name o p r
+    pub of_replaced : (o : Outcome) (p q r : Picture) → (q ≡ p) × (p.holds name ≡ Some x)
+        → Replaces name ys x.access o q r → Handles c false name o p r
     of_replaced o p q r (same, read) done =
-        let from_p : Replaces name ys x.access o p r = subst (λ s. Replaces name ys x.access o s r) same done in
+        let from_p : Replaces name ys x.access o p r =
+        subst (λ s. Replaces name ys x.access o s r) same done in
         record {
-          own = λ f held. subst (λ g. Became false c g o (r.holds name)) (some_is (sym read ∙ held)) (became o (r.holds name) (from_p.own x read));
+          own = λ f held. subst (λ g. Became false c g o (r.holds name))
+              (same_Some _ _ (sym read ∙ held)) (became o (r.holds name) (from_p.own x read));
           others = from_p.others;
           unused = from_p.unused x read;
-          moments = moments_are p r _ (IsMoment c (λ n. n ≡ name) p.holds) (λ s h n g held. at_moment p.holds s read n g held (h n g held)) (from_p.moments x read);
+          moments = moments_are p r _ (IsMoment c (λ n. n ≡ name) p.holds) (λ s h n g held.
+              at_moment p.holds s read n g held (h n g held)) (from_p.moments x read);
           report = from_p.report;
           check = λ e. let bad : false ≡ true = e in cc;
         }

@@ -1,27 +1,24 @@
--- Conjunctions, disjunctions and negations that hold or fail.
+-- The halves of a conjunction that holds and of a disjunction that fails,
+-- and what follows with one of them.
 use Rattle.std.specs.Prelude.{◌≡◌, Bool, true, false, ◌||◌, ◌&&◌, not, IsTrue}
-use Rattle.std.proofs.Common.{refl}
+use Rattle.std.proofs.lemmas.Bool.{and_parts, or_parts}
 
-pub and_both : (a b : Bool) → IsTrue a → IsTrue b → IsTrue (a && b)
-and_both true b h k = k
-and_both false b h k = absurd cc
+pub and_first : (a b : Bool) → IsTrue (a && b) → IsTrue a
+and_first a b h = (and_parts a b h).0
 
-pub or_left_true : (a b : Bool) → IsTrue a → IsTrue (a || b)
-or_left_true true b h = refl
-or_left_true false b h = absurd cc
+pub and_second : (a b : Bool) → IsTrue (a && b) → IsTrue b
+and_second a b h = (and_parts a b h).1
 
-pub or_right_true : (a b : Bool) → IsTrue b → IsTrue (a || b)
-or_right_true true b h = refl
-or_right_true false b h = h
+pub neither_first : (a b : Bool) → (a || b) ≡ false → a ≡ false
+neither_first a b h = (or_parts a b h).0
+
+pub neither_second : (a b : Bool) → (a || b) ≡ false → b ≡ false
+neither_second a b h = (or_parts a b h).1
 
 pub implied : (a b : Bool) → IsTrue (not a || b) → IsTrue a → IsTrue b
 implied true b h k = h
 implied false b h k = absurd cc
 
-pub no_both : (b : Bool) → IsTrue (not b) → IsTrue b → ⊥
-no_both true h k = let z : false ≡ true = h in cc
-no_both false h k = let z : false ≡ true = k in cc
-
-pub and_none : (b : Bool) → (b && false) ≡ false
-and_none true = refl
-and_none false = refl
+pub and_second_false : (a b : Bool) → (a && b) ≡ false → IsTrue a → b ≡ false
+and_second_false true b h k = h
+and_second_false false b h k = absurd cc

@@ -1,6 +1,6 @@
--- Removing a blank line after a line feed leaves the units of the remaining text, with the same decorated list.
+-- Removing a blank line after a line feed leaves the units of the remaining text,
+-- with the same decorated list.
 use Rattle.std.proofs.Common.{◌≡◌, ℕ, ◌<◌, Bool, true, false, cond, not, ◌&&◌, ◌==◌, ◌⊎◌, inl, inr, List, [], ◌∷◌, ◌++◌, Option, Some, None, length, get_or, drop, refl, ap, arith, sym, ◌∙◌, subst, append_assoc, append-nil, length-append}
-use Rattle.std.specs.Prelude.{⊤}
 use Rattle.std.specs.List.{list_all, AllByRecursion, concat}
 use Rattle.std.specs.Char.{is_whitespace, encode_utf8}
 use Rattle.std.specs.Str.{chars}
@@ -8,15 +8,16 @@ use Rattle.std.proofs.Math.Seq.{drop-append_seam}
 use Rattle.std.proofs.lemmas.Str.{chars-append, chars_past_char, IsUtf8-encode, encode_ascii, chars-nil, inside_one}
 use Rattle.std.specs.Str.{IsUtf8}
 use Rattle.std.specs.Char.{IsScalar}
-use Rattle.std.proofs.lemmas.Bool.{cases_lt}
+use Rattle.std.proofs.lemmas.Bool.{or_right, and_parts, false_from_ne_true, not-true}
 use Rattle.std.proofs.lemmas.Bool.Decides.{nat_tests, Decides-eqb}
+use Rattle.std.proofs.lemmas.List.Folds.{concat-append}
 use Rattle.cedar_tokens.specs.Units.{IsBlank, IsToken, is_token, is_comment}
 use Rattle.cedar_tokens.specs.Split.{Scans, SplitsInto}
 use Rattle.cedar_tokens.specs.Listing.{Decorated, Listing, gaps, decorate, listing, comments, with_first}
 use Rattle.cedar_tokens.proofs.CommentLines.{comments_nil, comments_skip}
-use Rattle.cedar_tokens.proofs.Prefixes.{and_parts, or_right}
-use Rattle.cedar_tokens.proofs.Heads.{class, class-white, class-blank, class-high, token_of, no_empty_token}
-use Rattle.cedar_tokens.proofs.FirstUnit.{comment_parts, token_class, no_both_blank, all_more}
+use Rattle.cedar_tokens.proofs.Heads.{class, class-white, class-blank, token_of, no_empty_token}
+use Rattle.cedar_tokens.proofs.FirstUnit.{comment_parts, token_class, no_both_blank, all_more, low_from_class}
+use Rattle.cedar_tokens.proofs.Lists.{All-append}
 use Rattle.cedar_layout.specs.Cleaning.{last_byte_or}
 use Rattle.cedar_laws.specs.CleaningLaws.{is_solid, Thinned, no_units, unit_stays, blank_goes}
 use Rattle.cedar_layout.specs.Cleaning.{piece_lines, is_blank_line, without_blank_lines, clean_lines, clean_piece}
@@ -30,50 +31,58 @@ use Rattle.cedar_laws.proofs.Units.{last_passes, feed_blank}
 abbrev pub Parted : List (List ℕ) → Type 0
 Parted us = SplitsInto (concat us) us
 
-pub concat_append : (us vs : List (List ℕ)) → concat (us ++ vs) ≡ concat us ++ concat vs
-concat_append [] vs = refl
-concat_append (u ∷ us) vs = ap (λ z. u ++ z) (concat_append us vs) ∙ sym (append_assoc u (concat us) (concat vs))
-
 -- a front of units that their text splits into is one too
-parted_front : (us vs : List (List ℕ)) (y : List ℕ) → Scans (us ++ vs) (concat us ++ y) [] → Parted us
+parted_front : (us vs : List (List ℕ)) (y : List ℕ) → Scans (us ++ vs) (concat us ++ y) []
+    → Parted us
 parted_front [] vs y s = refl
 parted_front (u ∷ us) vs y s =
-    let e : drop (length u) ((u ++ concat us) ++ y) ≡ concat us ++ y = ap (drop (length u)) (append_assoc u (concat us) y) ∙ drop-append_seam u (concat us ++ y) in
-    scans_unit u us (concat us) [] (first_within (u ++ concat us) y u s.0 (omega (arith, length-append u (concat us)))) (parted_front us vs y (rw e at s.1))
+    let e : drop (length u) ((u ++ concat us) ++ y) ≡ concat us ++ y =
+    ap (drop (length u)) (append_assoc u (concat us) y) ∙ drop-append_seam u (concat us ++ y) in
+    scans_unit u us (concat us) [] (first_within (u ++ concat us) y u s.0
+    (omega (arith, length-append u (concat us)))) (parted_front us vs y (rw e at s.1))
 
-parted_back : (us vs : List (List ℕ)) (y : List ℕ) → Scans (us ++ vs) (concat us ++ y) [] → Scans vs y []
+parted_back : (us vs : List (List ℕ)) (y : List ℕ) → Scans (us ++ vs) (concat us ++ y) []
+    → Scans vs y []
 parted_back [] vs y s = s
 parted_back (u ∷ us) vs y s =
-    let e : drop (length u) ((u ++ concat us) ++ y) ≡ concat us ++ y = ap (drop (length u)) (append_assoc u (concat us) y) ∙ drop-append_seam u (concat us ++ y) in
+    let e : drop (length u) ((u ++ concat us) ++ y) ≡ concat us ++ y =
+    ap (drop (length u)) (append_assoc u (concat us) y) ∙ drop-append_seam u (concat us ++ y) in
     parted_back us vs y (rw e at s.1)
 
 pub parted_parts : (us vs : List (List ℕ)) → Parted (us ++ vs) → Parted us × Parted vs
 parted_parts us vs p =
-    let s : Scans (us ++ vs) (concat us ++ concat vs) [] = rw concat_append at p in
+    let s : Scans (us ++ vs) (concat us ++ concat vs) [] = rw concat-append at p in
     (parted_front us vs (concat vs) s, parted_back us vs (concat vs) s)
 
 pub parted_join : (us vs : List (List ℕ)) → Parted us → Parted vs → Parted (us ++ ((10 ∷ []) ∷ vs))
-parted_join us vs p q = rw (concat_append us ((10 ∷ []) ∷ vs)) (splits_join us vs (concat us) (concat vs) p q)
+parted_join us vs p q =
+    rw (concat-append us ((10 ∷ []) ∷ vs)) (splits_join us vs (concat us) (concat vs) p q)
 
 -- units without a token or a comment say nothing
 abbrev pub Silent : List (List ℕ) → Type 0
 Silent us = listing us ≡ record { tokens = []; closing = [] }
 
 -- a blank line goes
-line_goes : (us bs vs : List (List ℕ)) → Silent bs → Parted (us ++ ((10 ∷ []) ∷ (bs ++ ((10 ∷ []) ∷ vs)))) → Parted (us ++ ((10 ∷ []) ∷ vs)) × (listing (us ++ ((10 ∷ []) ∷ vs)) ≡ listing (us ++ ((10 ∷ []) ∷ (bs ++ ((10 ∷ []) ∷ vs)))))
+line_goes : (us bs vs : List (List ℕ)) → Silent bs
+    → Parted (us ++ ((10 ∷ []) ∷ (bs ++ ((10 ∷ []) ∷ vs)))) → Parted (us ++ ((10 ∷ []) ∷ vs))
+    × (listing (us ++ ((10 ∷ []) ∷ vs)) ≡ listing (us ++ ((10 ∷ []) ∷ (bs ++ ((10 ∷ []) ∷ vs)))))
 line_goes us bs vs h p =
     let a = parted_parts us ((10 ∷ []) ∷ (bs ++ ((10 ∷ []) ∷ vs))) p in
     let b = parted_parts ((10 ∷ []) ∷ []) (bs ++ ((10 ∷ []) ∷ vs)) a.1 in
     let c = parted_parts bs ((10 ∷ []) ∷ vs) b.1 in
     let d = parted_parts ((10 ∷ []) ∷ []) vs c.1 in (
       parted_join us vs a.0 d.1,
-      listing_join us vs ∙ (ap (follow (listing us)) (sym (listing_join bs vs ∙ (ap (λ z. follow z (listing vs)) h ∙ nothing_first (listing vs)))) ∙ sym (listing_join us (bs ++ ((10 ∷ []) ∷ vs)))),
+      listing_join us vs ∙ (ap (follow (listing us)) (sym
+          (listing_join bs vs ∙ (ap (λ z. follow z (listing vs)) h ∙ nothing_first (listing vs))))
+          ∙ sym (listing_join us (bs ++ ((10 ∷ []) ∷ vs)))),
     )
   where
     nothing_first : (m : Listing) → follow (record { tokens = []; closing = [] }) m ≡ m
     nothing_first m = by_tokens m.tokens m.closing
       where
-        by_tokens : (ts : List Decorated) (cs : List (List ℕ)) → follow (record { tokens = []; closing = [] }) (record { tokens = ts; closing = cs }) ≡ record { tokens = ts; closing = cs }
+        by_tokens : (ts : List Decorated) (cs : List (List ℕ))
+            → follow (record { tokens = []; closing = [] }) (record { tokens = ts; closing = cs })
+            ≡ record { tokens = ts; closing = cs }
         by_tokens [] cs = refl
         by_tokens (t ∷ ts) cs = refl
 
@@ -98,7 +107,8 @@ onto_nothing (b ∷ x) = go (b == 10) (piece_lines x)
     same [] = refl
     same (l ∷ ls) = refl
 
-    go : (t : Bool) (ls : List (List ℕ)) → onto [] (cond t ((10 ∷ []) ∷ ls) (with_first b ls)) ≡ cond t ((10 ∷ []) ∷ ls) (with_first b ls)
+    go : (t : Bool) (ls : List (List ℕ)) → onto [] (cond t ((10 ∷ []) ∷ ls) (with_first b ls))
+        ≡ cond t ((10 ∷ []) ∷ ls) (with_first b ls)
     go true ls = refl
     go false ls = same ls
 
@@ -106,19 +116,17 @@ pub lines_onto : (u x : List ℕ) → feedless u ≡ true → piece_lines (u ++ 
 lines_onto [] x h = sym (onto_nothing x)
 lines_onto (b ∷ u) x h =
     let p = and_parts (not (b == 10)) (feedless u) h in
-    rw (not_true (b == 10) p.0, lines_onto u x p.1) (onto_first b u (piece_lines x))
-  where
-    not_true : (t : Bool) → not t ≡ true → t ≡ false
-    not_true true k = absurd cc
-    not_true false k = refl
+    rw (not-true (b == 10) p.0, lines_onto u x p.1) (onto_first b u (piece_lines x))
 
 clean_onto : (u : List ℕ) (ls : List (List ℕ)) → clean_lines (onto u ls) ≡ u ++ clean_lines ls
 clean_onto u [] = refl
 clean_onto u (l ∷ ls) = append_assoc u l (without_blank_lines ls)
 
-pub feedless_append : (u v : List ℕ) → feedless u ≡ true → feedless v ≡ true → feedless (u ++ v) ≡ true
+pub feedless_append : (u v : List ℕ) → feedless u ≡ true → feedless v ≡ true
+    → feedless (u ++ v) ≡ true
 feedless_append [] v h k = k
-feedless_append (b ∷ u) v h k = let p = and_parts (not (b == 10)) (feedless u) h in rw (p.0, feedless_append u v p.1 k) refl
+feedless_append (b ∷ u) v h k =
+    let p = and_parts (not (b == 10)) (feedless u) h in rw (p.0, feedless_append u v p.1 k) refl
 
 -- a unit of a piece: a line feed, or without one; a token or a blank
 pub record Plain (u : List ℕ) : Type 0 where
@@ -126,19 +134,16 @@ pub record Plain (u : List ℕ) : Type 0 where
   pub feed : (u ≡ 10 ∷ []) ⊎ (feedless u ≡ true)
 
 abbrev pub AllPlain : List (List ℕ) → Type 0
-AllPlain [] = ⊤
-AllPlain (u ∷ us) = Plain u × AllPlain us
-
-plain_append : (us vs : List (List ℕ)) → AllPlain us → AllPlain vs → AllPlain (us ++ vs)
-plain_append [] vs a b = b
-plain_append (u ∷ us) vs a b = (a.0, plain_append us vs a.1 b)
+AllPlain us = AllByRecursion Plain us
 
 -- which bytes a text lacks
-pub lacks : (n : ℕ) (u : List ℕ) → ((w v : List ℕ) → u ≡ w ++ (n ∷ v) → ⊥) → list_all (λ b. not (n == b)) u ≡ true
+pub lacks : (n : ℕ) (u : List ℕ) → ((w v : List ℕ) → u ≡ w ++ (n ∷ v) → ⊥)
+    → list_all (λ b. not (n == b)) u ≡ true
 lacks n [] h = refl
 lacks n (b ∷ u) h = go (n == b) refl (lacks n u (λ w v e. h (b ∷ w) v (ap (λ z. b ∷ z) e)))
   where
-    go : (t : Bool) → (n == b) ≡ t → list_all (λ b. not (n == b)) u ≡ true → (not t && list_all (λ b. not (n == b)) u) ≡ true
+    go : (t : Bool) → (n == b) ≡ t → list_all (λ b. not (n == b)) u ≡ true
+        → (not t && list_all (λ b. not (n == b)) u) ≡ true
     go true e ih = absurd (h [] u (ap (λ z. z ∷ u) (sym ((Decides-eqb n b).0 e))))
     go false e ih = ih
 
@@ -147,27 +152,27 @@ get_at [] n v = refl
 get_at (c ∷ w) n v = get_at w n v
 
 -- an ASCII byte of a blank is the whole blank
-pub blank_is_byte : (u w v : List ℕ) (n : ℕ) → n < 128 → (k : IsBlank u) → u ≡ w ++ (n ∷ v) → k.0 ≡ n
+pub blank_is_byte : (u w v : List ℕ) (n : ℕ) → n < 128 → (k : IsBlank u) → u ≡ w ++ (n ∷ v)
+    → k.0 ≡ n
 blank_is_byte u w v n l k e =
     let at : get_or u (length w) 0 ≡ n = ap (λ z. get_or z (length w) 0) e ∙ get_at w n v in
     let size = ap length e in
     let size2 = ap length k.2 in
-    inside_one k.0 [] u (length w) (k.2 ∙ sym (append-nil (encode_utf8 k.0))) (omega (arith, size, size2, length-append w (n ∷ v))) (omega (arith, at)) ∙ at
+    inside_one k.0 [] u (length w) (k.2 ∙ sym (append-nil (encode_utf8 k.0)))
+    (omega (arith, size, size2, length-append w (n ∷ v))) (omega (arith, at)) ∙ at
 
 pub blank_no_slash : (u : List ℕ) → IsBlank u → list_all (λ b. not (47 == b)) u ≡ true
-blank_no_slash u k = lacks 47 u (λ w v e. absurd (let f = blank_is_byte u w v 47 (omega arith) k e in let g : is_whitespace 47 ≡ true = rw f at k.1 in let h : false ≡ true = g in cc))
+blank_no_slash u k = lacks 47 u (λ w v e. absurd (let f = blank_is_byte u w v 47 (omega arith) k
+    e in let g : is_whitespace 47 ≡ true = rw f at k.1 in let h : false ≡ true = g in cc))
 
-pub comments_pass : (u y : List ℕ) → list_all (λ b. not (47 == b)) u ≡ true → comments (u ++ y) ≡ comments y
+pub comments_pass : (u y : List ℕ) → list_all (λ b. not (47 == b)) u ≡ true
+    → comments (u ++ y) ≡ comments y
 comments_pass [] y h = refl
 comments_pass (b ∷ u) y h =
     let p = and_parts (not (47 == b)) (list_all (λ b. not (47 == b)) u) h in
-    comments_skip b (u ++ y) (rw (not_true (47 == b) p.0) refl) ∙ comments_pass u y p.1
-  where
-    not_true : (t : Bool) → not t ≡ true → t ≡ false
-    not_true true k = absurd cc
-    not_true false k = refl
+    comments_skip b (u ++ y) (rw (not-true (47 == b) p.0) refl) ∙ comments_pass u y p.1
 
-feed_other : (x : ℕ) → not (10 == x) ≡ true → not (x == 10) ≡ true
+pub feed_other : (x : ℕ) → not (10 == x) ≡ true → not (x == 10) ≡ true
 feed_other x h = grind (arith, nat_tests)
 
 -- a blank is the line feed or has none
@@ -175,69 +180,82 @@ pub blank_feed : (u : List ℕ) → IsBlank u → (u ≡ 10 ∷ []) ⊎ (feedles
 blank_feed u e = go (e.0 == 10) refl
   where
     go : (t : Bool) → (e.0 == 10) ≡ t → (u ≡ 10 ∷ []) ⊎ (feedless u ≡ true)
-    go true h = inl (e.2 ∙ (ap encode_utf8 ((Decides-eqb e.0 10).0 h) ∙ encode_ascii 10 (omega arith)))
-    go false h = inr (all_more (λ x. not (10 == x)) (λ x. not (x == 10)) feed_other u (lacks 10 u (λ w v g. absurd (let f = blank_is_byte u w v 10 (omega arith) e g in let t = (Decides-eqb e.0 10).1 f in cc))))
+    go true h =
+        inl (e.2 ∙ (ap encode_utf8 ((Decides-eqb e.0 10).0 h) ∙ encode_ascii 10 (omega arith)))
+    go false h = inr (all_more (λ x. not (10 == x)) (λ x. not (x == 10)) feed_other u
+        (lacks 10 u (λ w v g. absurd (let f = blank_is_byte u w v 10 (omega arith) e g in let t =
+        (Decides-eqb e.0 10).1 f in cc))))
 
 abbrev pub AllBlank : List (List ℕ) → Type 0
 AllBlank us = AllByRecursion IsBlank us
 
 pub blank_no_token : (u : List ℕ) → IsBlank u → is_token u ≡ false
-blank_no_token u k = go (is_token u) refl
-  where
-    go : (t : Bool) → is_token u ≡ t → t ≡ false
-    go true e = absurd (no_both_blank u k e)
-    go false e = refl
+blank_no_token u k = false_from_ne_true (is_token u) (λ e. no_both_blank u k e)
 
-pub blanks_no_token : (us : List (List ℕ)) → AllBlank us → AllByRecursion (λ u. is_token u ≡ false) us
+pub blanks_no_token : (us : List (List ℕ)) → AllBlank us
+    → AllByRecursion (λ u. is_token u ≡ false) us
 blanks_no_token [] a = tt
 blanks_no_token (u ∷ us) a = (blank_no_token u a.0, blanks_no_token us a.1)
 
 pub blanks_no_comment : (us : List (List ℕ)) → AllBlank us → comments (concat us) ≡ []
 blanks_no_comment [] a = comments_nil
-blanks_no_comment (u ∷ us) a = comments_pass u (concat us) (blank_no_slash u a.0) ∙ blanks_no_comment us a.1
+blanks_no_comment (u ∷ us) a =
+    comments_pass u (concat us) (blank_no_slash u a.0) ∙ blanks_no_comment us a.1
 
 pub blanks_silent : (us : List (List ℕ)) → AllBlank us → Silent us
 unfolding listing decorate gaps
 blanks_silent us a =
-    let e : gaps us ≡ record { first = concat us ++ []; tokens = [] } = ap gaps (sym (append-nil us)) ∙ gaps_skip us [] (blanks_no_token us a) in
-    rw (e, append-nil (concat us)) (ap (λ z. record { tokens = []; closing = z }) (blanks_no_comment us a))
+    let e : gaps us ≡ record { first = concat us ++ []; tokens = [] } =
+    ap gaps (sym (append-nil us)) ∙ gaps_skip us [] (blanks_no_token us a) in
+    rw (e, append-nil (concat us))
+    (ap (λ z. record { tokens = []; closing = z }) (blanks_no_comment us a))
 
 -- a byte below 128 is a character
 pub chars_low : (b : ℕ) (x : List ℕ) → b < 128 → chars (b ∷ x) ≡ b ∷ chars x
 chars_low b x l =
     let k : IsUtf8 (b ∷ []) = rw (encode_ascii b l) at (IsUtf8-encode b (low_scalar b l)) in
-    chars-append (b ∷ []) x k ∙ ap (λ z. z ++ chars x) (chars_past_char (b ∷ []) [] b k (ap (λ z. z ++ []) (sym (encode_ascii b l))) ∙ ap (λ z. b ∷ z) chars-nil)
+    chars-append (b ∷ []) x k ∙ ap (λ z. z ++ chars x) (chars_past_char (b ∷ []) [] b k
+    (ap (λ z. z ++ []) (sym (encode_ascii b l))) ∙ ap (λ z. b ∷ z) chars-nil)
   where
     low_scalar : (b : ℕ) → b < 128 → IsScalar b
     low_scalar b l = grind (arith, nat_tests)
+
+pub white_scalar : (c : ℕ) → is_whitespace c ≡ true → IsScalar c
+white_scalar c h = grind (arith, nat_tests)
 
 pub chars_blank : (u x : List ℕ) (k : IsBlank u) → chars (u ++ x) ≡ k.0 ∷ chars x
 chars_blank u x k =
     let s : IsScalar k.0 = white_scalar k.0 k.1 in
     let w : IsUtf8 (encode_utf8 k.0) = IsUtf8-encode k.0 s in
-    ap (λ z. chars (z ++ x)) k.2 ∙ (chars-append (encode_utf8 k.0) x w ∙ ap (λ z. z ++ chars x) (chars_past_char (encode_utf8 k.0) [] k.0 w (sym (append-nil (encode_utf8 k.0))) ∙ ap (λ z. k.0 ∷ z) chars-nil))
-  where
-    white_scalar : (c : ℕ) → is_whitespace c ≡ true → IsScalar c
-    white_scalar c h = grind (arith, nat_tests)
-
-pub class_low : (b : ℕ) → 0 < class b → b < 128
-class_low b h = elim (cases_lt b 128) [ inl l ↦ l | inr l ↦ absurd (omega (arith, h, class-high b l)) ]
+    ap (λ z. chars (z ++ x)) k.2
+    ∙ (chars-append (encode_utf8 k.0) x w ∙ ap (λ z. z ++ chars x) (chars_past_char
+    (encode_utf8 k.0) [] k.0 w (sym (append-nil (encode_utf8 k.0))) ∙ ap (λ z. k.0 ∷ z) chars-nil))
 
 pub white_token : (u x : List ℕ) → IsToken u → list_all is_whitespace (chars (u ++ x)) ≡ true → ⊥
 white_token [] x t h = no_empty_token t
 white_token (b ∷ u) x t h =
     let k = token_class b u (token_of b u t) in
-    let l = class_low b k in
+    let l = low_from_class b k in
     let g : list_all is_whitespace (b ∷ chars (u ++ x)) ≡ true = rw (chars_low b (u ++ x) l) at h in
-    omega (arith, k, class-white b l (and_parts (is_whitespace b) (list_all is_whitespace (chars (u ++ x))) g).0)
+    omega (
+      arith,
+      k,
+      class-white b l (and_parts (is_whitespace b) (list_all is_whitespace (chars (u ++ x))) g).0,
+    )
 
 -- the units of a line of White_Space are blanks
-pub all_blank : (us : List (List ℕ)) (x : List ℕ) → AllPlain us → list_all is_whitespace (chars (concat us ++ x)) ≡ true → AllBlank us
+pub all_blank : (us : List (List ℕ)) (x : List ℕ) → AllPlain us
+    → list_all is_whitespace (chars (concat us ++ x)) ≡ true → AllBlank us
 all_blank [] x a h = tt
 all_blank (u ∷ us) x a h =
-    let g : list_all is_whitespace (chars (u ++ (concat us ++ x))) ≡ true = rw (append_assoc u (concat us) x) at h in
+    let g : list_all is_whitespace (chars (u ++ (concat us ++ x))) ≡ true =
+    rw (append_assoc u (concat us) x) at h in
     elim a.0.kind [
-      | inl k ↦ (k, all_blank us x a.1 (and_parts (is_whitespace k.0) (list_all is_whitespace (chars (concat us ++ x))) (rw (chars_blank u (concat us ++ x) k) at g)).1)
+      | inl k ↦ (
+        k,
+        all_blank us x a.1 (and_parts (is_whitespace k.0) (list_all is_whitespace
+            (chars (concat us ++ x))) (rw (chars_blank u (concat us ++ x) k) at g)).1,
+      )
       | inr t ↦ absurd (white_token u (concat us ++ x) t g)
     ]
 
@@ -249,9 +267,12 @@ blank_line qs a = rw (last_feed 32 (concat qs), white qs a) refl
     last_feed c [] = refl
     last_feed c (b ∷ x) = last_feed b x
 
-    white : (qs : List (List ℕ)) → AllBlank qs → list_all is_whitespace (chars (concat qs ++ (10 ∷ []))) ≡ true
+    white : (qs : List (List ℕ)) → AllBlank qs
+        → list_all is_whitespace (chars (concat qs ++ (10 ∷ []))) ≡ true
     white [] a = rw (chars_low 10 [] (omega arith), chars-nil) refl
-    white (u ∷ qs) a = rw (append_assoc u (concat qs) (10 ∷ []), chars_blank u (concat qs ++ (10 ∷ [])) a.0, a.0.1) (white qs a.1)
+    white (u ∷ qs) a =
+        rw (append_assoc u (concat qs) (10 ∷ []), chars_blank u (concat qs ++ (10 ∷ [])) a.0, a.0.1)
+        (white qs a.1)
 
 -- ---- a piece
 
@@ -261,16 +282,22 @@ abbrev pub is_feed : List ℕ → Bool
 is_feed (b ∷ []) = b == 10
 is_feed _ = false
 
--- reads units after a line feed and blanks (true) or elsewhere (false); says which holds at the end, `None` on a blank line
+-- reads units after a line feed and blanks (true) or elsewhere (false);
+-- says which holds at the end, `None` on a blank line
 abbrev pub lined : Bool → List (List ℕ) → Option Bool
 lined fresh [] = Some fresh
-lined fresh (u ∷ us) = cond (is_solid u) (lined false us) (cond (is_feed u) (cond fresh None (lined true us)) (lined fresh us))
+lined fresh (u ∷ us) = cond (is_solid u) (lined false us)
+    (cond (is_feed u) (cond fresh None (lined true us)) (lined fresh us))
 
-pub lined_append : (us vs : List (List ℕ)) (o e : Bool) → lined o us ≡ Some e → lined o (us ++ vs) ≡ lined e vs
+pub lined_append : (us vs : List (List ℕ)) (o e : Bool) → lined o us ≡ Some e
+    → lined o (us ++ vs) ≡ lined e vs
 lined_append [] vs o e h = let f : o ≡ e = cc in ap (λ z. lined z vs) f
 lined_append (u ∷ us) vs o e h = go (is_solid u) (is_feed u) o (λ p k. lined_append us vs p e k) h
   where
-    go : (s f o : Bool) → ((p : Bool) → lined p us ≡ Some e → lined p (us ++ vs) ≡ lined e vs) → cond s (lined false us) (cond f (cond o None (lined true us)) (lined o us)) ≡ Some e → cond s (lined false (us ++ vs)) (cond f (cond o None (lined true (us ++ vs))) (lined o (us ++ vs))) ≡ lined e vs
+    go : (s f o : Bool) → ((p : Bool) → lined p us ≡ Some e → lined p (us ++ vs) ≡ lined e vs)
+        → cond s (lined false us) (cond f (cond o None (lined true us)) (lined o us)) ≡ Some e
+        → cond s (lined false (us ++ vs)) (cond f (cond o None (lined true (us ++ vs)))
+        (lined o (us ++ vs))) ≡ lined e vs
     go true f o ih h = ih false h
     go false true true ih h = absurd cc
     go false true false ih h = ih true h
@@ -288,7 +315,10 @@ blank_no_comment u k = go (is_comment u) refl
     none : (u : List ℕ) → IsBlank u → is_comment u ≡ true → ⊥
     none [] k e = absurd cc
     none (a ∷ []) k e = absurd cc
-    none (a ∷ (b ∷ v)) k e = let p = comment_parts a b v e in let z : class 47 ≡ 0 = rw p.0 at (class-blank a (b ∷ v) k) in omega (arith, z)
+    none (a ∷ (b ∷ v)) k e =
+        let p = comment_parts a b v e in
+        let z : class 47 ≡ 0 = rw p.0 at (class-blank a (b ∷ v) k) in
+        omega (arith, z)
 
     go : (t : Bool) → is_comment u ≡ t → t ≡ false
     go true e = absurd (none u k e)
@@ -299,40 +329,45 @@ blank_not_solid u k = rw (blank_no_token u k, blank_no_comment u k) refl
 
 pub no_feed_unit : (u : List ℕ) → feedless u ≡ true → is_feed u ≡ false
 no_feed_unit [] h = refl
-no_feed_unit (b ∷ []) h = is_false (b == 10) (and_parts (not (b == 10)) true h).0
-  where
-    is_false : (t : Bool) → not t ≡ true → t ≡ false
-    is_false true k = absurd cc
-    is_false false k = refl
+no_feed_unit (b ∷ []) h = not-true (b == 10) (and_parts (not (b == 10)) true h).0
 no_feed_unit (b ∷ (c ∷ u)) h = refl
 
 pub feedless_front : (u x : List ℕ) → feedless (u ++ x) ≡ true → feedless u ≡ true
 feedless_front [] x h = refl
-feedless_front (b ∷ u) x h = let p = and_parts (not (b == 10)) (feedless (u ++ x)) h in rw p.0 (feedless_front u x p.1)
+feedless_front (b ∷ u) x h =
+    let p = and_parts (not (b == 10)) (feedless (u ++ x)) h in rw p.0 (feedless_front u x p.1)
 
 pub feedless_back : (u x : List ℕ) → feedless (u ++ x) ≡ true → feedless x ≡ true
 feedless_back [] x h = h
 feedless_back (b ∷ u) x h = feedless_back u x (and_parts (not (b == 10)) (feedless (u ++ x)) h).1
 
 -- in a line that has more than blanks
-line_stays : (qs : List (List ℕ)) → AllPlain qs → feedless (concat qs) ≡ true → lined false qs ≡ Some false
+line_stays : (qs : List (List ℕ)) → AllPlain qs → feedless (concat qs) ≡ true
+    → lined false qs ≡ Some false
 line_stays [] a f = refl
-line_stays (u ∷ qs) a f = go (is_solid u) (is_feed u) (no_feed_unit u (feedless_front u (concat qs) f)) (line_stays qs a.1 (feedless_back u (concat qs) f))
+line_stays (u ∷ qs) a f =
+    go (is_solid u) (is_feed u) (no_feed_unit u (feedless_front u (concat qs) f))
+    (line_stays qs a.1 (feedless_back u (concat qs) f))
   where
-    go : (s t : Bool) → t ≡ false → lined false qs ≡ Some false → cond s (lined false qs) (cond t (lined true qs) (lined false qs)) ≡ Some false
+    go : (s t : Bool) → t ≡ false → lined false qs ≡ Some false
+        → cond s (lined false qs) (cond t (lined true qs) (lined false qs)) ≡ Some false
     go true t e ih = ih
     go false true e ih = absurd cc
     go false false e ih = ih
 
 -- blanks after a line feed
-blanks_stay : (qs : List (List ℕ)) → AllBlank qs → feedless (concat qs) ≡ true → lined true qs ≡ Some true
+blanks_stay : (qs : List (List ℕ)) → AllBlank qs → feedless (concat qs) ≡ true
+    → lined true qs ≡ Some true
 blanks_stay [] a f = refl
-blanks_stay (u ∷ qs) a f = rw (blank_not_solid u a.0, no_feed_unit u (feedless_front u (concat qs) f)) (blanks_stay qs a.1 (feedless_back u (concat qs) f))
+blanks_stay (u ∷ qs) a f =
+    rw (blank_not_solid u a.0, no_feed_unit u (feedless_front u (concat qs) f))
+    (blanks_stay qs a.1 (feedless_back u (concat qs) f))
 
 pub feed_not_solid : is_solid (10 ∷ []) ≡ false
 feed_not_solid = blank_not_solid (10 ∷ []) feed_blank
 
-lined_feed : (ps qs : List (List ℕ)) → lined false ps ≡ Some false → lined false (ps ++ ((10 ∷ []) ∷ qs)) ≡ lined true qs
+lined_feed : (ps qs : List (List ℕ)) → lined false ps ≡ Some false
+    → lined false (ps ++ ((10 ∷ []) ∷ qs)) ≡ lined true qs
 lined_feed ps qs w = lined_append ps ((10 ∷ []) ∷ qs) false false w ∙ rw feed_not_solid refl
 
 -- ---- units without some blanks
@@ -341,7 +376,8 @@ pub thinned_same : (us : List (List ℕ)) → Thinned us us
 thinned_same [] = no_units
 thinned_same (u ∷ us) = unit_stays u (thinned_same us)
 
-pub thinned_append : {fs gs us vs : List (List ℕ)} → Thinned fs gs → Thinned us vs → Thinned (fs ++ us) (gs ++ vs)
+pub thinned_append : {fs gs us vs : List (List ℕ)} → Thinned fs gs → Thinned us vs
+    → Thinned (fs ++ us) (gs ++ vs)
 thinned_append no_units t = t
 thinned_append (unit_stays u s) t = unit_stays u (thinned_append s t)
 thinned_append (blank_goes u k s) t = blank_goes u k (thinned_append s t)
@@ -352,18 +388,17 @@ thinned_twice (unit_stays u s) (unit_stays v t) = unit_stays u (thinned_twice s 
 thinned_twice (unit_stays u s) (blank_goes v k t) = blank_goes u k (thinned_twice s t)
 thinned_twice (blank_goes u k s) t = blank_goes u k (thinned_twice s t)
 
-pub thinned_blanks : (bs : List (List ℕ)) {us vs ws : List (List ℕ)} → AllBlank bs → Thinned us vs → bs ++ us ≡ ws → Thinned ws vs
+pub thinned_blanks : (bs : List (List ℕ)) {us vs ws : List (List ℕ)} → AllBlank bs → Thinned us vs
+    → bs ++ us ≡ ws → Thinned ws vs
 thinned_blanks bs {vs = vs} a t e = subst (λ z. Thinned z vs) e (each bs a t)
   where
-    each : (bs : List (List ℕ)) {us vs : List (List ℕ)} → AllBlank bs → Thinned us vs → Thinned (bs ++ us) vs
+    each : (bs : List (List ℕ)) {us vs : List (List ℕ)} → AllBlank bs → Thinned us vs
+        → Thinned (bs ++ us) vs
     each [] a t = t
     each (u ∷ bs) a t = blank_goes u a.0 (each bs a.1 t)
 
-pub blanks_join : (fs bs : List (List ℕ)) → AllBlank fs → AllBlank bs → AllBlank (fs ++ bs)
-blanks_join [] bs a b = b
-blanks_join (u ∷ fs) bs a b = (a.0, blanks_join fs bs a.1 b)
-
--- units that replace the first before ss, with the same decorated list: the first without some blanks or any blank line
+-- units that replace the first before ss, with the same decorated list:
+-- the first without some blanks or any blank line
 pub record Instead (us ss : List (List ℕ)) (y : List ℕ) : Type 0 where
   pub units : List (List ℕ)
   pub is : concat units ≡ y
@@ -373,11 +408,21 @@ pub record Instead (us ss : List (List ℕ)) (y : List ℕ) : Type 0 where
   pub ended : Bool
   pub lined : lined false units ≡ Some ended
 
-instead_as : (us vs ss : List (List ℕ)) (x y : List ℕ) → us ≡ vs → x ≡ y → Instead us ss x → Instead vs ss y
-instead_as us vs ss x y e f i = record { units = i.units; is = i.is ∙ f; parted = i.parted; list = i.list ∙ ap (λ z. listing (z ++ ss)) e; thinned = subst (λ z. Thinned z i.units) e i.thinned; ended = i.ended; lined = i.lined }
+instead_as : (us vs ss : List (List ℕ)) (x y : List ℕ) → us ≡ vs → x ≡ y → Instead us ss x
+    → Instead vs ss y
+instead_as us vs ss x y e f i = record {
+  units = i.units;
+  is = i.is ∙ f;
+  parted = i.parted;
+  list = i.list ∙ ap (λ z. listing (z ++ ss)) e;
+  thinned = subst (λ z. Thinned z i.units) e i.thinned;
+  ended = i.ended;
+  lined = i.lined;
+}
 
 -- the units of a line are only blanks, or the line is not blank
-line_kind : (qs : List (List ℕ)) → AllPlain qs → feedless (concat qs) ≡ true → AllBlank qs ⊎ (lined true qs ≡ Some false)
+line_kind : (qs : List (List ℕ)) → AllPlain qs → feedless (concat qs) ≡ true
+    → AllBlank qs ⊎ (lined true qs ≡ Some false)
 line_kind [] a f = inl tt
 line_kind (u ∷ qs) a f = elim a.0.kind [
   | inr t ↦ inr (rw (token_solid u t) (line_stays qs a.1 (feedless_back u (concat qs) f)))
@@ -387,76 +432,119 @@ line_kind (u ∷ qs) a f = elim a.0.kind [
   ]
 ]
 
-in_line_end : (qs : List (List ℕ)) → AllPlain qs → feedless (concat qs) ≡ true → (e : Bool) × (lined true qs ≡ Some e)
-in_line_end qs a f = elim (line_kind qs a f) [ inl b ↦ (true, blanks_stay qs b f) | inr e ↦ (false, e) ]
+in_line_end : (qs : List (List ℕ)) → AllPlain qs → feedless (concat qs) ≡ true
+    → (e : Bool) × (lined true qs ≡ Some e)
+in_line_end qs a f =
+    elim (line_kind qs a f) [ inl b ↦ (true, blanks_stay qs b f) | inr e ↦ (false, e) ]
 
 feedless_no_blank : (l : List ℕ) → feedless l ≡ true → is_blank_line l ≡ false
-feedless_no_blank l h = rw (not_true (last_byte_or 32 l == 10) (last_passes (λ b. not (b == 10)) 32 l refl h)) refl
-  where
-    not_true : (t : Bool) → not t ≡ true → t ≡ false
-    not_true true k = absurd cc
-    not_true false k = refl
+feedless_no_blank l h =
+    rw (not-true (last_byte_or 32 l == 10) (last_passes (λ b. not (b == 10)) 32 l refl h)) refl
 
 onto_onto : (u v : List ℕ) (ls : List (List ℕ)) → onto u (onto v ls) ≡ onto (u ++ v) ls
 onto_onto u v [] = refl
 onto_onto u v (l ∷ ls) = ap (λ z. z ∷ ls) (sym (append_assoc u v l))
 
-gone_line : (l : List ℕ) (ls : List (List ℕ)) → is_blank_line l ≡ true → without_blank_lines (l ∷ ls) ≡ without_blank_lines ls
+gone_line : (l : List ℕ) (ls : List (List ℕ)) → is_blank_line l ≡ true
+    → without_blank_lines (l ∷ ls) ≡ without_blank_lines ls
 gone_line l ls h = rw h refl
 
-kept_line : (l : List ℕ) (ls : List (List ℕ)) → is_blank_line l ≡ false → without_blank_lines (l ∷ ls) ≡ l ++ without_blank_lines ls
+kept_line : (l : List ℕ) (ls : List (List ℕ)) → is_blank_line l ≡ false
+    → without_blank_lines (l ∷ ls) ≡ l ++ without_blank_lines ls
 kept_line l ls h = rw h refl
 
-regroup : (ps qs ms ss : List (List ℕ)) → (ps ++ ((10 ∷ []) ∷ (qs ++ ((10 ∷ []) ∷ ms)))) ++ ss ≡ ps ++ ((10 ∷ []) ∷ (qs ++ ((10 ∷ []) ∷ (ms ++ ss))))
+regroup : (ps qs ms ss : List (List ℕ)) → (ps ++ ((10 ∷ []) ∷ (qs ++ ((10 ∷ []) ∷ ms)))) ++ ss
+    ≡ ps ++ ((10 ∷ []) ∷ (qs ++ ((10 ∷ []) ∷ (ms ++ ss))))
 regroup ps qs ms ss = simp append_assoc
 
-kept_text : (x y w z : List ℕ) → z ≡ x ++ (10 ∷ y) → z ++ (10 ∷ w) ≡ x ++ (10 ∷ ((y ++ (10 ∷ [])) ++ w))
+kept_text : (x y w z : List ℕ) → z ≡ x ++ (10 ∷ y)
+    → z ++ (10 ∷ w) ≡ x ++ (10 ∷ ((y ++ (10 ∷ [])) ++ w))
 kept_text x y w z e = rw e (simp append_assoc)
 
 -- after a line feed, where qs is what was read of the line
-in_lines : (ms ps qs ss : List (List ℕ)) → AllPlain ms → AllPlain qs → feedless (concat qs) ≡ true → lined false ps ≡ Some false → Parted ((ps ++ ((10 ∷ []) ∷ (qs ++ ms))) ++ ss)
-    → Instead (ps ++ ((10 ∷ []) ∷ (qs ++ ms))) ss (concat ps ++ (10 ∷ without_blank_lines (onto (concat qs) (piece_lines (concat ms)))))
+in_lines : (ms ps qs ss : List (List ℕ)) → AllPlain ms → AllPlain qs → feedless (concat qs) ≡ true
+    → lined false ps ≡ Some false → Parted ((ps ++ ((10 ∷ []) ∷ (qs ++ ms))) ++ ss)
+    → Instead (ps ++ ((10 ∷ []) ∷ (qs ++ ms))) ss
+    (concat ps ++ (10 ∷ without_blank_lines (onto (concat qs) (piece_lines (concat ms)))))
 in_lines [] ps qs ss a b f w p =
-    let k : is_blank_line (concat qs ++ []) ≡ false = rw (append-nil (concat qs)) (feedless_no_blank (concat qs) f) in
+    let k : is_blank_line (concat qs ++ []) ≡ false =
+    rw (append-nil (concat qs)) (feedless_no_blank (concat qs) f) in
     let e = in_line_end qs b f in
-    record { units = ps ++ ((10 ∷ []) ∷ (qs ++ [])); is = rw k (simp (concat_append, append-nil)); parted = p; list = refl; thinned = thinned_same (ps ++ ((10 ∷ []) ∷ (qs ++ []))); ended = e.0; lined = lined_feed ps (qs ++ []) w ∙ (ap (lined true) (append-nil qs) ∙ e.1) }
+    record {
+      units = ps ++ ((10 ∷ []) ∷ (qs ++ []));
+      is = rw k (simp (concat-append, append-nil));
+      parted = p;
+      list = refl;
+      thinned = thinned_same (ps ++ ((10 ∷ []) ∷ (qs ++ [])));
+      ended = e.0;
+      lined = lined_feed ps (qs ++ []) w ∙ (ap (lined true) (append-nil qs) ∙ e.1);
+    }
 in_lines (u ∷ ms) ps qs ss a b f w p = elim a.0.feed [
-  | inr free ↦ more (in_lines ms ps (qs ++ (u ∷ [])) ss a.1 (plain_append qs (u ∷ []) b (a.0, tt)) (rw (concat_append qs (u ∷ []), append-nil u) (feedless_append (concat qs) u f free)) w (rw (append_assoc qs (u ∷ []) ms) p)) free
-  | inl e ↦ at_feed e (is_blank_line (concat qs ++ (10 ∷ []))) refl (λ q. in_lines ms ps [] ss a.1 tt refl w q) (λ v q. in_lines ms (ps ++ ((10 ∷ []) ∷ qs)) [] ss a.1 tt refl v q)
+  | inr free ↦
+      more (in_lines ms ps (qs ++ (u ∷ [])) ss a.1 (All-append Plain qs (u ∷ []) b (a.0, tt))
+      (rw (concat-append qs (u ∷ []), append-nil u) (feedless_append (concat qs) u f free)) w
+      (rw (append_assoc qs (u ∷ []) ms) p)) free
+  | inl e ↦ at_feed e (is_blank_line (concat qs ++ (10 ∷ []))) refl
+      (λ q. in_lines ms ps [] ss a.1 tt refl w q)
+      (λ v q. in_lines ms (ps ++ ((10 ∷ []) ∷ qs)) [] ss a.1 tt refl v q)
 ]
   where
-    more : Instead (ps ++ ((10 ∷ []) ∷ ((qs ++ (u ∷ [])) ++ ms))) ss (concat ps ++ (10 ∷ without_blank_lines (onto (concat (qs ++ (u ∷ []))) (piece_lines (concat ms))))) → feedless u ≡ true
-        → Instead (ps ++ ((10 ∷ []) ∷ (qs ++ (u ∷ ms)))) ss (concat ps ++ (10 ∷ without_blank_lines (onto (concat qs) (piece_lines (u ++ concat ms)))))
-    more i free = instead_as _ _ ss _ _ (ap (λ z. ps ++ ((10 ∷ []) ∷ z)) (append_assoc qs (u ∷ []) ms))
-        (ap (λ z. concat ps ++ (10 ∷ without_blank_lines z)) (ap (λ z. onto z (piece_lines (concat ms))) (concat_append qs (u ∷ []) ∙ ap (λ z. concat qs ++ z) (append-nil u)) ∙ (sym (onto_onto (concat qs) u (piece_lines (concat ms))) ∙ ap (onto (concat qs)) (sym (lines_onto u (concat ms) free))))) i
+    more : Instead (ps ++ ((10 ∷ []) ∷ ((qs ++ (u ∷ [])) ++ ms))) ss (concat ps
+        ++ (10 ∷ without_blank_lines (onto (concat (qs ++ (u ∷ []))) (piece_lines (concat ms)))))
+        → feedless u ≡ true
+        → Instead (ps ++ ((10 ∷ []) ∷ (qs ++ (u ∷ ms)))) ss
+        (concat ps ++ (10 ∷ without_blank_lines (onto (concat qs) (piece_lines (u ++ concat ms)))))
+    more i free =
+        instead_as _ _ ss _ _ (ap (λ z. ps ++ ((10 ∷ []) ∷ z)) (append_assoc qs (u ∷ []) ms))
+        (ap (λ z. concat ps ++ (10 ∷ without_blank_lines z))
+        (ap (λ z. onto z (piece_lines (concat ms))) (concat-append qs (u ∷ []) ∙ ap (λ z.
+        concat qs ++ z) (append-nil u)) ∙ (sym (onto_onto (concat qs) u (piece_lines (concat ms)))
+        ∙ ap (onto (concat qs)) (sym (lines_onto u (concat ms) free))))) i
 
     at_feed : u ≡ 10 ∷ [] → (t : Bool) → is_blank_line (concat qs ++ (10 ∷ [])) ≡ t
-        → (Parted ((ps ++ ((10 ∷ []) ∷ ms)) ++ ss) → Instead (ps ++ ((10 ∷ []) ∷ ms)) ss (concat ps ++ (10 ∷ without_blank_lines (onto [] (piece_lines (concat ms))))))
-        → (lined false (ps ++ ((10 ∷ []) ∷ qs)) ≡ Some false → Parted (((ps ++ ((10 ∷ []) ∷ qs)) ++ ((10 ∷ []) ∷ ms)) ++ ss) → Instead ((ps ++ ((10 ∷ []) ∷ qs)) ++ ((10 ∷ []) ∷ ms)) ss (concat (ps ++ ((10 ∷ []) ∷ qs)) ++ (10 ∷ without_blank_lines (onto [] (piece_lines (concat ms))))))
-        → Instead (ps ++ ((10 ∷ []) ∷ (qs ++ (u ∷ ms)))) ss (concat ps ++ (10 ∷ without_blank_lines (onto (concat qs) (piece_lines (u ++ concat ms)))))
+        → (Parted ((ps ++ ((10 ∷ []) ∷ ms)) ++ ss) → Instead (ps ++ ((10 ∷ []) ∷ ms)) ss
+        (concat ps ++ (10 ∷ without_blank_lines (onto [] (piece_lines (concat ms))))))
+        → (lined false (ps ++ ((10 ∷ []) ∷ qs)) ≡ Some false
+        → Parted (((ps ++ ((10 ∷ []) ∷ qs)) ++ ((10 ∷ []) ∷ ms)) ++ ss)
+        → Instead ((ps ++ ((10 ∷ []) ∷ qs)) ++ ((10 ∷ []) ∷ ms)) ss (concat (ps ++ ((10 ∷ []) ∷ qs))
+        ++ (10 ∷ without_blank_lines (onto [] (piece_lines (concat ms))))))
+        → Instead (ps ++ ((10 ∷ []) ∷ (qs ++ (u ∷ ms)))) ss
+        (concat ps ++ (10 ∷ without_blank_lines (onto (concat qs) (piece_lines (u ++ concat ms)))))
     at_feed e true h gone stays =
         let p0 : Parted ((ps ++ ((10 ∷ []) ∷ (qs ++ ((10 ∷ []) ∷ ms)))) ++ ss) = rw e at p in
         let E = regroup ps qs ms ss in
-        let k = all_blank qs (10 ∷ []) b (and_parts (last_byte_or 32 (concat qs ++ (10 ∷ [])) == 10) (list_all is_whitespace (chars (concat qs ++ (10 ∷ [])))) h).1 in
+        let k = all_blank qs (10 ∷ []) b (and_parts (last_byte_or 32 (concat qs ++ (10 ∷ [])) == 10)
+        (list_all is_whitespace (chars (concat qs ++ (10 ∷ [])))) h).1 in
         let g = line_goes ps qs (ms ++ ss) (blanks_silent qs k) (subst (λ z. Parted z) E p0) in
         let i = gone (rw (append_assoc ps ((10 ∷ []) ∷ ms) ss) g.0) in
         rw e (record {
           units = i.units;
-          is = i.is ∙ ap (λ z. concat ps ++ (10 ∷ z)) (ap without_blank_lines (onto_nothing (concat ms)) ∙ sym (gone_line (concat qs ++ (10 ∷ [])) (piece_lines (concat ms)) h));
+          is = i.is
+              ∙ ap (λ z. concat ps ++ (10 ∷ z)) (ap without_blank_lines (onto_nothing (concat ms))
+              ∙ sym (gone_line (concat qs ++ (10 ∷ [])) (piece_lines (concat ms)) h));
           parted = i.parted;
-          list = i.list ∙ (ap listing (append_assoc ps ((10 ∷ []) ∷ ms) ss) ∙ (g.1 ∙ ap listing (sym E)));
-          thinned = thinned_twice (thinned_append (thinned_same ps) (unit_stays (10 ∷ []) (thinned_blanks (qs ++ ((10 ∷ []) ∷ [])) (blanks_join qs ((10 ∷ []) ∷ []) k (feed_blank, tt)) (thinned_same ms) (append_assoc qs ((10 ∷ []) ∷ []) ms)))) i.thinned;
+          list = i.list
+              ∙ (ap listing (append_assoc ps ((10 ∷ []) ∷ ms) ss) ∙ (g.1 ∙ ap listing (sym E)));
+          thinned =
+              thinned_twice (thinned_append (thinned_same ps) (unit_stays (10 ∷ []) (thinned_blanks
+              (qs ++ ((10 ∷ []) ∷ [])) (All-append IsBlank qs ((10 ∷ []) ∷ []) k (feed_blank, tt))
+              (thinned_same ms) (append_assoc qs ((10 ∷ []) ∷ []) ms)))) i.thinned;
           ended = i.ended;
           lined = i.lined;
         })
     at_feed e false h gone stays =
         let p0 : Parted ((ps ++ ((10 ∷ []) ∷ (qs ++ ((10 ∷ []) ∷ ms)))) ++ ss) = rw e at p in
         let E = append_assoc ps ((10 ∷ []) ∷ qs) ((10 ∷ []) ∷ ms) in
-        let n : lined true qs ≡ Some false = elim (line_kind qs b f) [ inr k ↦ k | inl k ↦ absurd (let m = blank_line qs k in cc) ] in
+        let n : lined true qs ≡ Some false =
+        elim (line_kind qs b f) [ inr k ↦ k | inl k ↦ absurd (let m = blank_line qs k in cc) ] in
         let i = stays (lined_feed ps qs w ∙ n) (subst (λ z. Parted (z ++ ss)) (sym E) p0) in
         rw e (record {
           units = i.units;
-          is = i.is ∙ (ap (λ z. concat (ps ++ ((10 ∷ []) ∷ qs)) ++ (10 ∷ without_blank_lines z)) (onto_nothing (concat ms)) ∙ (kept_text (concat ps) (concat qs) (without_blank_lines (piece_lines (concat ms))) (concat (ps ++ ((10 ∷ []) ∷ qs))) (concat_append ps ((10 ∷ []) ∷ qs)) ∙ ap (λ z. concat ps ++ (10 ∷ z)) (sym (kept_line (concat qs ++ (10 ∷ [])) (piece_lines (concat ms)) h))));
+          is = i.is ∙ (ap (λ z. concat (ps ++ ((10 ∷ []) ∷ qs)) ++ (10 ∷ without_blank_lines z))
+              (onto_nothing (concat ms)) ∙ (kept_text (concat ps) (concat qs)
+              (without_blank_lines (piece_lines (concat ms))) (concat (ps ++ ((10 ∷ []) ∷ qs)))
+              (concat-append ps ((10 ∷ []) ∷ qs)) ∙ ap (λ z. concat ps ++ (10 ∷ z))
+              (sym (kept_line (concat qs ++ (10 ∷ [])) (piece_lines (concat ms)) h))));
           parted = i.parted;
           list = i.list ∙ ap (λ z. listing (z ++ ss)) E;
           thinned = subst (λ z. Thinned z i.units) E i.thinned;
@@ -465,14 +553,30 @@ in_lines (u ∷ ms) ps qs ss a b f w p = elim a.0.feed [
         })
 
 -- in a line that stays
-pub in_line : (ms ps ss : List (List ℕ)) → AllPlain ms → lined false ps ≡ Some false → Parted ((ps ++ ms) ++ ss) → Instead (ps ++ ms) ss (concat ps ++ clean_piece (concat ms))
-in_line [] ps ss a w p = record { units = ps; is = sym (append-nil (concat ps)); parted = rw (append-nil ps) at p; list = ap (λ z. listing (z ++ ss)) (sym (append-nil ps)); thinned = rw (append-nil ps) (thinned_same ps); ended = false; lined = w }
+pub in_line : (ms ps ss : List (List ℕ)) → AllPlain ms → lined false ps ≡ Some false
+    → Parted ((ps ++ ms) ++ ss) → Instead (ps ++ ms) ss (concat ps ++ clean_piece (concat ms))
+in_line [] ps ss a w p = record {
+  units = ps;
+  is = sym (append-nil (concat ps));
+  parted = rw (append-nil ps) at p;
+  list = ap (λ z. listing (z ++ ss)) (sym (append-nil ps));
+  thinned = rw (append-nil ps) (thinned_same ps);
+  ended = false;
+  lined = w;
+}
 in_line (u ∷ ms) ps ss a w p = elim a.0.feed [
-  | inr free ↦ instead_as ((ps ++ (u ∷ [])) ++ ms) (ps ++ (u ∷ ms)) ss _ _ (append_assoc ps (u ∷ []) ms)
-      (rw (concat_append ps (u ∷ []), append-nil u) (append_assoc (concat ps) u (clean_piece (concat ms)) ∙ ap (λ z. concat ps ++ z) (sym (ap clean_lines (lines_onto u (concat ms) free) ∙ clean_onto u (piece_lines (concat ms))))))
-      (in_line ms (ps ++ (u ∷ [])) ss a.1 (lined_append ps (u ∷ []) false false w ∙ line_stays (u ∷ []) (a.0, tt) (rw (append-nil u) free)) (rw (append_assoc ps (u ∷ []) ms) p))
+  | inr free ↦
+      instead_as ((ps ++ (u ∷ [])) ++ ms) (ps ++ (u ∷ ms)) ss _ _ (append_assoc ps (u ∷ []) ms)
+      (rw (concat-append ps (u ∷ []), append-nil u)
+      (append_assoc (concat ps) u (clean_piece (concat ms)) ∙ ap (λ z. concat ps ++ z) (sym
+      (ap clean_lines (lines_onto u (concat ms) free) ∙ clean_onto u (piece_lines (concat ms))))))
+      (in_line ms (ps ++ (u ∷ [])) ss a.1 (lined_append ps (u ∷ []) false false w ∙ line_stays
+      (u ∷ []) (a.0, tt) (rw (append-nil u) free)) (rw (append_assoc ps (u ∷ []) ms) p))
   | inl e ↦ feed e (in_lines ms ps [] ss a.1 tt refl w (rw e at p))
 ]
   where
-    feed : u ≡ 10 ∷ [] → Instead (ps ++ ((10 ∷ []) ∷ ms)) ss (concat ps ++ (10 ∷ without_blank_lines (onto [] (piece_lines (concat ms))))) → Instead (ps ++ (u ∷ ms)) ss (concat ps ++ clean_piece (u ++ concat ms))
-    feed e i = rw e (instead_as (ps ++ ((10 ∷ []) ∷ ms)) (ps ++ ((10 ∷ []) ∷ ms)) ss _ _ refl (ap (λ z. concat ps ++ (10 ∷ without_blank_lines z)) (onto_nothing (concat ms))) i)
+    feed : u ≡ 10 ∷ [] → Instead (ps ++ ((10 ∷ []) ∷ ms)) ss (concat ps
+        ++ (10 ∷ without_blank_lines (onto [] (piece_lines (concat ms)))))
+        → Instead (ps ++ (u ∷ ms)) ss (concat ps ++ clean_piece (u ++ concat ms))
+    feed e i = rw e (instead_as (ps ++ ((10 ∷ []) ∷ ms)) (ps ++ ((10 ∷ []) ∷ ms)) ss _ _ refl
+        (ap (λ z. concat ps ++ (10 ∷ without_blank_lines z)) (onto_nothing (concat ms))) i)

@@ -26,11 +26,15 @@ front_blank p (bare q) = bare (blanks_append p q)
 front_blank {a} p (led {b} {g} q r) = rw (← append_assoc a b (10 ∷ g)) (led (blanks_append p q) r)
 
 -- blanks may come first
-pub spelled_blank : {c d x : ℕ} {a s : List ℕ} {ts : List Decorated} → Blanks (x ∷ a) → Spelled c ts s → Spelled d ts ((x ∷ a) ++ s)
+pub spelled_blank : {c d x : ℕ} {a s : List ℕ} {ts : List Decorated} → Blanks (x ∷ a)
+    → Spelled c ts s → Spelled d ts ((x ∷ a) ++ s)
 spelled_blank p (the_end q) = the_end (blanks_append p q)
-spelled_blank {x = x} {a = a} p (a_token {g = g} {s = s} t f n r) = rw (← append_assoc (x ∷ a) g (token_value t.text ++ (back t.trailing ++ s))) (a_token t (front_blank p f) (blank_apart (first_or 32 (token_value t.text))) r)
+spelled_blank {x = x} {a = a} p (a_token {g = g} {s = s} t f n r) =
+    rw (← append_assoc (x ∷ a) g (token_value t.text ++ (back t.trailing ++ s)))
+    (a_token t (front_blank p f) (blank_apart (first_or 32 (token_value t.text))) r)
 
-pub spelled_spaces : (n : ℕ) {s : List ℕ} {ts : List Decorated} → Spelled 32 ts s → Spelled 32 ts (replicate n 32 ++ s)
+pub spelled_spaces : (n : ℕ) {s : List ℕ} {ts : List Decorated} → Spelled 32 ts s
+    → Spelled 32 ts (replicate n 32 ++ s)
 spelled_spaces zero p = p
 spelled_spaces (suc n) p = spelled_blank (spaces (suc n)) p
 
@@ -42,25 +46,66 @@ pub record Split (xs ys : List Atom) (s : List ℕ) : Type 0 where
   pub prints_first : Prints xs first
   pub prints_second : Prints ys second
 
-pub prints_split : (xs : List Atom) {ys : List Atom} {s : List ℕ} → Prints (xs ++ ys) s → Split xs ys s
-prints_split [] {s = s} p = record { first = []; second = s; is = refl; prints_first = p_nil; prints_second = p }
-prints_split (word w ∷ xs) (p_word p) = let q = prints_split xs p in record { first = w ++ q.first; second = q.second; is = ap (λ r. w ++ r) q.is ∙ sym (append_assoc w q.first q.second); prints_first = p_word q.prints_first; prints_second = q.prints_second }
-prints_split (space_or_break ∷ xs) (p_line p) = let q = prints_split xs p in record { first = 32 ∷ q.first; second = q.second; is = ap (λ r. 32 ∷ r) q.is; prints_first = p_line q.prints_first; prints_second = q.prints_second }
-prints_split (space_or_break ∷ xs) (p_line_break n p) = let q = prints_split xs p in record { first = break n ++ q.first; second = q.second; is = ap (λ r. break n ++ r) q.is ∙ sym (append_assoc (break n) q.first q.second); prints_first = p_line_break n q.prints_first; prints_second = q.prints_second }
-prints_split (nothing_or_break ∷ xs) (p_nothing p) = let q = prints_split xs p in record { first = q.first; second = q.second; is = q.is; prints_first = p_nothing q.prints_first; prints_second = q.prints_second }
-prints_split (nothing_or_break ∷ xs) (p_nil_break n p) = let q = prints_split xs p in record { first = break n ++ q.first; second = q.second; is = ap (λ r. break n ++ r) q.is ∙ sym (append_assoc (break n) q.first q.second); prints_first = p_nil_break n q.prints_first; prints_second = q.prints_second }
-prints_split (must_break ∷ xs) (p_hard n p) = let q = prints_split xs p in record { first = break n ++ q.first; second = q.second; is = ap (λ r. break n ++ r) q.is ∙ sym (append_assoc (break n) q.first q.second); prints_first = p_hard n q.prints_first; prints_second = q.prints_second }
+pub prints_split : (xs : List Atom) {ys : List Atom} {s : List ℕ} → Prints (xs ++ ys) s
+    → Split xs ys s
+prints_split [] {s = s} p =
+    record { first = []; second = s; is = refl; prints_first = p_nil; prints_second = p }
+prints_split (word w ∷ xs) (p_word p) = let q = prints_split xs p in record {
+  first = w ++ q.first;
+  second = q.second;
+  is = ap (λ r. w ++ r) q.is ∙ sym (append_assoc w q.first q.second);
+  prints_first = p_word q.prints_first;
+  prints_second = q.prints_second;
+}
+prints_split (space_or_break ∷ xs) (p_line p) = let q = prints_split xs p in record {
+  first = 32 ∷ q.first;
+  second = q.second;
+  is = ap (λ r. 32 ∷ r) q.is;
+  prints_first = p_line q.prints_first;
+  prints_second = q.prints_second;
+}
+prints_split (space_or_break ∷ xs) (p_line_break n p) = let q = prints_split xs p in record {
+  first = break n ++ q.first;
+  second = q.second;
+  is = ap (λ r. break n ++ r) q.is ∙ sym (append_assoc (break n) q.first q.second);
+  prints_first = p_line_break n q.prints_first;
+  prints_second = q.prints_second;
+}
+prints_split (nothing_or_break ∷ xs) (p_nothing p) = let q = prints_split xs p in record {
+  first = q.first;
+  second = q.second;
+  is = q.is;
+  prints_first = p_nothing q.prints_first;
+  prints_second = q.prints_second;
+}
+prints_split (nothing_or_break ∷ xs) (p_nil_break n p) = let q = prints_split xs p in record {
+  first = break n ++ q.first;
+  second = q.second;
+  is = ap (λ r. break n ++ r) q.is ∙ sym (append_assoc (break n) q.first q.second);
+  prints_first = p_nil_break n q.prints_first;
+  prints_second = q.prints_second;
+}
+prints_split (must_break ∷ xs) (p_hard n p) = let q = prints_split xs p in record {
+  first = break n ++ q.first;
+  second = q.second;
+  is = ap (λ r. break n ++ r) q.is ∙ sym (append_assoc (break n) q.first q.second);
+  prints_first = p_hard n q.prints_first;
+  prints_second = q.prints_second;
+}
 
 -- the text of a token's leading lines, with the spaces n before the first
-lines_print : (n : ℕ) (ls : List (List ℕ)) (s : List ℕ) → Prints (line_atoms ls) s → Lines ls (replicate n 32 ++ s)
+lines_print : (n : ℕ) (ls : List (List ℕ)) (s : List ℕ) → Prints (line_atoms ls) s
+    → Lines ls (replicate n 32 ++ s)
 lines_print n [] s p_nil = no_line (blanks_append (spaces n) no_blank)
-lines_print n (l ∷ ls) s (p_word (p_hard {s = t} m p)) = a_comment l (spaces n) (lines_print m ls t p)
+lines_print n (l ∷ ls) s (p_word (p_hard {s = t} m p)) =
+    a_comment l (spaces n) (lines_print m ls t p)
 
 front_print : (ls : List (List ℕ)) (s : List ℕ) → Prints (lead_atoms ls) s → Front ls s
 front_print [] s p_nil = bare no_blank
 front_print (l ∷ ls) s (p_hard {s = t} n p) = led no_blank (lines_print n (l ∷ ls) t p)
 
-front_apart : (c d : ℕ) (ls : List (List ℕ)) (g : List ℕ) → Prints (lead_atoms ls) g → glues (before_of c ls) d ≡ false → glues (front_end c g) d ≡ false
+front_apart : (c d : ℕ) (ls : List (List ℕ)) (g : List ℕ) → Prints (lead_atoms ls) g
+    → glues (before_of c ls) d ≡ false → glues (front_end c g) d ≡ false
 front_apart c d [] g p_nil e = e
 front_apart c d (l ∷ ls) g (p_hard n p) e = blank_apart d
 
@@ -69,7 +114,9 @@ record RightAfter (w tr : List ℕ) (ts : List Decorated) (r : List ℕ) : Type 
   is : r ≡ back tr ++ rest
   spells : Spelled (after_of w tr) ts rest
 
-trail_print : (w tr : List ℕ) {ts : List Decorated} {xs : List Atom} {r : List ℕ} → ((s : List ℕ) → Prints xs s → Spelled (after_of w tr) ts s) → Prints (trail_atoms tr ++ xs) r → RightAfter w tr ts r
+trail_print : (w tr : List ℕ) {ts : List Decorated} {xs : List Atom} {r : List ℕ}
+    → ((s : List ℕ) → Prints xs s → Spelled (after_of w tr) ts s) → Prints (trail_atoms tr ++ xs) r
+    → RightAfter w tr ts r
 trail_print w [] {r = r} f p = record { rest = r; is = refl; spells = f r p }
 trail_print w (c ∷ cs) f (p_word (p_word (p_hard {s = s} n p))) =
     record {
@@ -86,16 +133,23 @@ record Word (w : List ℕ) (xs : List Atom) (r : List ℕ) : Type 0 where
 word_print : {w : List ℕ} {xs : List Atom} {r : List ℕ} → Prints (word w ∷ xs) r → Word w xs r
 word_print (p_word {s = s} p) = record { rest = s; is = refl; prints = p }
 
-token_print : (c : ℕ) (t : Decorated) (ts : List Decorated) (xs : List Atom) (s : List ℕ) → glues (before_of c t.leading) (first_or 32 (token_value t.text)) ≡ false → ((s : List ℕ) → Prints xs s → Spelled (after_of (token_value t.text) t.trailing) ts s) → Prints (lead_atoms t.leading ++ (word (token_value t.text) ∷ (trail_atoms t.trailing ++ xs))) s → Spelled c (t ∷ ts) s
+token_print : (c : ℕ) (t : Decorated) (ts : List Decorated) (xs : List Atom) (s : List ℕ)
+    → glues (before_of c t.leading) (first_or 32 (token_value t.text)) ≡ false
+    → ((s : List ℕ) → Prints xs s → Spelled (after_of (token_value t.text) t.trailing) ts s)
+    → Prints (lead_atoms t.leading
+    ++ (word (token_value t.text) ∷ (trail_atoms t.trailing ++ xs))) s → Spelled c (t ∷ ts) s
 token_print c t ts xs s apart f p =
     let q = prints_split (lead_atoms t.leading) p in
     let w = word_print q.prints_second in
     let b = trail_print (token_value t.text) t.trailing f w.prints in
-    let e : s ≡ q.first ++ (token_value t.text ++ (back t.trailing ++ b.rest)) = q.is ∙ ap (λ r. q.first ++ r) (w.is ∙ ap (λ r. token_value t.text ++ r) b.is) in
-    rw e (a_token t (front_print t.leading q.first q.prints_first) (front_apart c (first_or 32 (token_value t.text)) t.leading q.first q.prints_first apart) b.spells)
+    let e : s ≡ q.first ++ (token_value t.text ++ (back t.trailing ++ b.rest)) =
+    q.is ∙ ap (λ r. q.first ++ r) (w.is ∙ ap (λ r. token_value t.text ++ r) b.is) in
+    rw e (a_token t (front_print t.leading q.first q.prints_first) (front_apart c
+    (first_or 32 (token_value t.text)) t.leading q.first q.prints_first apart) b.spells)
 
 -- Under every choice of groups, a woven document's text meets the law of gaps.
-pub spelled : {c d : ℕ} {ts : List Decorated} {xs : List Atom} {s : List ℕ} → Weave c ts xs d → Prints xs s → Spelled c ts s
+pub spelled : {c d : ℕ} {ts : List Decorated} {xs : List Atom} {s : List ℕ} → Weave c ts xs d
+    → Prints xs s → Spelled c ts s
 spelled done p_nil = the_end no_blank
 spelled (w_space w) (p_word p) = spelled_blank (a_space no_blank) (spelled w p)
 spelled (w_line w) (p_line p) = spelled_blank (a_space no_blank) (spelled w p)
@@ -103,10 +157,12 @@ spelled (w_line w) (p_line_break n p) = spelled_blank (breaks n) (spelled w p)
 spelled (w_line_or_nil w) (p_nothing p) = spelled w p
 spelled (w_line_or_nil w) (p_nil_break n p) = spelled_blank (breaks n) (spelled w p)
 spelled (w_hard w) (p_hard n p) = spelled_blank (breaks n) (spelled w p)
-spelled (w_token {c = c} {ts = ts} {xs = xs} t apart w) p = token_print c t ts xs _ apart (λ s q. spelled w q) p
+spelled (w_token {c = c} {ts = ts} {xs = xs} t apart w) p =
+    token_print c t ts xs _ apart (λ s q. spelled w q) p
 
 -- what is made from the atoms prints them
-pub made_prints : (ps : List Piece) (xs : List Atom) → AreMadeOf ps xs → Prints xs (flat_map print ps)
+pub made_prints : (ps : List Piece) (xs : List Atom) → AreMadeOf ps xs
+    → Prints xs (flat_map print ps)
 made_prints [] [] h = p_nil
 made_prints [] (x ∷ xs) h = absurd h
 made_prints (p ∷ ps) [] h = absurd h

@@ -26,4 +26,9 @@ trailing_x = record {
 
 good_x : IsGood (record { text = codes "("; leading = codes "// x" ∷ []; trailing = codes "// x" })
 unfolding slots punctuators chars is_utf8 encode_utf8
-good_x = record { token = refl; utf8 = IsUtf8-from_is_utf8 (codes "(") refl; leading = (line_x, tt); trailing = trailing_x }
+good_x = record {
+  token = refl;
+  utf8 = IsUtf8-from_is_utf8 (codes "(") refl;
+  leading = (line_x, tt);
+  trailing = trailing_x;
+}

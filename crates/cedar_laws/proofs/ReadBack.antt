@@ -9,6 +9,8 @@ use Rattle.cedar_tokens.specs.Listing.{Decorated, IsListing, gaps, decorate, lis
 use Rattle.cedar_tokens.specs.Inside.Newlines.{before_newline, after_newline}
 use Rattle.cedar_tokens.proofs.CommentLines.{comments_nil, comments_skip}
 use Rattle.cedar_tokens.proofs.Heads.{no_empty_token}
+use Rattle.cedar_tokens.proofs.UnitsSoFar.{scans_concat}
+use Rattle.cedar_tokens.proofs.Lists.{All-append}
 use Rattle.cedar_laws.specs.Neighbours.{glues, first_or}
 use Rattle.cedar_layout.specs.Cleaning.{last_byte_or}
 use Rattle.cedar_laws.specs.Fit.{after_of}
@@ -19,8 +21,8 @@ use Rattle.cedar_laws.proofs.Units.{token_first, comment_first, blank_first, spa
 use Rattle.cedar_laws.specs.CleaningLaws.{is_solid}
 use Rattle.cedar_laws.proofs.BlankLines.{token_solid, comment_solid, blank_not_solid, feed_not_solid}
 use Rattle.cedar_laws.proofs.CleanedLists.{nothing_left}
-use Rattle.cedar_laws.proofs.Listed.{trim_nil, comment_alone, feed_no_token, all_append, comment_no_token, gaps_skip, decorate_same, value_token, one_token}
-use Rattle.cedar_laws.proofs.Scanned.{scans_unit, scans_append, scans_concat, scans_before_feed}
+use Rattle.cedar_laws.proofs.Listed.{trim_nil, comment_alone, feed_no_token, comment_no_token, gaps_skip, decorate_same, value_token, one_token}
+use Rattle.cedar_laws.proofs.Scanned.{scans_unit, scans_append, scans_before_feed}
 use Rattle.cedar_laws.proofs.Joined.{before_cons, after_cons, before_join, comments_join, comments_after_join}
 
 -- ---- blanks, lines and comments
@@ -44,7 +46,8 @@ no_comments {b} p = ap comments (sym (append-nil b)) ∙ (comments_blanks [] p �
 
 before_blanks : {b : List ℕ} → Blanks b → trim (before_newline b) ≡ []
 before_blanks no_blank = trim_nil
-before_blanks (a_space {s} p) = rw (before_cons 32 s) (trim_space (before_newline s) ∙ before_blanks p)
+before_blanks (a_space {s} p) =
+    rw (before_cons 32 s) (trim_space (before_newline s) ∙ before_blanks p)
 before_blanks (a_feed {s} p) = rw (before_cons 10 s) trim_nil
 
 after_blanks : {b : List ℕ} (x : List ℕ) → Blanks b → comments (after_newline b) ≡ []
@@ -55,23 +58,29 @@ after_blanks x (a_feed {s} p) = rw (after_cons 10 s) (no_comments p)
 pub line_alone : (l : List ℕ) → IsLine l → comments l ≡ l ∷ []
 line_alone l h = comment_alone l h.comment ∙ ap (λ z. z ∷ []) h.trimmed
 
-pub lines_comments : {ls : List (List ℕ)} {g : List ℕ} → Lines ls g → AllByRecursion IsLine ls → comments g ≡ ls
+pub lines_comments : {ls : List (List ℕ)} {g : List ℕ} → Lines ls g → AllByRecursion IsLine ls
+    → comments g ≡ ls
 lines_comments (no_line p) a = no_comments p
 lines_comments (a_comment {g = g} {ls = ls} l p q) a =
-    comments_blanks (l ++ (10 ∷ g)) p ∙ (comments_join l g ∙ rw (line_alone l a.0, lines_comments q a.1) refl)
+    comments_blanks (l ++ (10 ∷ g)) p
+    ∙ (comments_join l g ∙ rw (line_alone l a.0, lines_comments q a.1) refl)
 
 -- what the text before a token says
-pub front_comments : {ls : List (List ℕ)} {g : List ℕ} → Front ls g → AllByRecursion IsLine ls → comments g ≡ ls
+pub front_comments : {ls : List (List ℕ)} {g : List ℕ} → Front ls g → AllByRecursion IsLine ls
+    → comments g ≡ ls
 front_comments (bare p) a = no_comments p
-front_comments (led {b} {g} p q) a = comments_blanks (10 ∷ g) p ∙ (comments_skip 10 g refl ∙ lines_comments q a)
+front_comments (led {b} {g} p q) a =
+    comments_blanks (10 ∷ g) p ∙ (comments_skip 10 g refl ∙ lines_comments q a)
 
 front_before : {ls : List (List ℕ)} {g : List ℕ} → Front ls g → trim (before_newline g) ≡ []
 front_before (bare p) = before_blanks p
 front_before (led {b} {g} p q) = rw (before_join b g) (before_blanks p)
 
-front_after : {ls : List (List ℕ)} {g : List ℕ} → Front ls g → AllByRecursion IsLine ls → comments (after_newline g) ≡ ls
+front_after : {ls : List (List ℕ)} {g : List ℕ} → Front ls g → AllByRecursion IsLine ls
+    → comments (after_newline g) ≡ ls
 front_after (bare p) a = after_blanks [] p
-front_after (led {b} {g} p q) a = comments_after_join b g ∙ rw (after_blanks [] p, lines_comments q a) refl
+front_after (led {b} {g} p q) a =
+    comments_after_join b g ∙ rw (after_blanks [] p, lines_comments q a) refl
 
 -- ---- scans of gaps
 
@@ -90,15 +99,28 @@ gap_append : (g h : List ℕ) {x y : List (List ℕ)} → Gap g x → Gap h y �
 gap_append g h p q = record {
   units = p.units ++ q.units;
   solid = filter-append is_solid p.units q.units ∙ rw (p.solid, q.solid) refl;
-  scan = λ r. rw (append_assoc g h r) (scans_append p.units q.units (g ++ (h ++ r)) (h ++ r) r (p.scan (h ++ r)) (q.scan r));
-  no_token = all_append p.units q.units p.no_token q.no_token;
+  scan = λ r. rw (append_assoc g h r)
+      (scans_append p.units q.units (g ++ (h ++ r)) (h ++ r) r (p.scan (h ++ r)) (q.scan r));
+  no_token = All-append (λ u. is_token u ≡ false) p.units q.units p.no_token q.no_token;
 }
 
 gap_space : (g : List ℕ) {x : List (List ℕ)} → Gap g x → Gap (32 ∷ g) x
-gap_space g p = record { solid = rw (blank_not_solid (32 ∷ []) space_blank) p.solid; units = (32 ∷ []) ∷ p.units; scan = λ r. scans_unit (32 ∷ []) p.units (g ++ r) r (blank_first (32 ∷ []) (g ++ r) space_blank) (p.scan r); no_token = (space_no_token, p.no_token) }
+gap_space g p = record {
+  solid = rw (blank_not_solid (32 ∷ []) space_blank) p.solid;
+  units = (32 ∷ []) ∷ p.units;
+  scan = λ r. scans_unit (32 ∷ []) p.units (g ++ r) r (blank_first (32 ∷ []) (g ++ r) space_blank)
+      (p.scan r);
+  no_token = (space_no_token, p.no_token);
+}
 
 gap_feed : (g : List ℕ) {x : List (List ℕ)} → Gap g x → Gap (10 ∷ g) x
-gap_feed g p = record { solid = rw feed_not_solid p.solid; units = (10 ∷ []) ∷ p.units; scan = λ r. scans_unit (10 ∷ []) p.units (g ++ r) r (blank_first (10 ∷ []) (g ++ r) feed_blank) (p.scan r); no_token = (feed_no_token, p.no_token) }
+gap_feed g p = record {
+  solid = rw feed_not_solid p.solid;
+  units = (10 ∷ []) ∷ p.units;
+  scan = λ r. scans_unit (10 ∷ []) p.units (g ++ r) r (blank_first (10 ∷ []) (g ++ r) feed_blank)
+      (p.scan r);
+  no_token = (feed_no_token, p.no_token);
+}
 
 gap_nil : Gap [] []
 gap_nil = record { solid = refl; units = []; scan = λ r. refl; no_token = tt }
@@ -108,17 +130,21 @@ gap_blanks no_blank = gap_nil
 gap_blanks (a_space {s} p) = gap_space s (gap_blanks p)
 gap_blanks (a_feed {s} p) = gap_feed s (gap_blanks p)
 
-gap_line : (l g : List ℕ) {x : List (List ℕ)} → is_comment l ≡ true → Gap g x → Gap (l ++ (10 ∷ g)) (l ∷ x)
+gap_line : (l g : List ℕ) {x : List (List ℕ)} → is_comment l ≡ true → Gap g x
+    → Gap (l ++ (10 ∷ g)) (l ∷ x)
 gap_line l g h p = record {
   solid = rw (comment_solid l h, feed_not_solid, p.solid) refl;
   units = l ∷ ((10 ∷ []) ∷ p.units);
-  scan = λ r. rw (append_assoc l (10 ∷ g) r) (scans_unit l ((10 ∷ []) ∷ p.units) (10 ∷ (g ++ r)) r (comment_first l (10 ∷ (g ++ r)) h refl) (scans_unit (10 ∷ []) p.units (g ++ r) r (blank_first (10 ∷ []) (g ++ r) feed_blank) (p.scan r)));
+  scan = λ r. rw (append_assoc l (10 ∷ g) r) (scans_unit l ((10 ∷ []) ∷ p.units) (10 ∷ (g ++ r)) r
+      (comment_first l (10 ∷ (g ++ r)) h refl) (scans_unit (10 ∷ []) p.units (g ++ r) r
+      (blank_first (10 ∷ []) (g ++ r) feed_blank) (p.scan r)));
   no_token = (comment_no_token l h, (feed_no_token, p.no_token));
 }
 
 gap_lines : {ls : List (List ℕ)} {g : List ℕ} → Lines ls g → AllByRecursion IsLine ls → Gap g ls
 gap_lines (no_line p) a = gap_blanks p
-gap_lines (a_comment {b} {g} l p q) a = gap_append b (l ++ (10 ∷ g)) (gap_blanks p) (gap_line l g a.0.comment (gap_lines q a.1))
+gap_lines (a_comment {b} {g} l p q) a =
+    gap_append b (l ++ (10 ∷ g)) (gap_blanks p) (gap_line l g a.0.comment (gap_lines q a.1))
 
 pub gap_front : {ls : List (List ℕ)} {g : List ℕ} → Front ls g → AllByRecursion IsLine ls → Gap g ls
 gap_front (bare p) a = gap_blanks p
@@ -127,18 +153,29 @@ gap_front (led {b} {g} p q) a = gap_append b (10 ∷ g) (gap_blanks p) (gap_feed
 gap_back : (tr : List ℕ) (h : IsTrailing tr) → Gap (back tr) (filter is_solid h.units)
 gap_back [] h = rw (nothing_left h.units h.split) gap_nil
 gap_back (c ∷ cs) h = record {
-  solid = rw (blank_not_solid (32 ∷ []) space_blank) (filter-append is_solid h.units ((10 ∷ []) ∷ []) ∙ rw feed_not_solid (append-nil (filter is_solid h.units)));
+  solid = rw (blank_not_solid (32 ∷ []) space_blank) (filter-append is_solid h.units
+      ((10 ∷ []) ∷ []) ∙ rw feed_not_solid (append-nil (filter is_solid h.units)));
   units = (32 ∷ []) ∷ (h.units ++ ((10 ∷ []) ∷ []));
-  scan = λ r. rw (append_assoc (c ∷ cs) (10 ∷ []) r) (scans_unit (32 ∷ []) (h.units ++ ((10 ∷ []) ∷ [])) ((c ∷ cs) ++ (10 ∷ r)) r (blank_first (32 ∷ []) ((c ∷ cs) ++ (10 ∷ r)) space_blank)
-      (scans_append h.units ((10 ∷ []) ∷ []) ((c ∷ cs) ++ (10 ∷ r)) (10 ∷ r) r (scans_before_feed h.units (c ∷ cs) r h.split) (scans_unit (10 ∷ []) [] r r (blank_first (10 ∷ []) r feed_blank) refl)));
-  no_token = (space_no_token, all_append h.units ((10 ∷ []) ∷ []) h.no_token (feed_no_token, tt));
+  scan = λ r.
+      rw (append_assoc (c ∷ cs) (10 ∷ []) r) (scans_unit (32 ∷ []) (h.units ++ ((10 ∷ []) ∷ []))
+      ((c ∷ cs) ++ (10 ∷ r)) r (blank_first (32 ∷ []) ((c ∷ cs) ++ (10 ∷ r)) space_blank)
+      (scans_append h.units ((10 ∷ []) ∷ []) ((c ∷ cs) ++ (10 ∷ r)) (10 ∷ r) r
+      (scans_before_feed h.units (c ∷ cs) r h.split)
+      (scans_unit (10 ∷ []) [] r r (blank_first (10 ∷ []) r feed_blank) refl)));
+  no_token = (
+    space_no_token,
+    All-append (λ u. is_token u ≡ false) h.units ((10 ∷ []) ∷ []) h.no_token (feed_no_token, tt),
+  );
 }
 
 gap_is : (g : List ℕ) {x : List (List ℕ)} (p : Gap g x) → concat p.units ≡ g
-gap_is g p = sym (append-nil (concat p.units)) ∙ (sym (scans_concat p.units (g ++ []) [] (p.scan [])) ∙ append-nil g)
+gap_is g p = sym (append-nil (concat p.units))
+    ∙ (sym (scans_concat p.units (g ++ []) [] (p.scan [])) ∙ append-nil g)
 
-gaps_gap : (g : List ℕ) {x : List (List ℕ)} (p : Gap g x) (vs : List (List ℕ)) → gaps (p.units ++ vs) ≡ record { first = g ++ (gaps vs).first; tokens = (gaps vs).tokens }
-gaps_gap g p vs = gaps_skip p.units vs p.no_token ∙ ap (λ z. record { first = z ++ (gaps vs).first; tokens = (gaps vs).tokens }) (gap_is g p)
+gaps_gap : (g : List ℕ) {x : List (List ℕ)} (p : Gap g x) (vs : List (List ℕ))
+    → gaps (p.units ++ vs) ≡ record { first = g ++ (gaps vs).first; tokens = (gaps vs).tokens }
+gaps_gap g p vs = gaps_skip p.units vs p.no_token
+    ∙ ap (λ z. record { first = z ++ (gaps vs).first; tokens = (gaps vs).tokens }) (gap_is g p)
 
 -- ---- the value of a token is a token
 
@@ -147,7 +184,8 @@ gaps_gap g p vs = gaps_skip p.units vs p.no_token ∙ ap (λ z. record { first =
 -- the tokens of a policy and its comments, in order
 abbrev pub solids : (ts : List Decorated) → AllByRecursion IsGood ts → List (List ℕ)
 solids [] a = []
-solids (t ∷ ts) a = t.leading ++ (token_value t.text ∷ (filter is_solid a.0.trailing.units ++ solids ts a.1))
+solids (t ∷ ts) a =
+    t.leading ++ (token_value t.text ∷ (filter is_solid a.0.trailing.units ++ solids ts a.1))
 
 -- the decorated list of s is that of ts, and the text before its first token has no trailing part
 pub record Reading (ts : List Decorated) (s : List ℕ) (said : List (List ℕ)) : Type 0 where
@@ -159,31 +197,40 @@ pub record Reading (ts : List Decorated) (s : List ℕ) (said : List (List ℕ))
   pub value : listing units ≡ record { tokens = map with_value ts; closing = [] }
 
 -- what follows a token's text
-back_before : (tr f : List ℕ) → IsTrailing tr → trim (before_newline f) ≡ [] → trim (before_newline (back tr ++ f)) ≡ tr
+back_before : (tr f : List ℕ) → IsTrailing tr → trim (before_newline f) ≡ []
+    → trim (before_newline (back tr ++ f)) ≡ tr
 back_before [] f h e = e
 back_before (c ∷ cs) f h e =
-    let g : before_newline (32 ∷ (((c ∷ cs) ++ (10 ∷ [])) ++ f)) ≡ 32 ∷ before_newline (c ∷ cs) = before_cons 32 (((c ∷ cs) ++ (10 ∷ [])) ++ f) ∙ ap (λ z. 32 ∷ z) (ap before_newline (append_assoc (c ∷ cs) (10 ∷ []) f) ∙ before_join (c ∷ cs) f) in
+    let g : before_newline (32 ∷ (((c ∷ cs) ++ (10 ∷ [])) ++ f)) ≡ 32 ∷ before_newline (c ∷ cs) =
+    before_cons 32 (((c ∷ cs) ++ (10 ∷ [])) ++ f) ∙ ap (λ z. 32 ∷ z)
+    (ap before_newline (append_assoc (c ∷ cs) (10 ∷ []) f) ∙ before_join (c ∷ cs) f) in
     ap trim (g ∙ ap (λ z. 32 ∷ z) h.one_line) ∙ (trim_space (c ∷ cs) ∙ h.trimmed)
 
 after_all : (g : List ℕ) → before_newline g ≡ g → after_newline g ≡ []
 after_all [] e = refl
 after_all (b ∷ g) e = rw (after_cons b g) (go (b == 10) (rw (before_cons b g) at e) (after_all g))
   where
-    go : (t : Bool) → cond t [] (b ∷ before_newline g) ≡ b ∷ g → (before_newline g ≡ g → after_newline g ≡ []) → cond t g (after_newline g) ≡ []
+    go : (t : Bool) → cond t [] (b ∷ before_newline g) ≡ b ∷ g
+        → (before_newline g ≡ g → after_newline g ≡ []) → cond t g (after_newline g) ≡ []
     go true e ih = absurd cc
     go false e ih = ih (let f : b ∷ before_newline g ≡ b ∷ g = e in cc)
 
-back_after : (tr f : List ℕ) → IsTrailing tr → comments (after_newline f) ≡ comments f → comments (after_newline (back tr ++ f)) ≡ comments f
+back_after : (tr f : List ℕ) → IsTrailing tr → comments (after_newline f) ≡ comments f
+    → comments (after_newline (back tr ++ f)) ≡ comments f
 back_after [] f h e = e
 back_after (c ∷ cs) f h e =
-    let g : after_newline (32 ∷ (((c ∷ cs) ++ (10 ∷ [])) ++ f)) ≡ after_newline ((c ∷ cs) ++ (10 ∷ f)) = after_cons 32 (((c ∷ cs) ++ (10 ∷ [])) ++ f) ∙ ap after_newline (append_assoc (c ∷ cs) (10 ∷ []) f) in
-    ap comments g ∙ (comments_after_join (c ∷ cs) f ∙ ap (λ z. z ++ comments f) (ap comments (after_all (c ∷ cs) h.one_line) ∙ comments_nil))
+    let g : after_newline (32 ∷ (((c ∷ cs) ++ (10 ∷ [])) ++ f))
+    ≡ after_newline ((c ∷ cs) ++ (10 ∷ f)) = after_cons 32 (((c ∷ cs) ++ (10 ∷ [])) ++ f)
+    ∙ ap after_newline (append_assoc (c ∷ cs) (10 ∷ []) f) in
+    ap comments g ∙ (comments_after_join (c ∷ cs) f
+    ∙ ap (λ z. z ++ comments f) (ap comments (after_all (c ∷ cs) h.one_line) ∙ comments_nil))
 
 reading_end : {b : List ℕ} → Blanks b → Reading [] b []
 unfolding listing decorate gaps
 reading_end {b} p =
     let g = gap_blanks p in
-    let e : gaps g.units ≡ record { first = b ++ []; tokens = [] } = ends g.units (gaps_gap b g []) in
+    let e : gaps g.units ≡ record { first = b ++ []; tokens = [] } =
+    ends g.units (gaps_gap b g []) in
     record {
       units = g.units;
       solid = g.solid;
@@ -193,7 +240,9 @@ reading_end {b} p =
       value = rw (e, append-nil b) (ap (λ z. record { tokens = []; closing = z }) (no_comments p));
     }
   where
-    ends : (us : List (List ℕ)) → gaps (us ++ []) ≡ record { first = b ++ (gaps []).first; tokens = (gaps []).tokens } → gaps us ≡ record { first = b ++ []; tokens = [] }
+    ends : (us : List (List ℕ))
+        → gaps (us ++ []) ≡ record { first = b ++ (gaps []).first; tokens = (gaps []).tokens }
+        → gaps us ≡ record { first = b ++ []; tokens = [] }
     ends us e = ap gaps (sym (append-nil us)) ∙ e
 
     ends_scan : (us : List (List ℕ)) → Scans us (b ++ []) [] → SplitsInto b us
@@ -205,7 +254,8 @@ apart_blanks c no_blank = tt
 apart_blanks c (a_space p) = refl
 apart_blanks c (a_feed p) = refl
 
-front_cases : (c : ℕ) {ls : List (List ℕ)} {g : List ℕ} → Front ls g → (g ≡ []) ⊎ ((x : List ℕ) → Apart c (g ++ x))
+front_cases : (c : ℕ) {ls : List (List ℕ)} {g : List ℕ} → Front ls g
+    → (g ≡ []) ⊎ ((x : List ℕ) → Apart c (g ++ x))
 front_cases c (bare no_blank) = inl refl
 front_cases c (bare (a_space p)) = inr (λ x. refl)
 front_cases c (bare (a_feed p)) = inr (λ x. refl)
@@ -217,10 +267,12 @@ apart_text : (c : ℕ) (w r : List ℕ) → IsToken w → glues c (first_or 32 w
 apart_text c [] r h n = absurd (no_empty_token h)
 apart_text c (d ∷ w) r h n = n
 
-apart_spelled : {c : ℕ} {ts : List Decorated} {s : List ℕ} → Spelled c ts s → AllByRecursion IsGood ts → Apart c s
+apart_spelled : {c : ℕ} {ts : List Decorated} {s : List ℕ} → Spelled c ts s
+    → AllByRecursion IsGood ts → Apart c s
 apart_spelled {c} (the_end p) a = apart_blanks c p
 apart_spelled {c} (a_token {g = g} {s = s} t f n r) a = elim (front_cases c f) [
-  | inl e ↦ rw e (apart_text c (token_value t.text) (back t.trailing ++ s) (value_token t.text a.0.token) (rw e at n))
+  | inl e ↦ rw e (apart_text c (token_value t.text) (back t.trailing ++ s)
+      (value_token t.text a.0.token) (rw e at n))
   | inr k ↦ k (token_value t.text ++ (back t.trailing ++ s))
 ]
 
@@ -229,33 +281,61 @@ apart_back : (w tr s : List ℕ) → Apart (after_of w tr) s → Apart (last_byt
 apart_back w [] s h = h
 apart_back w (c ∷ cs) s h = refl
 
-reading_token : (t : Decorated) (ts : List Decorated) (g s : List ℕ) {x : List (List ℕ)} (good : IsGood t) → Front t.leading g → Apart (last_byte_or 32 (token_value t.text)) (back t.trailing ++ s) → Reading ts s x
-    → Reading (t ∷ ts) (g ++ (token_value t.text ++ (back t.trailing ++ s))) (t.leading ++ (token_value t.text ∷ (filter is_solid good.trailing.units ++ x)))
+reading_token : (t : Decorated) (ts : List Decorated) (g s : List ℕ) {x : List (List ℕ)}
+    (good : IsGood t) → Front t.leading g
+    → Apart (last_byte_or 32 (token_value t.text)) (back t.trailing ++ s) → Reading ts s x
+    → Reading (t ∷ ts) (g ++ (token_value t.text ++ (back t.trailing ++ s)))
+    (t.leading ++ (token_value t.text ∷ (filter is_solid good.trailing.units ++ x)))
 unfolding listing decorate
 reading_token t ts g s good f apart r =
     let w = token_value t.text in
     let k : is_token w ≡ true = value_token t.text good.token in
     let front = gap_front f good.leading in
     let behind = gap_back t.trailing good.trailing in
-    let e : gaps (front.units ++ (w ∷ (behind.units ++ r.units))) ≡ record { first = g ++ []; tokens = (w, back t.trailing ++ (gaps r.units).first) ∷ (gaps r.units).tokens } =
-    gaps_gap g front (w ∷ (behind.units ++ r.units)) ∙ rw (one_token w (behind.units ++ r.units) k, gaps_gap (back t.trailing) behind r.units) refl in
-    let same : decorate (after_newline (back t.trailing ++ (gaps r.units).first)) (gaps r.units).tokens ≡ record { tokens = map with_value ts; closing = [] } =
-    decorate_same (after_newline (back t.trailing ++ (gaps r.units).first)) (gaps r.units).first (gaps r.units).tokens (back_after t.trailing (gaps r.units).first good.trailing r.after) ∙ r.value in
+    let e : gaps (front.units ++ (w ∷ (behind.units ++ r.units))) ≡ record {
+      first = g ++ [];
+      tokens = (w, back t.trailing ++ (gaps r.units).first) ∷ (gaps r.units).tokens;
+    } =
+    gaps_gap g front (w ∷ (behind.units ++ r.units)) ∙ rw
+    (one_token w (behind.units ++ r.units) k, gaps_gap (back t.trailing) behind r.units) refl in
+    let same : decorate (after_newline (back t.trailing ++ (gaps r.units).first))
+    (gaps r.units).tokens ≡ record { tokens = map with_value ts; closing = [] } =
+    decorate_same (after_newline (back t.trailing ++ (gaps r.units).first)) (gaps r.units).first
+    (gaps r.units).tokens (back_after t.trailing (gaps r.units).first good.trailing r.after)
+    ∙ r.value in
     record {
       units = front.units ++ (w ∷ (behind.units ++ r.units));
-      solid = filter-append is_solid front.units (w ∷ (behind.units ++ r.units)) ∙ rw (front.solid, token_solid w k, filter-append is_solid behind.units r.units, behind.solid, r.solid) refl;
-      split = scans_append front.units (w ∷ (behind.units ++ r.units)) (g ++ (w ++ (back t.trailing ++ s))) (w ++ (back t.trailing ++ s)) [] (front.scan (w ++ (back t.trailing ++ s)))
-          (scans_unit w (behind.units ++ r.units) (back t.trailing ++ s) [] (token_first w (back t.trailing ++ s) k apart)
+      solid = filter-append is_solid front.units (w ∷ (behind.units ++ r.units)) ∙ rw (
+        front.solid,
+        token_solid w k,
+        filter-append is_solid behind.units r.units,
+        behind.solid,
+        r.solid,
+      ) refl;
+      split = scans_append front.units (w ∷ (behind.units ++ r.units))
+          (g ++ (w ++ (back t.trailing ++ s))) (w ++ (back t.trailing ++ s)) []
+          (front.scan (w ++ (back t.trailing ++ s)))
+          (scans_unit w (behind.units ++ r.units) (back t.trailing ++ s) []
+          (token_first w (back t.trailing ++ s) k apart)
           (scans_append behind.units r.units (back t.trailing ++ s) s [] (behind.scan s) r.split));
       before = rw (e, append-nil g) (front_before f);
-      after = rw (e, append-nil g) (front_after f good.leading ∙ sym (front_comments f good.leading));
-      value = rw (e, append-nil g) (rw (front_comments f good.leading, back_before t.trailing (gaps r.units).first good.trailing r.before, same) refl);
+      after =
+          rw (e, append-nil g) (front_after f good.leading ∙ sym (front_comments f good.leading));
+      value = rw (e, append-nil g) (rw (
+        front_comments f good.leading,
+        back_before t.trailing (gaps r.units).first good.trailing r.before,
+        same,
+      ) refl);
     }
 
-pub reading : {c : ℕ} {ts : List Decorated} {s : List ℕ} → Spelled c ts s → (a : AllByRecursion IsGood ts) → Reading ts s (solids ts a)
+pub reading : {c : ℕ} {ts : List Decorated} {s : List ℕ} → Spelled c ts s
+    → (a : AllByRecursion IsGood ts) → Reading ts s (solids ts a)
 reading (the_end p) a = reading_end p
-reading (a_token {g = g} {s = s} {ts = ts} t f n r) a = reading_token t ts g s a.0 f (apart_back (token_value t.text) t.trailing s (apart_spelled r a.1)) (reading r a.1)
+reading (a_token {g = g} {s = s} {ts = ts} t f n r) a = reading_token t ts g s a.0 f
+    (apart_back (token_value t.text) t.trailing s (apart_spelled r a.1)) (reading r a.1)
 
 -- The decorated list of a text that meets the law of gaps is that of its tokens, by value.
-pub spelled_reads : (c : ℕ) (ts : List Decorated) (s : List ℕ) → Spelled c ts s → AllByRecursion IsGood ts → IsListing s (record { tokens = map with_value ts; closing = [] })
-spelled_reads c ts s p a = let r = reading p a in record { units = r.units; split = r.split; value = sym r.value }
+pub spelled_reads : (c : ℕ) (ts : List Decorated) (s : List ℕ) → Spelled c ts s
+    → AllByRecursion IsGood ts → IsListing s (record { tokens = map with_value ts; closing = [] })
+spelled_reads c ts s p a =
+    let r = reading p a in record { units = r.units; split = r.split; value = sym r.value }

@@ -8,11 +8,13 @@ use Rattle.cedar_grammar.specs.Trees.{Label, Forest, none, leaf, branch, join}
 use Rattle.cedar_grammar.specs.Trees as L
 use Rattle.cedar_grammar.specs.TrailingCommas.{drop_if, closes_next, without_trailing}
 use Rattle.cedar_grammar.specs.TypedTrees.{Tree, NodeKind, PartKind, Clause, policy, name_one, name_more, ref_of, args_one, args_more, init_of, inits_one, inits_more, literal, slot, reference, named, parens, list_empty, list_of, record_empty, record_of, no_access, field, call_empty, call, index, member_of, unsigned, signed, products_one, products_more, mult_of, sums_one, sums_more, add_of, single, compare, has_or_like, is_type, is_in, ands_one, ands_more, ors_one, ors_more, ors_expr, if_expr, variable_bare, variable_is, variable_op, variable_is_op, cond_of, no_cond, conds_more, annotation_bare, annotation_value, no_annotation, annotations_more, policy_of, tree_map, parts, part_parts, policy_trees, set_tree, literal_label}
-use Rattle.cedar_grammar.proofs.RuleMaps.{relabel, relabel_join}
+use Rattle.cedar_grammar.proofs.Rules.Maps.{relabel, relabel_join}
 use Rattle.cedar_laws.specs.Leaves.{part_map}
 
-module _ {A B : Type 0} (h : A → B) (kind : A → Kind) (kind' : B → Kind) (same : (a : A) → kind' (h a) ≡ kind a) where
-  pub parts_map : {k : NodeKind} (t : Tree A k) → relabel h (parts kind t) ≡ parts kind' (tree_map h t)
+module _ {A B : Type 0} (h : A → B) (kind : A → Kind) (kind' : B → Kind)
+    (same : (a : A) → kind' (h a) ≡ kind a) where
+  pub parts_map : {k : NodeKind} (t : Tree A k)
+      → relabel h (parts kind t) ≡ parts kind' (tree_map h t)
   parts_map (name_one x) = refl
   parts_map (name_more x c r) = simp (parts_map r)
   parts_map (ref_of n c s) = simp (parts_map n)
@@ -56,7 +58,8 @@ module _ {A B : Type 0} (h : A → B) (kind : A → Kind) (kind' : B → Kind) (
   parts_map (ors_expr o) = simp (parts_map o)
   parts_map (if_expr i c t a f b) = simp (parts_map c, parts_map a, parts_map b)
 
-  part_parts_map : {k : PartKind} (t : Clause A k) → relabel h (part_parts kind t) ≡ part_parts kind' (part_map h t)
+  part_parts_map : {k : PartKind} (t : Clause A k)
+      → relabel h (part_parts kind t) ≡ part_parts kind' (part_map h t)
   part_parts_map (variable_bare v) = refl
   part_parts_map (variable_is v i n) = simp (parts_map n)
   part_parts_map (variable_op v o a) = simp (parts_map a)
@@ -68,13 +71,22 @@ module _ {A B : Type 0} (h : A → B) (kind : A → Kind) (kind' : B → Kind) (
   part_parts_map (annotation_value a k l s r) = refl
   part_parts_map no_annotation = refl
   part_parts_map (annotations_more a m) = simp (part_parts_map a, part_parts_map m)
-  part_parts_map (policy_of ns e l p c a d r q cs s) = simp (part_parts_map ns, part_parts_map p, part_parts_map a, part_parts_map r, part_parts_map cs, relabel_join h)
+  part_parts_map (policy_of ns e l p c a d r q cs s) = simp (
+    part_parts_map ns,
+    part_parts_map p,
+    part_parts_map a,
+    part_parts_map r,
+    part_parts_map cs,
+    relabel_join h,
+  )
 
-  policy_trees_map : (ps : List (Clause A policy)) → relabel h (policy_trees kind ps) ≡ policy_trees kind' (map (part_map h) ps)
+  policy_trees_map : (ps : List (Clause A policy))
+      → relabel h (policy_trees kind ps) ≡ policy_trees kind' (map (part_map h) ps)
   policy_trees_map [] = refl
   policy_trees_map (p ∷ ps) = simp (part_parts_map p, policy_trees_map ps)
 
-  pub set_tree_map : (ps : List (Clause A policy)) → relabel h (set_tree kind ps) ≡ set_tree kind' (map (part_map h) ps)
+  pub set_tree_map : (ps : List (Clause A policy))
+      → relabel h (set_tree kind ps) ≡ set_tree kind' (map (part_map h) ps)
   set_tree_map ps = ap (λ z. branch L.policies z none) (policy_trees_map ps)
 
   closes_same : (f : Forest Label A) → closes_next kind' (relabel h f) ≡ closes_next kind f
@@ -83,14 +95,22 @@ module _ {A B : Type 0} (h : A → B) (kind : A → Kind) (kind' : B → Kind) (
   closes_same (branch l f g) = refl
 
   -- trailing commas remain trailing commas
-  pub without_map : (f : Forest Label A) → without_trailing kind' (relabel h f) ≡ relabel h (without_trailing kind f)
+  pub without_map : (f : Forest Label A)
+      → without_trailing kind' (relabel h f) ≡ relabel h (without_trailing kind f)
   without_map none = refl
   without_map (leaf a f) =
-      ap (λ k. drop_if (is K.Comma k && closes_next kind' (relabel h f)) (leaf (h a) (without_trailing kind' (relabel h f))) (without_trailing kind' (relabel h f))) (same a)
-      ∙ (ap (λ c. drop_if (is K.Comma (kind a) && c) (leaf (h a) (without_trailing kind' (relabel h f))) (without_trailing kind' (relabel h f))) (closes_same f)
-      ∙ (ap (λ z. drop_if (is K.Comma (kind a) && closes_next kind f) (leaf (h a) z) z) (without_map f) ∙ moved (is K.Comma (kind a) && closes_next kind f)))
+      ap (λ k. drop_if (is K.Comma k && closes_next kind' (relabel h f)) (leaf (h a)
+      (without_trailing kind' (relabel h f))) (without_trailing kind' (relabel h f))) (same a)
+      ∙ (ap (λ c. drop_if (is K.Comma (kind a) && c) (leaf (h a) (without_trailing kind'
+      (relabel h f))) (without_trailing kind' (relabel h f))) (closes_same f)
+      ∙ (ap (λ z. drop_if (is K.Comma (kind a) && closes_next kind f) (leaf (h a) z) z)
+      (without_map f) ∙ moved (is K.Comma (kind a) && closes_next kind f)))
     where
-      moved : (b : Bool) → drop_if b (leaf (h a) (relabel h (without_trailing kind f))) (relabel h (without_trailing kind f)) ≡ relabel h (drop_if b (leaf a (without_trailing kind f)) (without_trailing kind f))
+      moved : (b : Bool) → drop_if b (leaf (h a) (relabel h (without_trailing kind f))) (relabel h
+          (without_trailing kind f))
+          ≡ relabel h (drop_if b (leaf a (without_trailing kind f)) (without_trailing kind f))
       moved true = refl
       moved false = refl
-  without_map (branch l f g) = ap (λ z. branch l z (without_trailing kind' (relabel h g))) (without_map f) ∙ ap (branch l (relabel h (without_trailing kind f))) (without_map g)
+  without_map (branch l f g) =
+      ap (λ z. branch l z (without_trailing kind' (relabel h g))) (without_map f)
+      ∙ ap (branch l (relabel h (without_trailing kind f))) (without_map g)

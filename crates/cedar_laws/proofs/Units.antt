@@ -1,12 +1,13 @@
 -- Which unit begins a text, by what follows it.
-use Rattle.std.proofs.Common.{◌≡◌, ℕ, ◌<◌, ◌≤◌, ◌+◌, Bool, true, false, cond, not, ◌&&◌, ◌||◌, ◌==◌, ◌⊎◌, inl, inr, List, [], ◌∷◌, ◌++◌, length, get_or, refl, ap, arith, sym, ◌∙◌, nat_lt, append-nil, length-append, Some}
+use Rattle.std.proofs.Common.{◌≡◌, ℕ, ◌<◌, ◌≤◌, ◌+◌, Bool, true, false, not, ◌&&◌, ◌||◌, ◌==◌, ◌⊎◌, inl, inr, List, [], ◌∷◌, ◌++◌, length, get_or, refl, ap, arith, sym, ◌∙◌, append-nil, length-append, Some}
 use Rattle.std.specs.Prelude.{codes, ⊤}
 use Rattle.std.specs.List.{list_all}
 use Rattle.std.specs.Char.{is_ascii_digit, encode_utf8}
 use Rattle.std.proofs.lemmas.Bool.Decides.{nat_tests}
 use Rattle.std.proofs.lemmas.Str.{encode_ascii, encode_same}
+use Rattle.std.proofs.lemmas.Bool.{and_parts, or_cases, both_ways, not-true}
 use Rattle.cedar_tokens.specs.Units.{BeginsWith, IsUnit, blank, comment, token, IsBlank, IsComment, IsToken, IsFirstUnit, is_word_start, is_word_byte, is_comment_byte, is_string_rest, is_one_of, slots, punctuators}
-use Rattle.cedar_tokens.proofs.Prefixes.{same_head, and_parts}
+use Rattle.cedar_tokens.proofs.Prefixes.{same_head}
 use Rattle.cedar_tokens.proofs.Heads.{class, class-blank, word, number, string, slot, punctuator, token_of, one_of, no_empty_token}
 use Rattle.cedar_tokens.proofs.Strings.{string_end, complete}
 use Rattle.cedar_tokens.proofs.Longest.{clash, slot_is}
@@ -28,11 +29,25 @@ past [] r (d ∷ v) g = inr (record { next = d; rest = v ++ g.0; more = v; is_re
 past (b ∷ w) r [] g = inl (omega arith)
 past (b ∷ w) r (c ∷ v) g =
     let s = same_head b c (w ++ r) v g in
-    elim (past w r v s.1) [ inl l ↦ inl (omega (arith, l)) | inr p ↦ inr (record { next = p.next; rest = p.rest; more = p.more; is_rest = p.is_rest; is = let e : v ≡ w ++ (p.next ∷ p.more) = p.is in rw (s.0, e) refl }) ]
+    elim (past w r v s.1) [
+      | inl l ↦ inl (omega (arith, l))
+      | inr p ↦ inr (record {
+        next = p.next;
+        rest = p.rest;
+        more = p.more;
+        is_rest = p.is_rest;
+        is = let e : v ≡ w ++ (p.next ∷ p.more) = p.is in rw (s.0, e) refl;
+      })
+    ]
 
 -- the unit w begins w ++ r if no unit extends beyond it
-pub first_from : (w r : List ℕ) → IsUnit w → ((v : List ℕ) → IsUnit v → Past w r v → ⊥) → IsFirstUnit (w ++ r) w
-first_from w r k none = record { kind = k; begins = (r, refl); longest = λ v n g. elim (past w r v g) [ inl l ↦ l | inr p ↦ absurd (none v n p) ] }
+pub first_from : (w r : List ℕ) → IsUnit w → ((v : List ℕ) → IsUnit v → Past w r v → ⊥)
+    → IsFirstUnit (w ++ r) w
+first_from w r k none = record {
+  kind = k;
+  begins = (r, refl);
+  longest = λ v n g. elim (past w r v g) [ inl l ↦ l | inr p ↦ absurd (none v n p) ];
+}
 
 word_start_byte : (b : ℕ) → is_word_start b ≡ true → is_word_byte b ≡ true
 word_start_byte b h = grind (arith, nat_tests)
@@ -40,28 +55,16 @@ word_start_byte b h = grind (arith, nat_tests)
 digit_byte : (b : ℕ) → is_ascii_digit b ≡ true → is_word_byte b ≡ true
 digit_byte b h = grind (arith, nat_tests)
 
-abbrev other_class : Bool → Bool → Bool → Bool → ℕ
-other_class p q r s = cond p 2 (cond q 3 (cond r 4 (cond s 5 0)))
-
-no_word_class : (p q r s : Bool) → other_class p q r s ≡ 1 → ⊥
-no_word_class true q r s h = omega (arith, h)
-no_word_class false true r s h = omega (arith, h)
-no_word_class false false true s h = omega (arith, h)
-no_word_class false false false true h = omega (arith, h)
-no_word_class false false false false h = omega (arith, h)
-
 word_of_class : (b : ℕ) → class b ≡ 1 → is_word_start b ≡ true
-word_of_class b h = go (is_word_start b) refl
-  where
-    go : (x : Bool) → is_word_start b ≡ x → is_word_start b ≡ true
-    go true e = e
-    go false e = absurd (no_word_class (is_ascii_digit b) (b == 34) (b == 63) (nat_lt 32 b && nat_lt b 127) (rw e at h))
+word_of_class b h = grind (arith, nat_tests)
 
-pub last_passes : (p : ℕ → Bool) (b : ℕ) (w : List ℕ) → p b ≡ true → list_all p w ≡ true → p (last_byte_or b w) ≡ true
+pub last_passes : (p : ℕ → Bool) (b : ℕ) (w : List ℕ) → p b ≡ true → list_all p w ≡ true
+    → p (last_byte_or b w) ≡ true
 last_passes p b [] h k = h
 last_passes p b (c ∷ w) h k = let a = and_parts (p c) (list_all p w) k in last_passes p c w a.0 a.1
 
-pub next_passes : (p : ℕ → Bool) (w : List ℕ) (d : ℕ) (v : List ℕ) → list_all p (w ++ (d ∷ v)) ≡ true → p d ≡ true
+pub next_passes : (p : ℕ → Bool) (w : List ℕ) (d : ℕ) (v : List ℕ)
+    → list_all p (w ++ (d ∷ v)) ≡ true → p d ≡ true
 next_passes p [] d v h = (and_parts (p d) (list_all p v) h).0
 next_passes p (c ∷ w) d v h = next_passes p w d v (and_parts (p c) (list_all p (w ++ (d ∷ v))) h).1
 
@@ -85,17 +88,17 @@ pub punctuators_no_slashes : list_all no_slashes punctuators ≡ true
 unfolding punctuators
 punctuators_no_slashes = refl
 
-or_not : (x y : Bool) → (x || not y) ≡ true → y ≡ true → x ≡ true
-or_not true y h k = refl
-or_not false true h k = absurd cc
-or_not false false h k = absurd cc
-
-punctuator_then : (b d : ℕ) (w v : List ℕ) → length (w ++ (d ∷ v)) < 2 → is_one_of punctuators (b ∷ w) ≡ true → is_one_of punctuators (b ∷ (w ++ (d ∷ v))) ≡ true → glues (last_byte_or b w) d ≡ true
-punctuator_then b d [] [] l h k = or_not (glues b d) (is_one_of punctuators (b ∷ [])) (one_of pair_glues punctuators (b ∷ (d ∷ [])) pairs_glue k) h
+punctuator_then : (b d : ℕ) (w v : List ℕ) → length (w ++ (d ∷ v)) < 2
+    → is_one_of punctuators (b ∷ w) ≡ true → is_one_of punctuators (b ∷ (w ++ (d ∷ v))) ≡ true
+    → glues (last_byte_or b w) d ≡ true
+punctuator_then b d [] [] l h k =
+    elim (or_cases (glues b d) (not (is_one_of punctuators (b ∷ []))) (one_of pair_glues punctuators
+    (b ∷ (d ∷ [])) pairs_glue k)) [ inl e ↦ e | inr e ↦ absurd (both_ways _ (not-true _ e) h) ]
 punctuator_then b d [] (e ∷ v) l h k = absurd (omega (arith, l))
 punctuator_then b d (c ∷ w) v l h k = absurd (omega (arith, l, length-append w (d ∷ v)))
 
-slot_then : (w : List ℕ) (d : ℕ) (v : List ℕ) → is_one_of slots w ≡ true → is_one_of slots (w ++ (d ∷ v)) ≡ true → ⊥
+slot_then : (w : List ℕ) (d : ℕ) (v : List ℕ) → is_one_of slots w ≡ true
+    → is_one_of slots (w ++ (d ∷ v)) ≡ true → ⊥
 slot_then w d v h k = elim (slot_is w h) [
   | inl e ↦ elim (slot_is (w ++ (d ∷ v)) k) [
     | inl f ↦ long w (codes "?principal") (codes "?principal") e f refl
@@ -116,26 +119,31 @@ slot_then w d v h k = elim (slot_is w h) [
     other2 : codes "?resource" ++ (d ∷ v) ≡ codes "?principal" → ⊥
     other2 f = let g : 114 ≡ 112 = ap (λ l. get_or l 1 0) f in omega (arith, g)
 
-pub string_then : (w : List ℕ) (d : ℕ) (v : List ℕ) → is_string_rest w ≡ true → is_string_rest (w ++ (d ∷ v)) ≡ true → ⊥
+pub string_then : (w : List ℕ) (d : ℕ) (v : List ℕ) → is_string_rest w ≡ true
+    → is_string_rest (w ++ (d ∷ v)) ≡ true → ⊥
 string_then w d v h k =
     let a = complete w false (d ∷ v) 0 h in
     let b = complete (w ++ (d ∷ v)) false [] 0 k in
-    let e : Some (0 + length w) ≡ Some (0 + length (w ++ (d ∷ v))) = sym a ∙ (ap (λ x. string_end x false 0) (sym (append-nil (w ++ (d ∷ v)))) ∙ b) in
+    let e : Some (0 + length w) ≡ Some (0 + length (w ++ (d ∷ v))) =
+    sym a ∙ (ap (λ x. string_end x false 0) (sym (append-nil (w ++ (d ∷ v)))) ∙ b) in
     let f : 0 + length w ≡ 0 + length (w ++ (d ∷ v)) = cc in
     omega (arith, f, length-append w (d ∷ v))
 
 -- a token that is the front of a longer token glues to what follows
-token_then : (b : ℕ) (w : List ℕ) (d : ℕ) (v : List ℕ) → IsToken (b ∷ w) → IsToken (b ∷ (w ++ (d ∷ v))) → glues (last_byte_or b w) d ≡ true
+token_then : (b : ℕ) (w : List ℕ) (d : ℕ) (v : List ℕ) → IsToken (b ∷ w)
+    → IsToken (b ∷ (w ++ (d ∷ v))) → glues (last_byte_or b w) d ≡ true
 token_then b w d v h k = elim (token_of b w h) [
   | word c a ↦ elim (token_of b (w ++ (d ∷ v)) k) [
-    | word _ a2 ↦ words_glue (last_byte_or b w) d (last_passes is_word_byte b w (word_start_byte b (word_of_class b c)) a) (next_passes is_word_byte w d v a2)
+    | word _ a2 ↦ words_glue (last_byte_or b w) d (last_passes is_word_byte b w
+        (word_start_byte b (word_of_class b c)) a) (next_passes is_word_byte w d v a2)
     | number c2 _ ↦ absurd (clash c c2 refl)
     | string c2 _ ↦ absurd (clash c c2 refl)
     | slot c2 _ ↦ absurd (clash c c2 refl)
     | punctuator c2 _ _ ↦ absurd (clash c c2 refl)
   ]
   | number c a ↦ elim (token_of b (w ++ (d ∷ v)) k) [
-    | number _ a2 ↦ words_glue (last_byte_or b w) d (last_passes is_word_byte b w (number_byte c) (all_bytes w a)) (digit_byte d (next_passes is_ascii_digit w d v a2))
+    | number _ a2 ↦ words_glue (last_byte_or b w) d (last_passes is_word_byte b w (number_byte c)
+        (all_bytes w a)) (digit_byte d (next_passes is_ascii_digit w d v a2))
     | word c2 _ ↦ absurd (clash c c2 refl)
     | string c2 _ ↦ absurd (clash c c2 refl)
     | slot c2 _ ↦ absurd (clash c c2 refl)
@@ -169,16 +177,21 @@ token_then b w d v h k = elim (token_of b w h) [
 
     all_bytes : (w : List ℕ) → list_all is_ascii_digit w ≡ true → list_all is_word_byte w ≡ true
     all_bytes [] h = refl
-    all_bytes (x ∷ w) h = let a = and_parts (is_ascii_digit x) (list_all is_ascii_digit w) h in rw (digit_byte x a.0) (all_bytes w a.1)
+    all_bytes (x ∷ w) h =
+        let a = and_parts (is_ascii_digit x) (list_all is_ascii_digit w) h in
+        rw (digit_byte x a.0) (all_bytes w a.1)
 
 -- a token that is the front of a comment is the punctuator `/`
-comment_then : (b : ℕ) (w : List ℕ) (d : ℕ) (v : List ℕ) → IsToken (b ∷ w) → IsComment (b ∷ (w ++ (d ∷ v))) → glues (last_byte_or b w) d ≡ true
+comment_then : (b : ℕ) (w : List ℕ) (d : ℕ) (v : List ℕ) → IsToken (b ∷ w)
+    → IsComment (b ∷ (w ++ (d ∷ v))) → glues (last_byte_or b w) d ≡ true
 comment_then b [] d v h k = let p = comment_parts b d v k in rw (p.0, p.1) refl
 comment_then b (c ∷ w) d v h k =
     let p = comment_parts b c (w ++ (d ∷ v)) k in
     let five : class b ≡ 5 = rw p.0 refl in
     elim (token_of b (c ∷ w) h) [
-      | punctuator _ _ a ↦ absurd (let e : not (b == 47 && c == 47) ≡ true = one_of no_slashes punctuators (b ∷ (c ∷ w)) punctuators_no_slashes a in let f : false ≡ true = rw (p.0, p.1) at e in cc)
+      | punctuator _ _ a ↦
+          absurd (let e : not (b == 47 && c == 47) ≡ true = one_of no_slashes punctuators
+          (b ∷ (c ∷ w)) punctuators_no_slashes a in let f : false ≡ true = rw (p.0, p.1) at e in cc)
       | word c2 _ ↦ absurd (clash five c2 refl)
       | number c2 _ ↦ absurd (clash five c2 refl)
       | string c2 _ ↦ absurd (clash five c2 refl)
@@ -203,7 +216,8 @@ token_first (b ∷ w) r h a = first_from (b ∷ w) r (token h) none
         let f = apart p.next p.rest p.is_rest in
         let n : IsUnit (b ∷ (w ++ (p.next ∷ p.more))) = rw p.is at k in
         elim n [
-          | blank e ↦ omega (arith, token_class b w (token_of b w h), class-blank b (w ++ (p.next ∷ p.more)) e)
+          | blank e ↦ omega
+              (arith, token_class b w (token_of b w h), class-blank b (w ++ (p.next ∷ p.more)) e)
           | comment e ↦ absurd (let t = comment_then b w p.next p.more h e in cc)
           | token e ↦ absurd (let t = token_then b w p.next p.more h e in cc)
         ]
@@ -216,7 +230,9 @@ comment_not_token (b ∷ (c ∷ v)) k t =
     let p = comment_parts b c v k in
     let five : class b ≡ 5 = rw p.0 refl in
     elim (token_of b (c ∷ v) t) [
-      | punctuator _ _ a ↦ (let e : not (b == 47 && c == 47) ≡ true = one_of no_slashes punctuators (b ∷ (c ∷ v)) punctuators_no_slashes a in let f : false ≡ true = rw (p.0, p.1) at e in absurd cc)
+      | punctuator _ _ a ↦
+          (let e : not (b == 47 && c == 47) ≡ true = one_of no_slashes punctuators (b ∷ (c ∷ v))
+          punctuators_no_slashes a in let f : false ≡ true = rw (p.0, p.1) at e in absurd cc)
       | word c2 _ ↦ clash five c2 refl
       | number c2 _ ↦ clash five c2 refl
       | string c2 _ ↦ clash five c2 refl
@@ -245,7 +261,9 @@ comment_first (b ∷ (c ∷ w)) r h a = first_from (b ∷ (c ∷ w)) r (comment 
 
     no_punctuator : (v : List ℕ) → IsToken (b ∷ (c ∷ v)) → ⊥
     no_punctuator v t = elim (token_of b (c ∷ v) t) [
-      | punctuator _ _ a ↦ (let e : not (b == 47 && c == 47) ≡ true = one_of no_slashes punctuators (b ∷ (c ∷ v)) punctuators_no_slashes a in let f : false ≡ true = rw (parts.0, parts.1) at e in absurd cc)
+      | punctuator _ _ a ↦ (let e : not (b == 47 && c == 47) ≡ true =
+          one_of no_slashes punctuators (b ∷ (c ∷ v)) punctuators_no_slashes a in
+          let f : false ≡ true = rw (parts.0, parts.1) at e in absurd cc)
       | word c2 _ ↦ clash five c2 refl
       | number c2 _ ↦ clash five c2 refl
       | string c2 _ ↦ clash five c2 refl
@@ -258,7 +276,8 @@ comment_first (b ∷ (c ∷ w)) r h a = first_from (b ∷ (c ∷ w)) r (comment 
         let n : IsUnit (b ∷ (c ∷ (w ++ (p.next ∷ p.more)))) = rw p.is at k in
         elim n [
           | blank e ↦ omega (arith, five, class-blank b (c ∷ (w ++ (p.next ∷ p.more))) e)
-          | comment e ↦ absurd (let t = next_passes is_comment_byte w p.next p.more (comment_parts b c (w ++ (p.next ∷ p.more)) e).2 in cc)
+          | comment e ↦ absurd (let t = next_passes is_comment_byte w p.next p.more
+              (comment_parts b c (w ++ (p.next ∷ p.more)) e).2 in cc)
           | token e ↦ absurd (no_punctuator (w ++ (p.next ∷ p.more)) e)
         ]
 
@@ -272,15 +291,24 @@ blank_first (b ∷ w) r h = first_from (b ∷ w) r (blank h) none
 
     no_comment : (v : List ℕ) → IsComment (b ∷ v) → ⊥
     no_comment [] k = absurd cc
-    no_comment (c ∷ v) k = let p = comment_parts b c v k in let e : class 47 ≡ 0 = rw p.0 at zero_class in omega (arith, e)
+    no_comment (c ∷ v) k =
+        let p = comment_parts b c v k in
+        let e : class 47 ≡ 0 = rw p.0 at zero_class in
+        omega (arith, e)
 
     none : (v : List ℕ) → IsUnit v → Past (b ∷ w) r v → ⊥
     none v k p =
         let n : IsUnit (b ∷ (w ++ (p.next ∷ p.more))) = rw p.is at k in
         elim n [
-          | blank e ↦ (let s = encode_same h.0 e.0 (p.next ∷ p.more) [] (ap (λ u. u ++ (p.next ∷ p.more)) (sym h.2) ∙ (e.2 ∙ sym (append-nil (encode_utf8 e.0)))) in let z : p.next ∷ p.more ≡ [] = s.1 in absurd cc)
+          | blank e ↦ (let s = encode_same h.0 e.0 (p.next ∷ p.more) [] (ap (λ u.
+              u ++ (p.next ∷ p.more)) (sym h.2) ∙ (e.2 ∙ sym (append-nil (encode_utf8 e.0)))) in
+              let z : p.next ∷ p.more ≡ [] = s.1 in absurd cc)
           | comment e ↦ no_comment (w ++ (p.next ∷ p.more)) e
-          | token e ↦ omega (arith, zero_class, token_class b (w ++ (p.next ∷ p.more)) (token_of b (w ++ (p.next ∷ p.more)) e))
+          | token e ↦ omega (
+            arith,
+            zero_class,
+            token_class b (w ++ (p.next ∷ p.more)) (token_of b (w ++ (p.next ∷ p.more)) e),
+          )
         ]
 
 pub space_blank : IsBlank (32 ∷ [])

@@ -6,7 +6,8 @@ use Rattle.cedar_layout.specs.Layout.{Doc, nil, ◌·◌, Atom, word, space_or_b
 use Rattle.cedar_layout.specs.Value.{doc_of, docs_of}
 use Rattle.cedar_layout.proofs.Values.{atoms-dot}
 
-pub docs_of-drop : (ds : List Document) (i : ℕ) (d : Document) → i < length ds → docs_of (drop i ds) ≡ doc_of (get_or ds i d) · docs_of (drop (i + 1) ds)
+pub docs_of-drop : (ds : List Document) (i : ℕ) (d : Document) → i < length ds
+    → docs_of (drop i ds) ≡ doc_of (get_or ds i d) · docs_of (drop (i + 1) ds)
 docs_of-drop ds i d h = at_drop_more docs_of ds i d h
 
 pub docs_of-drop_all : (ds : List Document) (i : ℕ) → length ds ≤ i → docs_of (drop i ds) ≡ nil
@@ -19,9 +20,11 @@ has_hard-append (space_or_break ∷ xs) ys = has_hard-append xs ys
 has_hard-append (nothing_or_break ∷ xs) ys = has_hard-append xs ys
 has_hard-append (must_break ∷ xs) ys = refl
 
-pub has_hard-dot : (a b : Doc) → has_hard (atoms (a · b)) ≡ (has_hard (atoms a) || has_hard (atoms b))
+pub has_hard-dot : (a b : Doc)
+    → has_hard (atoms (a · b)) ≡ (has_hard (atoms a) || has_hard (atoms b))
 has_hard-dot a b = ap has_hard (atoms-dot a b) ∙ has_hard-append (atoms a) (atoms b)
 
-pub flat_columns-append : (xs ys : List Atom) → flat_columns (xs ++ ys) ≡ flat_columns xs + flat_columns ys
+pub flat_columns-append : (xs ys : List Atom)
+    → flat_columns (xs ++ ys) ≡ flat_columns xs + flat_columns ys
 flat_columns-append [] ys = omega arith
 flat_columns-append (x ∷ xs) ys = omega (arith, flat_columns-append xs ys)

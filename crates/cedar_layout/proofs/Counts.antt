@@ -16,18 +16,25 @@ use Rattle.cedar_layout.specs.Nodes.{nodes, nodes_step}
 use Rattle.cedar_layout.specs.Inside.Measuring.{nodes_of_all, nodes_of_item, nodes_to_take, turns_of_item, turns}
 use Rattle.cedar_layout.specs.Inside.Printing.{nodes_to_print}
 
-pub nodes_of_all-push : (ds : List Document) (d : Document) → nodes_of_all (ds ++ d ∷ []) ≡ nodes_of_all ds + nodes d
-nodes_of_all-push ds d = ap sum (map-append nodes ds (d ∷ [])) ∙ sum_by_push (λ n. n) (map nodes ds) (nodes d)
+pub nodes_of_all-push : (ds : List Document) (d : Document)
+    → nodes_of_all (ds ++ d ∷ []) ≡ nodes_of_all ds + nodes d
+nodes_of_all-push ds d =
+    ap sum (map-append nodes ds (d ∷ [])) ∙ sum_by_push (λ n. n) (map nodes ds) (nodes d)
 
-pub nodes_of_all-take : (ds : List Document) (i : ℕ) (d : Document) → i < length ds → d ≡ get_or ds i d → nodes_of_all (take (i + 1) ds) ≡ nodes_of_all (take i ds) + nodes d
-nodes_of_all-take ds i d h e = ap nodes_of_all (take_more ds i d h) ∙ nodes_of_all-push (take i ds) (get_or ds i d) ∙ ap (λ x. nodes_of_all (take i ds) + nodes x) (sym e)
+pub nodes_of_all-take : (ds : List Document) (i : ℕ) (d : Document) → i < length ds
+    → d ≡ get_or ds i d → nodes_of_all (take (i + 1) ds) ≡ nodes_of_all (take i ds) + nodes d
+nodes_of_all-take ds i d h e =
+    ap nodes_of_all (take_more ds i d h) ∙ nodes_of_all-push (take i ds) (get_or ds i d)
+    ∙ ap (λ x. nodes_of_all (take i ds) + nodes x) (sym e)
 
-pub nodes_of_all-back : (ds : List Document) (i : ℕ) (d : Document) → 0 < i → i ≤ length ds → d ≡ get_or ds (i - 1) d → nodes_of_all (take i ds) ≡ nodes_of_all (take (i - 1) ds) + nodes d
+pub nodes_of_all-back : (ds : List Document) (i : ℕ) (d : Document) → 0 < i → i ≤ length ds
+    → d ≡ get_or ds (i - 1) d → nodes_of_all (take i ds) ≡ nodes_of_all (take (i - 1) ds) + nodes d
 nodes_of_all-back ds i d z l e =
     let back : i - 1 + 1 ≡ i = omega arith in
     ap (λ k. nodes_of_all (take k ds)) (sym back) ∙ nodes_of_all-take ds (i - 1) d (omega arith) e
 
-step_is_layer : (x : Document-F Document) → nodes (roll-Document x) ≡ nodes_step (map-Document Document ℕ nodes x)
+step_is_layer : (x : Document-F Document)
+    → nodes (roll-Document x) ≡ nodes_step (map-Document Document ℕ nodes x)
 step_is_layer x = fold-roll-Document ℕ nodes_step x
 
 pub nodes_seq : (v : Vec Document Global) → nodes (made.Seq v) ≡ 1 + nodes_of_all v.items
@@ -53,11 +60,15 @@ pub nodes_pos : (d : Document) → 0 < nodes d
 nodes_pos d = subst (λ n. 0 < n) (sym (fold_out-Document ℕ nodes_step d)) (step_pos _)
 
 -- a push on a stack
-pub nodes_to_print_pushed : (xs ys : List printed.Pending) (x : printed.Pending) → ys ≡ xs ++ x ∷ [] → nodes_to_print ys ≡ nodes_to_print xs + nodes x.doc.now
-nodes_to_print_pushed xs ys x e = ap nodes_to_print e ∙ sum_by_push (λ (p : printed.Pending). nodes p.doc.now) xs x
+pub nodes_to_print_pushed : (xs ys : List printed.Pending) (x : printed.Pending) → ys ≡ xs ++ x ∷ []
+    → nodes_to_print ys ≡ nodes_to_print xs + nodes x.doc.now
+nodes_to_print_pushed xs ys x e =
+    ap nodes_to_print e ∙ sum_by_push (λ (p : printed.Pending). nodes p.doc.now) xs x
 
-pub nodes_to_take_pushed : (xs ys : List measured.Pending) (x : measured.Pending) → ys ≡ xs ++ x ∷ [] → nodes_to_take ys ≡ nodes_to_take xs + nodes_of_item x
+pub nodes_to_take_pushed : (xs ys : List measured.Pending) (x : measured.Pending)
+    → ys ≡ xs ++ x ∷ [] → nodes_to_take ys ≡ nodes_to_take xs + nodes_of_item x
 nodes_to_take_pushed xs ys x e = ap nodes_to_take e ∙ sum_by_push nodes_of_item xs x
 
-pub turns_pushed : (xs ys : List measured.Pending) (x : measured.Pending) → ys ≡ xs ++ x ∷ [] → turns ys ≡ turns xs + turns_of_item x
+pub turns_pushed : (xs ys : List measured.Pending) (x : measured.Pending) → ys ≡ xs ++ x ∷ []
+    → turns ys ≡ turns xs + turns_of_item x
 turns_pushed xs ys x e = ap turns e ∙ sum_by_push turns_of_item xs x

@@ -30,11 +30,13 @@ pair_with_tail_too_wide : shown 3 (group (a · line · b) · c) ≡ codes "a" ++
 unfolding columns unicode_width
 pair_with_tail_too_wide = refl
 
-tail_ends_at_a_line : shown 3 (group (a · line · b) · group (line · c)) ≡ codes "a b" ++ 10 ∷ codes "c"
+tail_ends_at_a_line : shown 3 (group (a · line · b) · group (line · c))
+    ≡ codes "a b" ++ 10 ∷ codes "c"
 unfolding columns unicode_width
 tail_ends_at_a_line = refl
 
-hard_breaks_its_group : shown 80 (group (a · line · b · hard · c)) ≡ codes "a" ++ 10 ∷ codes "b" ++ 10 ∷ codes "c"
+hard_breaks_its_group : shown 80 (group (a · line · b · hard · c))
+    ≡ codes "a" ++ 10 ∷ codes "b" ++ 10 ∷ codes "c"
 unfolding columns unicode_width
 hard_breaks_its_group = refl
 
@@ -52,7 +54,10 @@ indentation_stops_at_zero = refl
 
 -- the document of `permit(principal,action,resource);`
 bare : Doc
-bare = group (text (codes "permit") · line · text (codes "(")) · group (nest (pos 2) (text (codes "principal") · text (codes ",") · text (codes " ") · text (codes "action") · text (codes ",") · text (codes " ") · text (codes "resource"))) · text (codes ")") · text (codes ";")
+bare = group (text (codes "permit") · line · text (codes "("))
+    · group (nest (pos 2) (text (codes "principal") · text (codes ",") · text (codes " ")
+    · text (codes "action") · text (codes ",") · text (codes " ") · text (codes "resource")))
+    · text (codes ")") · text (codes ";")
 
 policy_fits : shown 37 bare ≡ codes "permit (principal, action, resource);"
 unfolding columns unicode_width bare
@@ -63,13 +68,16 @@ unfolding columns unicode_width bare
 policy_too_wide = refl
 
 -- a group in a sequence in a sequence
-last_group_broken : shown 4 (group (a · line · b) · c · group (line · text (codes "d"))) ≡ codes "a bc" ++ 10 ∷ codes "d"
+last_group_broken : shown 4 (group (a · line · b) · c · group (line · text (codes "d")))
+    ≡ codes "a bc" ++ 10 ∷ codes "d"
 unfolding columns unicode_width
 last_group_broken = refl
 
-first_group_broken : shown 3 (group (a · line · b) · c · group (line · text (codes "d"))) ≡ codes "a" ++ 10 ∷ codes "bc" ++ 10 ∷ codes "d"
+first_group_broken : shown 3 (group (a · line · b) · c · group (line · text (codes "d")))
+    ≡ codes "a" ++ 10 ∷ codes "bc" ++ 10 ∷ codes "d"
 unfolding columns unicode_width
 first_group_broken = refl
 
 pair_is_layout : IsLayoutAt 4 (group (a · line · b) · c) (codes "a bc")
-pair_is_layout = subst (IsLayoutAt 4 (group (a · line · b) · c)) pair_fits (laid_is_layout 4 (group (a · line · b) · c))
+pair_is_layout = subst (IsLayoutAt 4 (group (a · line · b) · c)) pair_fits
+    (laid_is_layout 4 (group (a · line · b) · c))

@@ -6,12 +6,13 @@ use Rattle.std.proofs.lemmas.List.{drop_all}
 use Rattle.std.proofs.lemmas.List.Quantifiers.{position-Some}
 use Rattle.std.proofs.lemmas.Bool.Decides.{Decides-eqb}
 use Rattle.std.proofs.lemmas.Str.{IsCharBoundary-after_ascii}
-use Rattle.cedar_tokens.specs.Units.{BeginsWith, BeginsNone, FindsLongest, IsUnit, blank, comment, token, IsBlank, IsComment, IsToken, is_string, is_comment, is_string_rest, is_one_of, punctuators}
+use Rattle.std.proofs.lemmas.Bool.{or_cases, or_right}
+use Rattle.cedar_tokens.specs.Units.{BeginsWith, BeginsNone, FindsLongest, IsUnit, blank, comment, token, IsBlank, IsComment, IsToken, is_string, is_comment, is_one_of, punctuators}
 use Rattle.cedar_tokens.specs.Split.{HasKind}
 use Rattle.cedar_tokens.specs.Listing.{with_first}
 use Rattle.cedar_tokens.specs.declared.lexer.UnitKind.{UnitKind}
 use Rattle.cedar_tokens.specs.declared.lexer.UnitKind.TheVariants.{Blank, Comment, Token}
-use Rattle.cedar_tokens.proofs.Prefixes.{or_cases, or_right, and_parts, begins_fits}
+use Rattle.cedar_tokens.proofs.Prefixes.{begins_fits}
 use Rattle.cedar_tokens.proofs.Heads.{class, class-blank, word, number, string, slot, punctuator, token_of}
 use Rattle.cedar_tokens.proofs.FirstUnit.{comment_parts, only_blank}
 use Rattle.cedar_tokens.proofs.Longest.{is_token-string}
@@ -27,7 +28,8 @@ comment_no_blank : (v : List ℕ) → IsComment v → ¬ (IsBlank v)
 comment_no_blank [] k b = absurd cc
 comment_no_blank (x ∷ []) k b = absurd cc
 comment_no_blank (x ∷ y ∷ v) k b =
-    let e : class 47 ≡ 0 = rw ((comment_parts x y v k).0) at (class-blank x (y ∷ v) b) in omega (arith, e)
+    let e : class 47 ≡ 0 = rw ((comment_parts x y v k).0) at (class-blank x (y ∷ v) b) in
+    omega (arith, e)
 
 -- a token of two bytes or more does not begin with `//`
 no_slashes : (u : List ℕ) → IsToken (47 ∷ 47 ∷ u) → ⊥
@@ -45,7 +47,8 @@ no_slashes u t = elim (token_of 47 (47 ∷ u) t) [
     short (x ∷ w) l p = absurd (omega (arith, l))
 
 -- where a comment begins, no other unit that is as long begins
-slashes_begin : (text u v : List ℕ) → IsComment v → BeginsWith text v → IsToken u → BeginsWith text u → length v ≤ length u → ⊥
+slashes_begin : (text u v : List ℕ) → IsComment v → BeginsWith text v → IsToken u
+    → BeginsWith text u → length v ≤ length u → ⊥
 slashes_begin text u [] k g t h l = absurd cc
 slashes_begin text u (x ∷ []) k g t h l = absurd cc
 slashes_begin text [] (x ∷ y ∷ v) k g t h l = absurd (omega arith)
@@ -57,10 +60,13 @@ slashes_begin text (a ∷ b ∷ u) (x ∷ y ∷ v) k g t h l =
     let r : b ≡ 47 = (let f : b ≡ y = cc in f ∙ p.1) in
     no_slashes u (rw (q, r) at t)
 
-pub no_comment : (text : List ℕ) (n : ℕ) (kind : UnitKind) → FindsLongest IsUnit text (Some n) → HasKind kind (take n text) → kind ≢ Comment → FindsLongest IsComment text None
+pub no_comment : (text : List ℕ) (n : ℕ) (kind : UnitKind) → FindsLongest IsUnit text (Some n)
+    → HasKind kind (take n text) → kind ≢ Comment → FindsLongest IsComment text None
 no_comment text n Comment f k ne v c g = ne refl
-no_comment text n Blank f k ne v c g = comment_no_blank v c (only_blank text (take n text) v k f.1.begins (comment c) g)
-no_comment text n Token f k ne v c g = slashes_begin text (take n text) v c g k f.1.begins (f.1.longest v (comment c) g)
+no_comment text n Blank f k ne v c g =
+    comment_no_blank v c (only_blank text (take n text) v k f.1.begins (comment c) g)
+no_comment text n Token f k ne v c g =
+    slashes_begin text (take n text) v c g k f.1.begins (f.1.longest v (comment c) g)
 
 -- at a quote the unit is a string
 quoted : (u : List ℕ) → IsUnit (34 ∷ u) → IsString (34 ∷ u)
@@ -83,13 +89,15 @@ quoted u k = elim k [
 string_unit : (v : List ℕ) → IsString v → IsUnit v
 string_unit v s = token (is_token-string v s)
 
-pub unit_string : (text : List ℕ) (n : ℕ) → 0 < n → 0 < length text → get_or text 0 0 ≡ 34 → FindsLongest IsUnit text (Some n) → FindsLongest IsString text (Some n)
+pub unit_string : (text : List ℕ) (n : ℕ) → 0 < n → 0 < length text → get_or text 0 0 ≡ 34
+    → FindsLongest IsUnit text (Some n) → FindsLongest IsString text (Some n)
 unit_string [] n z h e f = absurd (omega arith)
 unit_string (b ∷ t) zero z h e f = absurd (omega arith)
 unit_string (b ∷ t) (suc n) z h e f = (
   f.0,
   record {
-    kind = subst (λ x. IsString (x ∷ take n t)) (sym e) (quoted (take n t) (subst (λ x. IsUnit (x ∷ take n t)) e f.1.kind));
+    kind = subst (λ x. IsString (x ∷ take n t)) (sym e)
+        (quoted (take n t) (subst (λ x. IsUnit (x ∷ take n t)) e f.1.kind));
     begins = f.1.begins;
     longest = λ v s g. f.1.longest v (string_unit v s) g;
   },
@@ -97,57 +105,55 @@ unit_string (b ∷ t) (suc n) z h e f = (
 
 -- ---- a string or a comment
 
-string_kept : (u : List ℕ) → IsString u → IsKept u
+pub string_kept : (u : List ℕ) → IsString u → IsKept u
 string_kept u h = rw h refl
 
-comment_kept : (u : List ℕ) → IsComment u → IsKept u
+pub comment_kept : (u : List ℕ) → IsComment u → IsKept u
 comment_kept u h = or_right (is_string u) (is_comment u) h
 
-not_both : (text u v : List ℕ) → IsString u → BeginsWith text u → IsComment v → BeginsWith text v → ⊥
-not_both text [] v s g c h = absurd cc
-not_both text (a ∷ u) [] s g c h = absurd cc
-not_both text (a ∷ u) (x ∷ []) s g c h = absurd cc
-not_both text (a ∷ u) (x ∷ y ∷ v) s g c h =
-    let p = (comment_parts x y v c).0 in
-    let q = (Decides-eqb a 34).0 (and_parts (a == 34) (is_string_rest u) s).0 in
-    let e : a ∷ (u ++ g.0) ≡ x ∷ (y ∷ (v ++ h.0)) = sym g.1 ∙ h.1 in
-    let f : a ≡ x = cc in
-    omega (arith, p, q, f)
-
-pub kept_comment : (text : List ℕ) (r : Option ℕ) → FindsLongest IsString text None → FindsLongest IsComment text r → FindsLongest IsKept text r
-kept_comment text None a f = λ v k g. elim (or_cases (is_string v) (is_comment v) k) [ inl s ↦ a v s g | inr c ↦ f v c g ]
+pub kept_comment : (text : List ℕ) (r : Option ℕ) → FindsLongest IsString text None
+    → FindsLongest IsComment text r → FindsLongest IsKept text r
+kept_comment text None a f =
+    λ v k g. elim (or_cases (is_string v) (is_comment v) k) [ inl s ↦ a v s g | inr c ↦ f v c g ]
 kept_comment text (Some n) a f = (
   f.0,
   record {
     kind = comment_kept (take n text) f.1.kind;
     begins = f.1.begins;
-    longest = λ v k g. elim (or_cases (is_string v) (is_comment v) k) [ inl s ↦ absurd (a v s g) | inr c ↦ f.1.longest v c g ];
+    longest = λ v k g. elim (or_cases (is_string v)
+        (is_comment v) k) [ inl s ↦ absurd (a v s g) | inr c ↦ f.1.longest v c g ];
   },
 )
 
 -- ---- lines
 
-pub last_found : (xs : List ℕ) (c x i : ℕ) → i + 1 ≡ length xs → Some x ≡ slice_get xs i → last_byte_or c xs ≡ x
+pub last_found : (xs : List ℕ) (c x i : ℕ) → i + 1 ≡ length xs → Some x ≡ slice_get xs i
+    → last_byte_or c xs ≡ x
 last_found [] c x i l e = absurd (omega arith)
 last_found (b ∷ []) c x zero l e = cc
 last_found (b ∷ []) c x (suc i) l e = absurd (omega arith)
 last_found (b ∷ d ∷ ds) c x zero l e = absurd (omega arith)
 last_found (b ∷ d ∷ ds) c x (suc i) l e = last_found (d ∷ ds) b x i (omega arith) e
 
-line_at : (text : List ℕ) (i : ℕ) → i < length text → ((k : ℕ) → k < i → (get_or text k 0 == 10) ≡ false) → (get_or text i 0 == 10) ≡ true → piece_lines text ≡ take (suc i) text ∷ piece_lines (drop (suc i) text)
+line_at : (text : List ℕ) (i : ℕ) → i < length text
+    → ((k : ℕ) → k < i → (get_or text k 0 == 10) ≡ false) → (get_or text i 0 == 10) ≡ true
+    → piece_lines text ≡ take (suc i) text ∷ piece_lines (drop (suc i) text)
 line_at [] i l n h = absurd (omega arith)
-line_at (b ∷ bs) zero l n h = let e = (Decides-eqb b 10).0 h in rw h (ap (λ z. (z ∷ []) ∷ piece_lines bs) (sym e))
+line_at (b ∷ bs) zero l n h =
+    let e = (Decides-eqb b 10).0 h in rw h (ap (λ z. (z ∷ []) ∷ piece_lines bs) (sym e))
 line_at (b ∷ bs) (suc i) l n h =
     let q : (b == 10) ≡ false = n zero (omega arith) in
     rw q (ap (with_first b) (line_at bs i (omega arith) (λ k m. n (suc k) (omega arith)) h))
 
-no_line : (text : List ℕ) → ((k : ℕ) → k < length text → (get_or text k 0 == 10) ≡ false) → piece_lines text ≡ text ∷ []
+no_line : (text : List ℕ) → ((k : ℕ) → k < length text → (get_or text k 0 == 10) ≡ false)
+    → piece_lines text ≡ text ∷ []
 no_line [] n = refl
 no_line (b ∷ bs) n =
     let q : (b == 10) ≡ false = n zero (omega arith) in
     rw q (ap (with_first b) (no_line bs (λ k m. n (suc k) (omega arith))))
 
-pub first_line : (text l r : List ℕ) (i : ℕ) → Some i ≡ position (λ b. b == 10) text → l ≡ take (i + 1) text → r ≡ drop (i + 1) text → IsFirstLine text l r
+pub first_line : (text l r : List ℕ) (i : ℕ) → Some i ≡ position (λ b. b == 10) text
+    → l ≡ take (i + 1) text → r ≡ drop (i + 1) text → IsFirstLine text l r
 first_line text l r i e f g =
     let p = position-Some (λ b. b == 10) text i 0 (sym e) in
     let h = line_at text i p.0 p.2 p.1 in
@@ -158,7 +164,8 @@ first_line text l r i e f g =
 pub only_line : (text : List ℕ) → None ≡ position (λ b. b == 10) text → IsFirstLine text text []
 only_line text e = inr (no_line text (λ k h. none_passes (λ b. b == 10) text (sym e) k 0 h), refl)
 
-pub cut_after : (text : List ℕ) (i : ℕ) → IsUtf8 text → Some i ≡ position (λ b. b == 10) text → IsCharBoundary text (i + 1)
+pub cut_after : (text : List ℕ) (i : ℕ) → IsUtf8 text → Some i ≡ position (λ b. b == 10) text
+    → IsCharBoundary text (i + 1)
 cut_after text i u e =
     let p = position-Some (λ b. b == 10) text i 0 (sym e) in
     let q = (Decides-eqb (get_or text i 0) 10).0 p.1 in
@@ -169,15 +176,20 @@ nothing_kept [] g k = absurd cc
 nothing_kept (x ∷ v) g k = absurd (let l = begins_fits [] (x ∷ v) g in omega (arith, l))
 
 -- nothing begins after the text's end
-pub none_past : (sought : Sought) (text : List ℕ) (k : ℕ) → length text ≤ k → BeginsNone (IsSought sought) (drop k text)
-none_past sought text k l v h g = nothing_kept v (subst (λ z. BeginsWith z v) (drop_all k text l) g) (kept sought v h)
+pub none_past : (sought : Sought) (text : List ℕ) (k : ℕ) → length text ≤ k
+    → BeginsNone (IsSought sought) (drop k text)
+none_past sought text k l v h g =
+    nothing_kept v (subst (λ z. BeginsWith z v) (drop_all k text l) g) (kept sought v h)
   where
     kept : (w : Sought) (u : List ℕ) → IsSought w u → IsKept u
     kept SoughtComment u h = comment_kept u h
     kept SoughtString u h = string_kept u h
     kept Either u h = h
 
-pub none_more : (sought : Sought) (text : List ℕ) (from i : ℕ) → ((k : ℕ) → from ≤ k → k < i → BeginsNone (IsSought sought) (drop k text)) → BeginsNone (IsSought sought) (drop i text) → (k : ℕ) → from ≤ k → k < i + 1 → BeginsNone (IsSought sought) (drop k text)
+pub none_more : (sought : Sought) (text : List ℕ) (from i : ℕ)
+    → ((k : ℕ) → from ≤ k → k < i → BeginsNone (IsSought sought) (drop k text))
+    → BeginsNone (IsSought sought) (drop i text) → (k : ℕ) → from ≤ k → k < i + 1
+    → BeginsNone (IsSought sought) (drop k text)
 none_more sought text from i n h k f l = go (split k)
   where
     split : (j : ℕ) → (j < i) ⊎ (i ≤ j)
@@ -185,9 +197,12 @@ none_more sought text from i n h k f l = go (split k)
 
     go : (k < i) ⊎ (i ≤ k) → BeginsNone (IsSought sought) (drop k text)
     go (inl a) = n k f a
-    go (inr a) = let e : i ≡ k = omega arith in subst (λ z. BeginsNone (IsSought sought) (drop z text)) e h
+    go (inr a) =
+        let e : i ≡ k = omega arith in subst (λ z. BeginsNone (IsSought sought) (drop z text)) e h
 
-pub none_all : (sought : Sought) (text : List ℕ) (from i : ℕ) → ((k : ℕ) → from ≤ k → k < i → BeginsNone (IsSought sought) (drop k text)) → length text ≤ i → (k : ℕ) → from ≤ k → BeginsNone (IsSought sought) (drop k text)
+pub none_all : (sought : Sought) (text : List ℕ) (from i : ℕ)
+    → ((k : ℕ) → from ≤ k → k < i → BeginsNone (IsSought sought) (drop k text)) → length text ≤ i
+    → (k : ℕ) → from ≤ k → BeginsNone (IsSought sought) (drop k text)
 none_all sought text from i n h k f = go (split k)
   where
     split : (j : ℕ) → (j < i) ⊎ (i ≤ j)
@@ -197,6 +212,7 @@ none_all sought text from i n h k f = go (split k)
     go (inl a) = n k f a
     go (inr a) = none_past sought text k (omega arith)
 
-pub last_of : (xs : List ℕ) (c x : ℕ) → Some x ≡ slice_get xs (length xs - 1) → last_byte_or c xs ≡ x
+pub last_of : (xs : List ℕ) (c x : ℕ) → Some x ≡ slice_get xs (length xs - 1)
+    → last_byte_or c xs ≡ x
 last_of [] c x e = absurd cc
 last_of (b ∷ bs) c x e = last_found (b ∷ bs) c x (length (b ∷ bs) - 1) (omega arith) e

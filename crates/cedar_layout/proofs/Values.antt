@@ -41,12 +41,15 @@ atoms-dot (text_then s r) b = ap (λ xs. word s ∷ xs) (atoms-dot r b)
 atoms-dot (line_then r) b = ap (λ xs. space_or_break ∷ xs) (atoms-dot r b)
 atoms-dot (line_or_nil_then r) b = ap (λ xs. nothing_or_break ∷ xs) (atoms-dot r b)
 atoms-dot (hard_then r) b = ap (λ xs. must_break ∷ xs) (atoms-dot r b)
-atoms-dot (nest_then n d r) b = ap (λ xs. atoms d ++ xs) (atoms-dot r b) ∙ sym (append_assoc (atoms d) (atoms r) (atoms b))
-atoms-dot (group_then d r) b = ap (λ xs. atoms d ++ xs) (atoms-dot r b) ∙ sym (append_assoc (atoms d) (atoms r) (atoms b))
+atoms-dot (nest_then n d r) b =
+    ap (λ xs. atoms d ++ xs) (atoms-dot r b) ∙ sym (append_assoc (atoms d) (atoms r) (atoms b))
+atoms-dot (group_then d r) b =
+    ap (λ xs. atoms d ++ xs) (atoms-dot r b) ∙ sym (append_assoc (atoms d) (atoms r) (atoms b))
 
 -- ---- what a `Document` means
 
-step_is_layer : (x : Document-F Document) → doc_step (map-Document Document Doc doc_of x) ≡ doc_layer x
+step_is_layer : (x : Document-F Document)
+    → doc_step (map-Document Document Doc doc_of x) ≡ doc_layer x
 step_is_layer Nil = refl
 step_is_layer (Text s) = refl
 step_is_layer Line = refl
@@ -64,7 +67,8 @@ doc_of_seq v = ap doc_of (sym (made.rolls-Seq v)) ∙ doc_of_roll (Seq v)
 
 pub docs_of-append : (ds es : List Document) → docs_of (ds ++ es) ≡ docs_of ds · docs_of es
 docs_of-append [] es = refl
-docs_of-append (d ∷ ds) es = ap (λ x. doc_of d · x) (docs_of-append ds es) ∙ sym (dot_assoc (doc_of d) (docs_of ds) (docs_of es))
+docs_of-append (d ∷ ds) es = ap (λ x. doc_of d · x) (docs_of-append ds es)
+    ∙ sym (dot_assoc (doc_of d) (docs_of ds) (docs_of es))
 
 pub doc_of_nil : doc_of Nil' ≡ nil
 doc_of_nil = ap doc_of (sym made.rolls-Nil) ∙ doc_of_roll Nil
@@ -81,7 +85,8 @@ doc_of_line_or_nil = ap doc_of (sym made.rolls-LineOrNil) ∙ doc_of_roll LineOr
 pub doc_of_hard : doc_of Hard' ≡ hard
 doc_of_hard = ap doc_of (sym made.rolls-Hard) ∙ doc_of_roll Hard
 
-pub doc_of_nest : (n : ℤ) (b : Box Document Global) → doc_of (made.Nest n b) ≡ nest n (doc_of b.value)
+pub doc_of_nest : (n : ℤ) (b : Box Document Global)
+    → doc_of (made.Nest n b) ≡ nest n (doc_of b.value)
 doc_of_nest n b = ap doc_of (sym (made.rolls-Nest n b)) ∙ doc_of_roll (Nest n b)
 
 pub doc_of_group : (b : Box Document Global) → doc_of (made.Group b) ≡ group (doc_of b.value)
@@ -90,11 +95,14 @@ doc_of_group b = ap doc_of (sym (made.rolls-Group b)) ∙ doc_of_roll (Group b)
 docs_of_one : (d : Document) → docs_of (d ∷ []) ≡ doc_of d
 docs_of_one d = dot-nil (doc_of d)
 
-pub docs_of-push : (ds : List Document) (d : Document) → docs_of (ds ++ d ∷ []) ≡ docs_of ds · doc_of d
+pub docs_of-push : (ds : List Document) (d : Document)
+    → docs_of (ds ++ d ∷ []) ≡ docs_of ds · doc_of d
 docs_of-push ds d = docs_of-append ds (d ∷ []) ∙ ap (λ x. docs_of ds · x) (docs_of_one d)
 
 -- a copy of one more document
-pub copy_step : (new all items rest : List Document) (r d : Document) (x : Doc) → new ≡ all ++ r ∷ [] → doc_of r ≡ doc_of d → docs_of items ≡ doc_of d · docs_of rest → docs_of all · docs_of items ≡ x → docs_of new · docs_of rest ≡ x
+pub copy_step : (new all items rest : List Document) (r d : Document) (x : Doc)
+    → new ≡ all ++ r ∷ [] → doc_of r ≡ doc_of d → docs_of items ≡ doc_of d · docs_of rest
+    → docs_of all · docs_of items ≡ x → docs_of new · docs_of rest ≡ x
 copy_step new all items rest r d x e same split h =
     ap (λ y. docs_of y · docs_of rest) e
     ∙ ap (λ y. y · docs_of rest) (docs_of-push all r ∙ ap (λ y. docs_of all · y) same)
@@ -102,35 +110,48 @@ copy_step new all items rest r d x e same split h =
     ∙ ap (λ y. docs_of all · y) (sym split)
     ∙ h
 
-pub interspersed-push : (s : Doc) (d : Doc) (ds : List Doc) (x : Doc) → interspersed s ((d ∷ ds) ++ x ∷ []) ≡ interspersed s (d ∷ ds) · (s · x)
+pub interspersed-push : (s : Doc) (d : Doc) (ds : List Doc) (x : Doc)
+    → interspersed s ((d ∷ ds) ++ x ∷ []) ≡ interspersed s (d ∷ ds) · (s · x)
 interspersed-push s d [] x = refl
 interspersed-push s d (e ∷ ds) x =
     ap (λ y. d · (s · y)) (interspersed-push s e ds x)
     ∙ ap (λ y. d · y) (sym (dot_assoc s (interspersed s (e ∷ ds)) (s · x)))
     ∙ sym (dot_assoc d (s · interspersed s (e ∷ ds)) (s · x))
 
-pub interspersed_first : (s : Doc) (all new ys : List Document) (d : Document) → all ≡ [] → new ≡ all ++ d ∷ [] → (all ≡ [] → ys ≡ []) → docs_of new ≡ interspersed s (map doc_of (ys ++ d ∷ []))
+pub interspersed_first : (s : Doc) (all new ys : List Document) (d : Document) → all ≡ []
+    → new ≡ all ++ d ∷ [] → (all ≡ [] → ys ≡ [])
+    → docs_of new ≡ interspersed s (map doc_of (ys ++ d ∷ []))
 interspersed_first s all new ys d e h k =
-    ap docs_of (h ∙ ap (λ y. y ++ d ∷ []) e) ∙ docs_of_one d ∙ ap (λ y. interspersed s (map doc_of (y ++ d ∷ []))) (sym (k e))
+    ap docs_of (h ∙ ap (λ y. y ++ d ∷ []) e) ∙ docs_of_one d
+    ∙ ap (λ y. interspersed s (map doc_of (y ++ d ∷ []))) (sym (k e))
 
-interspersed_more_at : (s : Doc) (all ys : List Document) (sep d : Document) → ys ≢ [] → doc_of sep ≡ s → docs_of all ≡ interspersed s (map doc_of ys) → docs_of ((all ++ sep ∷ []) ++ d ∷ []) ≡ interspersed s (map doc_of (ys ++ d ∷ []))
+interspersed_more_at : (s : Doc) (all ys : List Document) (sep d : Document) → ys ≢ []
+    → doc_of sep ≡ s → docs_of all ≡ interspersed s (map doc_of ys)
+    → docs_of ((all ++ sep ∷ []) ++ d ∷ []) ≡ interspersed s (map doc_of (ys ++ d ∷ []))
 interspersed_more_at s all [] sep d ne same h = absurd (ne refl)
 interspersed_more_at s all (y ∷ ys) sep d ne same h =
     docs_of-push (all ++ sep ∷ []) d
-    ∙ ap (λ x. x · doc_of d) (docs_of-push all sep ∙ ap (λ x. docs_of all · x) same ∙ ap (λ x. x · s) h)
+    ∙ ap (λ x. x · doc_of d) (docs_of-push all sep ∙ ap (λ x. docs_of all · x) same
+    ∙ ap (λ x. x · s) h)
     ∙ dot_assoc (interspersed s (map doc_of (y ∷ ys))) s (doc_of d)
     ∙ sym (interspersed-push s (doc_of y) (map doc_of ys) (doc_of d))
     ∙ ap (interspersed s) (sym (map-append doc_of (y ∷ ys) (d ∷ [])))
 
-pub interspersed_more : (s : Doc) (all mid new ys : List Document) (sep d : Document) → all ≢ [] → mid ≡ all ++ sep ∷ [] → new ≡ mid ++ d ∷ [] → (ys ≡ [] → all ≡ []) → doc_of sep ≡ s → docs_of all ≡ interspersed s (map doc_of ys) → docs_of new ≡ interspersed s (map doc_of (ys ++ d ∷ []))
+pub interspersed_more : (s : Doc) (all mid new ys : List Document) (sep d : Document) → all ≢ []
+    → mid ≡ all ++ sep ∷ [] → new ≡ mid ++ d ∷ [] → (ys ≡ [] → all ≡ []) → doc_of sep ≡ s
+    → docs_of all ≡ interspersed s (map doc_of ys)
+    → docs_of new ≡ interspersed s (map doc_of (ys ++ d ∷ []))
 interspersed_more s all mid new ys sep d ne hm hn k same h =
-    ap docs_of (hn ∙ ap (λ x. x ++ d ∷ []) hm) ∙ interspersed_more_at s all ys sep d (λ e. ne (k e)) same h
+    ap docs_of (hn ∙ ap (λ x. x ++ d ∷ []) hm)
+    ∙ interspersed_more_at s all ys sep d (λ e. ne (k e)) same h
 
-pub not_empty : (xs : List Document) (n : ℕ) (b : Bool) → n ≡ length xs → b ≡ nat_eq n 0 → b ≡ false → xs ≢ []
+pub not_empty : (xs : List Document) (n : ℕ) (b : Bool) → n ≡ length xs → b ≡ nat_eq n 0 → b ≡ false
+    → xs ≢ []
 not_empty [] n b h e f = λ _. false≢true (sym f ∙ e ∙ ap (λ m. nat_eq m 0) h)
 not_empty (x ∷ xs) n b h e f = λ g. cc
 
-pub is_nil : (xs : List Document) (n : ℕ) (b : Bool) → n ≡ length xs → b ≡ nat_eq n 0 → b ≡ true → xs ≡ []
+pub is_nil : (xs : List Document) (n : ℕ) (b : Bool) → n ≡ length xs → b ≡ nat_eq n 0 → b ≡ true
+    → xs ≡ []
 is_nil [] n b h e f = refl
 is_nil (x ∷ xs) n b h e f = absurd (omega (arith, eqb-true n 0 (sym e ∙ f)))
 

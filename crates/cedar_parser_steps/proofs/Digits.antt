@@ -12,11 +12,13 @@ last_test n h = rw h refl
 other_test : (b n : ℕ) → b ≢ 48 → (b == 48 && not (n == 0)) ≡ false
 other_test b n h = grind (arith, nat_tests)
 
-pub strip_zero : (bs rest : List ℕ) → bs ≡ 48 ∷ rest → (length rest == 0) ≡ false → without_zeros bs ≡ without_zeros rest
+pub strip_zero : (bs rest : List ℕ) → bs ≡ 48 ∷ rest → (length rest == 0) ≡ false
+    → without_zeros bs ≡ without_zeros rest
 unfolding without_zeros
 strip_zero bs rest e h = rw (e, zero_test (length rest) h) refl
 
-pub one_zero : (bs rest : List ℕ) → bs ≡ 48 ∷ rest → (length rest == 0) ≡ true → bs ≡ without_zeros bs
+pub one_zero : (bs rest : List ℕ) → bs ≡ 48 ∷ rest → (length rest == 0) ≡ true
+    → bs ≡ without_zeros bs
 unfolding without_zeros
 one_zero bs rest e h = rw (e, last_test (length rest) h) refl
 

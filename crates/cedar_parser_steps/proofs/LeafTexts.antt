@@ -5,6 +5,7 @@ use Rattle.std.specs.Str.{bytes_eq}
 use Rattle.std.proofs.Common.{refl, sym, ap, ◌∙◌, arith, append-nil}
 use Rattle.std.proofs.lemmas.Bool.Decides.{nat_tests}
 use Rattle.std.proofs.lemmas.Slice.Eq.{bytes_eq-Decides}
+use Rattle.std.proofs.lemmas.Bool.{and_parts, not-true, or_parts}
 use Rattle.cedar_tokens.specs.Units.{is_number}
 use Rattle.cedar_tokens.specs.Listing.{token_value, without_zeros}
 use Rattle.cedar_tokens.specs.declared.token.Span.{Span}
@@ -14,7 +15,7 @@ use Rattle.cedar_tokens.specs.Kinds.{code, is}
 use Rattle.cedar_tokens.specs.TokenKinds.{fixed_tokens, other_kind, kind_among, kind_of}
 use Rattle.cedar_grammar.specs.Trees.{Label, Forest, none, leaf, branch, yield}
 use Rattle.cedar_grammar.specs.TrailingCommas.{without_trailing, drop_if, closes_next}
-use Rattle.cedar_grammar.proofs.TextKinds.{number_kind}
+use Rattle.cedar_grammar.proofs.Texts.Kinds.{number_kind}
 use Rattle.cedar_tree.specs.Erased.{Erased}
 use Rattle.cedar_parser_steps.specs.Lexemes.{lexeme_nodes}
 use Rattle.cedar_tree.specs.NodeTrees.{is_node, span_of, end_of, spanned}
@@ -37,54 +38,49 @@ abbrev distinct : List (List ℕ × Kind) → Bool
 distinct [] = true
 distinct (f ∷ fs) = (not (is_open (code f.1)) && fresh (code f.1) fs) && distinct fs
 
-and_parts : (a b : Bool) → (a && b) ≡ true → (a ≡ true) × (b ≡ true)
-and_parts true b h = (refl, h)
-and_parts false b h = absurd cc
-
-not_true : (a : Bool) → not a ≡ true → a ≡ false
-not_true true h = absurd cc
-not_true false h = refl
-
 eq_swap : (m n : ℕ) → nat_eq m n ≡ nat_eq n m
 eq_swap m n = grind (arith, nat_tests)
 
 eq_self : (n : ℕ) → nat_eq n n ≡ true
 eq_self n = grind (arith, nat_tests)
 
-all_false : (a b c : Bool) → (a || (b || c)) ≡ false → (a ≡ false) × (b ≡ false) × (c ≡ false)
-all_false true b c h = absurd cc
-all_false false true c h = absurd cc
-all_false false false c h = (refl, refl, h)
-
 other_apart : (d : ℕ) (u : List ℕ) → is_open d ≡ false → nat_eq d (code (other_kind u)) ≡ false
-other_apart d [] h = (all_false (nat_eq d 17) (nat_eq d 20) (nat_eq d 21) h).0
-other_apart d (b ∷ bs) h = go (b == 34) (is_ascii_digit b) (all_false (nat_eq d 17) (nat_eq d 20) (nat_eq d 21) h)
+other_apart d [] h = (or_parts _ _ h).0
+other_apart d (b ∷ bs) h =
+    go (b == 34) (is_ascii_digit b) (or_parts _ _ h).0 (or_parts _ _ (or_parts _ _ h).1)
   where
-    go : (x y : Bool) → (nat_eq d 17 ≡ false) × (nat_eq d 20 ≡ false) × (nat_eq d 21 ≡ false) → nat_eq d (code (if x then K.Str else (if y then K.Number else K.Identifier))) ≡ false
-    go true y e = e.2
-    go false true e = e.1
-    go false false e = e.0
+    go : (x y : Bool) → nat_eq d 17 ≡ false → (nat_eq d 20 ≡ false) × (nat_eq d 21 ≡ false)
+        → nat_eq d (code (if x then K.Str else (if y then K.Number else K.Identifier))) ≡ false
+    go true y w e = e.1
+    go false true w e = e.0
+    go false false w e = w
 
-apart_from : (fs : List (List ℕ × Kind)) (u : List ℕ) (d : ℕ) → is_open d ≡ false → fresh d fs ≡ true → nat_eq d (code (kind_among fs u)) ≡ false
+apart_from : (fs : List (List ℕ × Kind)) (u : List ℕ) (d : ℕ) → is_open d ≡ false
+    → fresh d fs ≡ true → nat_eq d (code (kind_among fs u)) ≡ false
 apart_from [] u d h k = other_apart d u h
 apart_from (f ∷ fs) u d h k =
     let p = and_parts (not (nat_eq (code f.1) d)) (fresh d fs) k in
-    go (bytes_eq f.0 u) (eq_swap d (code f.1) ∙ not_true _ p.0) (apart_from fs u d h p.1)
+    go (bytes_eq f.0 u) (eq_swap d (code f.1) ∙ not-true _ p.0) (apart_from fs u d h p.1)
   where
-    go : (b : Bool) → nat_eq d (code f.1) ≡ false → nat_eq d (code (kind_among fs u)) ≡ false → nat_eq d (code (if b then f.1 else kind_among fs u)) ≡ false
+    go : (b : Bool) → nat_eq d (code f.1) ≡ false → nat_eq d (code (kind_among fs u)) ≡ false
+        → nat_eq d (code (if b then f.1 else kind_among fs u)) ≡ false
     go true i j = i
     go false i j = j
 
-shown_same : (fs : List (List ℕ × Kind)) (u : List ℕ) → distinct fs ≡ true → shown (code (kind_among fs u)) fs u ≡ u
+shown_same : (fs : List (List ℕ × Kind)) (u : List ℕ) → distinct fs ≡ true
+    → shown (code (kind_among fs u)) fs u ≡ u
 shown_same [] u h = refl
 shown_same (f ∷ fs) u h =
     let p = and_parts (not (is_open (code f.1)) && fresh (code f.1) fs) (distinct fs) h in
     let q = and_parts (not (is_open (code f.1))) (fresh (code f.1) fs) p.0 in
-    go (bytes_eq f.0 u) refl (apart_from fs u (code f.1) (not_true _ q.0) q.1) (shown_same fs u p.1)
+    go (bytes_eq f.0 u) refl (apart_from fs u (code f.1) (not-true _ q.0) q.1) (shown_same fs u p.1)
   where
-    go : (b : Bool) → bytes_eq f.0 u ≡ b → nat_eq (code f.1) (code (kind_among fs u)) ≡ false → shown (code (kind_among fs u)) fs u ≡ u
-        → (if nat_eq (code f.1) (code (if b then f.1 else kind_among fs u)) then f.0 else shown (code (if b then f.1 else kind_among fs u)) fs u) ≡ u
-    go true e i j = ap (λ x. if x then f.0 else shown (code f.1) fs u) (eq_self (code f.1)) ∙ (bytes_eq-Decides f.0 u).0 e
+    go : (b : Bool) → bytes_eq f.0 u ≡ b → nat_eq (code f.1) (code (kind_among fs u)) ≡ false
+        → shown (code (kind_among fs u)) fs u ≡ u
+        → (if nat_eq (code f.1) (code (if b then f.1 else kind_among fs u)) then f.0
+        else shown (code (if b then f.1 else kind_among fs u)) fs u) ≡ u
+    go true e i j = ap (λ x. if x then f.0 else shown (code f.1) fs u) (eq_self (code f.1))
+        ∙ (bytes_eq-Decides f.0 u).0 e
     go false e i j = ap (λ x. if x then f.0 else shown (code (kind_among fs u)) fs u) i ∙ j
 
 text_shown : (u : List ℕ) (k : Kind) → k ≡ kind_of u → shown (code k) fixed_tokens u ≡ u
@@ -97,29 +93,50 @@ value_same u k e h = go (is_number u) refl
     go true i = absurd (let m : is K.Number k ≡ true = ap (is K.Number) (e ∙ number_kind u i) in cc)
     go false i = refl
 
-pub own_text : (t : Lexeme) (k : Kind) → IsRight t → t.kind ≡ k → is K.Number k ≡ false → token_value t.text.now ≡ t.text.now
+pub own_text : (t : Lexeme) (k : Kind) → IsRight t → t.kind ≡ k → is K.Number k ≡ false
+    → token_value t.text.now ≡ t.text.now
 own_text t k r e h = value_same t.text.now k (sym e ∙ r.0) h
 
-pub fixed_text : (t : Lexeme) (k : Kind) → IsRight t → t.kind ≡ k → is K.Number k ≡ false → token_value t.text.now ≡ shown (code k) fixed_tokens t.text.now
+pub fixed_text : (t : Lexeme) (k : Kind) → IsRight t → t.kind ≡ k → is K.Number k ≡ false
+    → token_value t.text.now ≡ shown (code k) fixed_tokens t.text.now
 fixed_text t k r e h = own_text t k r e h ∙ sym (text_shown t.text.now k (sym e ∙ r.0))
 
 -- Rows without their trailing commas.
-pub kept_leaf : (t : Lexeme) (k : Kind) (f : Forest Label Lexeme) → t.kind ≡ k → is K.Comma k ≡ false → without_trailing kind (leaf t f) ≡ leaf t (without_trailing kind f)
-kept_leaf t k f e h = ap (λ b. drop_if (b && closes_next kind f) (leaf t (without_trailing kind f)) (without_trailing kind f)) (ap (is K.Comma) e ∙ h)
+pub kept_leaf : (t : Lexeme) (k : Kind) (f : Forest Label Lexeme) → t.kind ≡ k
+    → is K.Comma k ≡ false → without_trailing kind (leaf t f) ≡ leaf t (without_trailing kind f)
+kept_leaf t k f e h = ap (λ b. drop_if (b && closes_next kind f) (leaf t (without_trailing kind f))
+    (without_trailing kind f)) (ap (is K.Comma) e ∙ h)
 
-pub nodes_leaf : (t : Lexeme) (k : Kind) (f : Forest Label Lexeme) → t.kind ≡ k → is K.Comma k ≡ false → lexeme_nodes (leaf t f) ≡ leaf (token_value t.text.now) (lexeme_nodes f)
-nodes_leaf t k f e h = ap (λ b. spanned (λ (l : Lexeme). l.text.now) (λ (l : Lexeme). l.span) (drop_if (b && closes_next kind f) (leaf t (without_trailing kind f)) (without_trailing kind f))) (ap (is K.Comma) e ∙ h)
+pub nodes_leaf : (t : Lexeme) (k : Kind) (f : Forest Label Lexeme) → t.kind ≡ k
+    → is K.Comma k ≡ false
+    → lexeme_nodes (leaf t f) ≡ leaf (token_value t.text.now) (lexeme_nodes f)
+nodes_leaf t k f e h = ap (λ b.
+    spanned (λ (l : Lexeme). l.text.now) (λ (l : Lexeme). l.span) (drop_if (b && closes_next kind f)
+    (leaf t (without_trailing kind f)) (without_trailing kind f))) (ap (is K.Comma) e ∙ h)
 
-pub nodes_own : (t : Lexeme) (k : Kind) (f : Forest Label Lexeme) → IsRight t → t.kind ≡ k → is K.Comma k ≡ false → is K.Number k ≡ false → lexeme_nodes (leaf t f) ≡ leaf t.text.now (lexeme_nodes f)
-nodes_own t k f r e h i = nodes_leaf t k f e h ∙ ap (λ u. leaf u (lexeme_nodes f)) (own_text t k r e i)
+pub nodes_own : (t : Lexeme) (k : Kind) (f : Forest Label Lexeme) → IsRight t → t.kind ≡ k
+    → is K.Comma k ≡ false → is K.Number k ≡ false
+    → lexeme_nodes (leaf t f) ≡ leaf t.text.now (lexeme_nodes f)
+nodes_own t k f r e h i =
+    nodes_leaf t k f e h ∙ ap (λ u. leaf u (lexeme_nodes f)) (own_text t k r e i)
 
-pub nodes_fixed : (t : Lexeme) (k : Kind) (f : Forest Label Lexeme) → IsRight t → t.kind ≡ k → is K.Comma k ≡ false → is K.Number k ≡ false → lexeme_nodes (leaf t f) ≡ leaf (shown (code k) fixed_tokens t.text.now) (lexeme_nodes f)
-nodes_fixed t k f r e h i = nodes_own t k f r e h i ∙ ap (λ u. leaf u (lexeme_nodes f)) (sym (text_shown t.text.now k (sym e ∙ r.0)))
+pub nodes_fixed : (t : Lexeme) (k : Kind) (f : Forest Label Lexeme) → IsRight t → t.kind ≡ k
+    → is K.Comma k ≡ false → is K.Number k ≡ false
+    → lexeme_nodes (leaf t f) ≡ leaf (shown (code k) fixed_tokens t.text.now) (lexeme_nodes f)
+nodes_fixed t k f r e h i = nodes_own t k f r e h i
+    ∙ ap (λ u. leaf u (lexeme_nodes f)) (sym (text_shown t.text.now k (sym e ∙ r.0)))
 
-pub nodes_node : (l : Label) (s : Span) (parts : Erased) (p g : Forest Label Lexeme) → is_node l ≡ true → Stands s parts p → AreRight p → lexeme_nodes (branch l p g) ≡ branch (l, Some s) parts (lexeme_nodes g)
+pub nodes_node : (l : Label) (s : Span) (parts : Erased) (p g : Forest Label Lexeme)
+    → is_node l ≡ true → Stands s parts p → AreRight p
+    → lexeme_nodes (branch l p g) ≡ branch (l, Some s) parts (lexeme_nodes g)
 nodes_node l s parts p g n h r =
-    ap (λ b. branch (l, if b then span_of (λ (l : Lexeme). l.text.now) (λ (l : Lexeme). l.span) (yield (without_trailing kind p)) else None) (lexeme_nodes p) (lexeme_nodes g)) n
-    ∙ ap (λ z. branch (l, z) (lexeme_nodes p) (lexeme_nodes g)) h.place ∙ ap (λ z. branch (l, Some s) z (lexeme_nodes g)) (sym (h.same r))
+    ap (λ b. branch (
+      l,
+      if b then span_of (λ (l : Lexeme). l.text.now) (λ (l : Lexeme). l.span)
+          (yield (without_trailing kind p)) else None,
+    ) (lexeme_nodes p) (lexeme_nodes g)) n
+    ∙ ap (λ z. branch (l, z) (lexeme_nodes p) (lexeme_nodes g)) h.place
+    ∙ ap (λ z. branch (l, Some s) z (lexeme_nodes g)) (sym (h.same r))
 
 -- Spans of rows.
 abbrev pub Covers : Span → List Lexeme → Type 0
@@ -132,29 +149,42 @@ kept f = yield (without_trailing kind f)
 abbrev pub from_to : Span → Span → Span
 from_to s u = record { start = s.start; end = u.end }
 
-pub end_append : (s : Span) (xs : List Lexeme) (y : Lexeme) (ys : List Lexeme) → end_of (λ (l : Lexeme). l.text.now) (λ (l : Lexeme). l.span) s (xs ++ (y ∷ ys)) ≡ end_of (λ (l : Lexeme). l.text.now) (λ (l : Lexeme). l.span) y.span ys
+pub end_append : (s : Span) (xs : List Lexeme) (y : Lexeme) (ys : List Lexeme)
+    → end_of (λ (l : Lexeme). l.text.now) (λ (l : Lexeme). l.span) s (xs ++ (y ∷ ys))
+    ≡ end_of (λ (l : Lexeme). l.text.now) (λ (l : Lexeme). l.span) y.span ys
 end_append s [] y ys = refl
 end_append s (x ∷ xs) y ys = end_append x.span xs y ys
 
-pub covers_both : (xs ys : List Lexeme) (s u : Span) → Covers s xs → Covers u ys → Covers (from_to s u) (xs ++ ys)
+pub covers_both : (xs ys : List Lexeme) (s u : Span) → Covers s xs → Covers u ys
+    → Covers (from_to s u) (xs ++ ys)
 covers_both [] ys s u h k = absurd cc
 covers_both (x ∷ xs) [] s u h k = absurd cc
 covers_both (x ∷ xs) (y ∷ ys) s u h k =
     ap (λ e. Some (record { start = x.span.start; end = e })) (end_append x.span xs y ys)
-    ∙ ap (λ (z : Option Span). match_span z (λ w. Some (from_to x.span w))) k ∙ ap (λ (z : Option Span). match_span z (λ w. Some (from_to w u))) h
+    ∙ ap (λ (z : Option Span). match_span z (λ w. Some (from_to x.span w))) k
+    ∙ ap (λ (z : Option Span). match_span z (λ w. Some (from_to w u))) h
   where
     match_span : Option Span → (Span → Option Span) → Option Span
     match_span None f = None
     match_span (Some w) f = f w
 
-pub covers_leaf : (t : Lexeme) (k : Kind) → t.kind ≡ k → is K.Comma k ≡ false → Covers t.span (kept (leaf t none))
-covers_leaf t k e h = ap (λ f. span_of (λ (l : Lexeme). l.text.now) (λ (l : Lexeme). l.span) (yield f)) (kept_leaf t k none e h)
+pub covers_leaf : (t : Lexeme) (k : Kind) → t.kind ≡ k → is K.Comma k ≡ false
+    → Covers t.span (kept (leaf t none))
+covers_leaf t k e h =
+    ap (λ f. span_of (λ (l : Lexeme). l.text.now) (λ (l : Lexeme). l.span) (yield f))
+    (kept_leaf t k none e h)
 
-pub covers_more : (t : Lexeme) (k : Kind) (f : Forest Label Lexeme) (s : Span) → t.kind ≡ k → is K.Comma k ≡ false → Covers s (kept f) → Covers (from_to t.span s) (kept (leaf t f))
-covers_more t k f s e h c = ap (λ g. span_of (λ (l : Lexeme). l.text.now) (λ (l : Lexeme). l.span) (yield g)) (kept_leaf t k f e h) ∙ covers_both (t ∷ []) (kept f) t.span s refl c
+pub covers_more : (t : Lexeme) (k : Kind) (f : Forest Label Lexeme) (s : Span) → t.kind ≡ k
+    → is K.Comma k ≡ false → Covers s (kept f) → Covers (from_to t.span s) (kept (leaf t f))
+covers_more t k f s e h c =
+    ap (λ g. span_of (λ (l : Lexeme). l.text.now) (λ (l : Lexeme). l.span) (yield g))
+    (kept_leaf t k f e h) ∙ covers_both (t ∷ []) (kept f) t.span s refl c
 
-pub covers_node : (l : Label) (s : Span) (p : Forest Label Lexeme) → Covers s (kept p) → Covers s (kept (branch l p none))
-covers_node l s p c = ap (span_of (λ (l : Lexeme). l.text.now) (λ (l : Lexeme). l.span)) (append-nil (kept p)) ∙ c
+pub covers_node : (l : Label) (s : Span) (p : Forest Label Lexeme) → Covers s (kept p)
+    → Covers s (kept (branch l p none))
+covers_node l s p c =
+    ap (span_of (λ (l : Lexeme). l.text.now) (λ (l : Lexeme). l.span)) (append-nil (kept p)) ∙ c
 
-pub covers_nodes : (l : Label) (s u : Span) (p g : Forest Label Lexeme) → Covers s (kept p) → Covers u (kept g) → Covers (from_to s u) (kept (branch l p g))
+pub covers_nodes : (l : Label) (s u : Span) (p g : Forest Label Lexeme) → Covers s (kept p)
+    → Covers u (kept g) → Covers (from_to s u) (kept (branch l p g))
 covers_nodes l s u p g c d = covers_both (kept p) (kept g) s u c d

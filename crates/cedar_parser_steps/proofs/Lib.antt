@@ -17,3 +17,4 @@ pub mod Parsing
 pub mod Walking
 pub mod Digits
 pub mod Commenting
+pub mod Refusals

@@ -7,11 +7,13 @@ use Rattle.cedar_laws.proofs.Scanned.{scans_append}
 use Rattle.cedar_pieces.specs.Pieces.{IsPiece}
 
 -- a piece, and a piece of what follows it, are a piece together
-pub piece_more : (text : List ℕ) (at n : ℕ) → IsPiece text at → IsPiece (drop at text) n → IsPiece text (at + n)
+pub piece_more : (text : List ℕ) (at n : ℕ) → IsPiece text at → IsPiece (drop at text) n
+    → IsPiece text (at + n)
 piece_more text at n p q = record {
   before = front ++ q.before;
   line = q.line;
-  scans = rw (shape, sym (drop-drop n at text)) (scans_append front back text (drop at text) (drop n (drop at text)) p.scans q.scans);
+  scans = rw (shape, sym (drop-drop n at text))
+      (scans_append front back text (drop at text) (drop n (drop at text)) p.scans q.scans);
   place = rw (shape, sum_by-append length front back) (omega (arith, p.place, q.place));
   behind = rw (sym (drop-drop n at text)) q.behind;
 }

@@ -2,6 +2,7 @@ mod PlaceLaws
 pub mod Checked
 pub mod Outputs
 pub mod Comparisons
+pub mod EqualLists
 pub mod SamePolicies
 pub mod LaidOutTokens
 pub mod OutputPolicies

@@ -10,24 +10,24 @@ use Rattle.cedar_laws.specs.Canonical.{IsOutputOf}
 use Rattle.cedar_laws.specs.Output.{closing_text, paragraphs}
 use Rattle.cedar_pieces.specs.Pieces.{IsPiece}
 use Rattle.cedar_pieces.proofs.Scans.{piece_more}
-use Rattle.cedar_pieces.proofs.Prefixes.{through, piece_inside, piece_before, piece_after, piece_within, piece_alone}
+use Rattle.cedar_pieces.proofs.Prefixes.{through, piece_inside, piece_before, piece_within, piece_alone, through_after}
 use Rattle.cedar_pieces.proofs.Accepted.{accepted_join}
 use Rattle.cedar_pieces.proofs.Refusals.{rest_is_empty}
 use Rattle.cedar_cst.specs.PolicyReaders.{Position, HasRead, GoesOn, HasEnded}
 use Rattle.cedar_cst.proofs.Readers.{read_nothing}
+use Rattle.cedar_cst.proofs.PartLaws.{append_not_nil}
 use Rattle.cedar_policy_formatter.proofs.PieceOutputs.{outputs_join, outputs_close, closing_output}
 
--- out is what is written for the text's pieces up to the byte at: nothing before the first, then their output
+-- out is what is written for the text's pieces up to the byte at:
+-- nothing before the first, then their output
 abbrev pub LaidOut : ℕ → ℤ → List ℕ → ℕ → List ℕ → Type 0
-LaidOut w i text at out = ((at ≡ 0) × (out ≡ [])) ⊎ (IsPiece text at × IsOutputOf w i (take at text) out)
+LaidOut w i text at out =
+    ((at ≡ 0) × (out ≡ [])) ⊎ (IsPiece text at × IsOutputOf w i (take at text) out)
 
 -- an output has bytes
-ends_in_feed : (x y : List ℕ) → x ++ (10 ∷ y) ≡ [] → ⊥
-ends_in_feed [] y e = absurd cc
-ends_in_feed (b ∷ x) y e = absurd cc
-
 output_is_some : (w : ℕ) (i : ℤ) (x y : List ℕ) → IsOutputOf w i x y → y ≡ [] → ⊥
-output_is_some w i x y o e = ends_in_feed (paragraphs o.output.texts) (closing_text o.list.closing) (sym o.output.written ∙ e)
+output_is_some w i x y o e = append_not_nil (paragraphs o.output.texts) 10
+    (closing_text o.list.closing) (sym o.output.written ∙ e)
 
 -- whether a list is empty
 abbrev pub TellsEmpty : Bool → List ℕ → Type 0
@@ -35,66 +35,104 @@ TellsEmpty true out = out ≡ []
 TellsEmpty false out = out ≡ [] → ⊥
 
 -- a layout has bytes, and so has the result of appending it
-pub some_more : (w : ℕ) (i : ℤ) (text out more layout : List ℕ) → IsOutputOf w i text layout → more ≡ out ++ layout → TellsEmpty false more
-some_more w i text out more layout o e n = output_is_some w i text layout o (no_end out layout (sym e ∙ n))
+pub some_more : (w : ℕ) (i : ℤ) (text out more layout : List ℕ) → IsOutputOf w i text layout
+    → more ≡ out ++ layout → TellsEmpty false more
+some_more w i text out more layout o e n =
+    output_is_some w i text layout o (no_end out layout (sym e ∙ n))
   where
     no_end : (xs ys : List ℕ) → xs ++ ys ≡ [] → ys ≡ []
     no_end [] ys h = h
     no_end (x ∷ xs) ys h = absurd cc
 
 -- the bytes of a reader's piece are a piece
-pub piece_of : (old new : Position) (piece : List ℕ) → GoesOn old new piece → IsPiece piece (length piece)
-piece_of old new piece g = subst (λ x. IsPiece x (length piece)) (sym g.bytes) (piece_alone (drop old.at old.text) (length piece) g.first.piece)
+pub piece_of : (old new : Position) (piece : List ℕ) → GoesOn old new piece
+    → IsPiece piece (length piece)
+piece_of old new piece g = subst (λ x. IsPiece x (length piece)) (sym g.bytes)
+    (piece_alone (drop old.at old.text) (length piece) g.first.piece)
 
 module _ (w : ℕ) (i : ℤ) (text : List ℕ) where
-  pub laid_begun : (reader : Position) (out : List ℕ) → HasRead reader text [] → out ≡ [] → LaidOut w i text reader.at out
+  pub laid_begun : (reader : Position) (out : List ℕ) → HasRead reader text [] → out ≡ []
+      → LaidOut w i text reader.at out
   laid_begun reader out r e = inl (read_nothing reader text r, e)
 
-  laid_next : (at n : ℕ) (out z new : List ℕ) (empty : Bool) → TellsEmpty empty out → LaidOut w i text at out → IsPiece (drop at text) n → IsOutputOf w i (take n (drop at text)) z
-      → new ≡ (out ++ (if not empty then line_feed ∷ [] else [])) ++ z → LaidOut w i text (at + n) new
+  laid_next : (at n : ℕ) (out z new : List ℕ) (empty : Bool) → TellsEmpty empty out
+      → LaidOut w i text at out → IsPiece (drop at text) n
+      → IsOutputOf w i (take n (drop at text)) z
+      → new ≡ (out ++ (if not empty then line_feed ∷ [] else [])) ++ z
+      → LaidOut w i text (at + n) new
   laid_next at n out z new true t (inl (b, e)) q o h =
       let p : IsPiece text n = subst (λ k. IsPiece (drop k text) n) b q in
       let first : new ≡ z = h ∙ ap (λ x. (x ++ []) ++ z) e in
       let same : n ≡ at + n = omega (arith, b) in
-      subst (λ k. LaidOut w i text k new) same (inr (p, subst (λ x. IsOutputOf w i (take n text) x) (sym first) (subst (λ k. IsOutputOf w i (take n (drop k text)) z) b o)))
+      subst (λ k. LaidOut w i text k new) same (inr (
+        p,
+        subst (λ x. IsOutputOf w i (take n text) x) (sym first)
+            (subst (λ k. IsOutputOf w i (take n (drop k text)) z) b o),
+      ))
   laid_next at n out z new false t (inl (b, e)) q o h = absurd (t e)
-  laid_next at n out z new true t (inr (p, o)) q r h = absurd (output_is_some w i (take at text) out o t)
+  laid_next at n out z new true t (inr (p, o)) q r h =
+      absurd (output_is_some w i (take at text) out o t)
   laid_next at n out z new false t (inr (p, o)) q r h =
       let u = through text at n in
       let s : IsPiece u at = piece_within text at n p q in
       let front : take at u ≡ take at text = piece_before text at n p q in
-      let back : drop at u ≡ take n (drop at text) = piece_after text at n in
-      let whole : (m : ℕ) × IsPiece (drop at u) m × (m ≡ length (drop at u)) = (n, subst (λ z. IsPiece z n) (sym back) (piece_alone (drop at text) n q), sym (ap length back ∙ length-take-le n (drop at text) (piece_inside (drop at text) n q))) in
+      let back : drop at u ≡ take n (drop at text) = through_after text at n in
+      let whole : (m : ℕ) × IsPiece (drop at u) m × (m ≡ length (drop at u)) = (
+        n,
+        subst (λ z. IsPiece z n) (sym back) (piece_alone (drop at text) n q),
+        sym (ap length back ∙ length-take-le n (drop at text) (piece_inside (drop at text) n q)),
+      ) in
       let a : IsOutputOf w i (take at u) out = subst (λ x. IsOutputOf w i x out) (sym front) o in
       let b : IsOutputOf w i (drop at u) z = subst (λ x. IsOutputOf w i x z) (sym back) r in
       let joined : new ≡ out ++ (10 ∷ z) = h ∙ append_assoc out (10 ∷ []) z in
-      inr (piece_more text at n p q, subst (λ x. IsOutputOf w i u x) (sym joined) (outputs_join w i u at out z (accepted_join u at s a.accepted b.accepted) s whole a b))
+      inr (
+        piece_more text at n p q,
+        subst (λ x. IsOutputOf w i u x) (sym joined)
+            (outputs_join w i u at out z (accepted_join u at s a.accepted b.accepted) s whole a b),
+      )
 
   -- one more piece
-  pub laid_more : (old new : Position) (piece out layout more : List ℕ) (empty : Bool) → old.text ≡ text → GoesOn old new piece → TellsEmpty empty out → LaidOut w i text old.at out → IsOutputOf w i piece layout
-      → more ≡ (out ++ (if not empty then line_feed ∷ [] else [])) ++ layout → LaidOut w i text new.at more
+  pub laid_more : (old new : Position) (piece out layout more : List ℕ) (empty : Bool)
+      → old.text ≡ text → GoesOn old new piece → TellsEmpty empty out → LaidOut w i text old.at out
+      → IsOutputOf w i piece layout
+      → more ≡ (out ++ (if not empty then line_feed ∷ [] else [])) ++ layout
+      → LaidOut w i text new.at more
   laid_more old new piece out layout more empty same g t l o h =
       let n = length piece in
-      let bytes : piece ≡ take n (drop old.at text) = g.bytes ∙ ap (λ x. take n (drop old.at x)) same in
+      let bytes : piece ≡ take n (drop old.at text) =
+      g.bytes ∙ ap (λ x. take n (drop old.at x)) same in
       subst (λ k. LaidOut w i text k more) (sym g.further)
-      (laid_next old.at n out layout more empty t l (subst (λ x. IsPiece (drop old.at x) n) same g.first.piece) (subst (λ x. IsOutputOf w i x layout) bytes o) h)
+      (laid_next old.at n out layout more empty t l (subst (λ x. IsPiece (drop old.at x) n) same
+      g.first.piece) (subst (λ x. IsOutputOf w i x layout) bytes o) h)
 
-  laid_last : (at : ℕ) (out new : List ℕ) (empty : Bool) (us : List (List ℕ)) → TellsEmpty empty out → LaidOut w i text at out → Accepted text → SplitsInto (drop at text) us → only_tokens us ≡ []
-      → new ≡ (out ++ (if empty then line_feed ∷ [] else [])) ++ closing_text (comments (drop at text)) → IsOutputOf w i text new
+  laid_last : (at : ℕ) (out new : List ℕ) (empty : Bool) (us : List (List ℕ)) → TellsEmpty empty out
+      → LaidOut w i text at out → Accepted text → SplitsInto (drop at text) us → only_tokens us ≡ []
+      → new ≡ (out ++ (if empty then line_feed ∷ [] else [])) ++ closing_text (comments
+      (drop at text)) → IsOutputOf w i text new
   laid_last at out new true us t (inl (b, e)) a s n h =
       let all : drop at text ≡ text = ap (λ k. drop k text) b in
-      let first : new ≡ 10 ∷ closing_text (comments text) = h ∙ (ap (λ x. (x ++ (10 ∷ [])) ++ closing_text (comments (drop at text))) e ∙ ap (λ x. 10 ∷ closing_text (comments x)) all) in
-      subst (λ x. IsOutputOf w i text x) (sym first) (closing_output w i text us a (subst (λ x. SplitsInto x us) all s) n)
+      let first : new ≡ 10 ∷ closing_text (comments text) =
+      h ∙ (ap (λ x. (x ++ (10 ∷ [])) ++ closing_text (comments (drop at text))) e
+      ∙ ap (λ x. 10 ∷ closing_text (comments x)) all) in
+      subst (λ x. IsOutputOf w i text x) (sym first)
+      (closing_output w i text us a (subst (λ x. SplitsInto x us) all s) n)
   laid_last at out new false us t (inl (b, e)) a s n h = absurd (t e)
-  laid_last at out new true us t (inr (p, o)) a s n h = absurd (output_is_some w i (take at text) out o t)
+  laid_last at out new true us t (inr (p, o)) a s n h =
+      absurd (output_is_some w i (take at text) out o t)
   laid_last at out new false us t (inr (p, o)) a s n h =
-      let more : new ≡ out ++ closing_text (comments (drop at text)) = h ∙ ap (λ z. z ++ closing_text (comments (drop at text))) (append-nil out) in
+      let more : new ≡ out ++ closing_text (comments (drop at text)) =
+      h ∙ ap (λ z. z ++ closing_text (comments (drop at text))) (append-nil out) in
       subst (λ x. IsOutputOf w i text x) (sym more) (outputs_close w i text at us out a p s n o)
 
   -- after the last piece come the closing comments
-  pub laid_ends : (reader : Position) (rest out new : List ℕ) (empty : Bool) → reader.text ≡ text → HasEnded reader → rest ≡ drop reader.at reader.text → TellsEmpty empty out → LaidOut w i text reader.at out
-      → new ≡ (out ++ (if empty then line_feed ∷ [] else [])) ++ closing_text (comments rest) → IsOutputOf w i text new
+  pub laid_ends : (reader : Position) (rest out new : List ℕ) (empty : Bool) → reader.text ≡ text
+      → HasEnded reader → rest ≡ drop reader.at reader.text → TellsEmpty empty out
+      → LaidOut w i text reader.at out
+      → new ≡ (out ++ (if empty then line_feed ∷ [] else [])) ++ closing_text (comments rest)
+      → IsOutputOf w i text new
   laid_ends reader rest out new empty same x r t l h =
       let left = rest_is_empty (drop reader.at reader.text) x.none x.rest in
       let bytes : rest ≡ drop reader.at text = r ∙ ap (λ z. drop reader.at z) same in
-      laid_last reader.at out new empty left.0 t l (subst Accepted same x.accepted) (subst (λ z. SplitsInto (drop reader.at z) left.0) same left.1) left.2 (h ∙ ap (λ z. (out ++ (if empty then line_feed ∷ [] else [])) ++ closing_text (comments z)) bytes)
+      laid_last reader.at out new empty left.0 t l (subst Accepted same x.accepted)
+      (subst (λ z. SplitsInto (drop reader.at z) left.0) same left.1) left.2 (h ∙ ap
+      (λ z. (out ++ (if empty then line_feed ∷ [] else [])) ++ closing_text (comments z)) bytes)

@@ -9,10 +9,12 @@ use Rattle.cedar_positions.specs.declared.positions.Encoding.{Encoding}
 use Rattle.cedar_positions.specs.Positions.{BeginsLine, ends_line, lines_before, unit_count, units}
 
 -- one more byte ends one more line, or none
-pub lines_before-end : (text : List ℕ) (n : ℕ) → ends_line text n ≡ true → lines_before text (n + 1) ≡ lines_before text n + 1
+pub lines_before-end : (text : List ℕ) (n : ℕ) → ends_line text n ≡ true
+    → lines_before text (n + 1) ≡ lines_before text n + 1
 lines_before-end text n h = rw (add-one, h) (omega arith)
 
-pub lines_before-same : (text : List ℕ) (n : ℕ) → ends_line text n ≡ false → lines_before text (n + 1) ≡ lines_before text n
+pub lines_before-same : (text : List ℕ) (n : ℕ) → ends_line text n ≡ false
+    → lines_before text (n + 1) ≡ lines_before text n
 lines_before-same text n h = rw (add-one, h) (omega arith)
 
 -- more bytes end no fewer lines
@@ -24,7 +26,8 @@ lines_before-le text k (suc n) h = elim (cases_lt n k) [
 ]
 
 -- after a byte that ends a line, the next one begins
-pub BeginsLine-next : (text : List ℕ) (line i : ℕ) → i < length text → lines_before text i ≡ line → ends_line text i ≡ true → BeginsLine text (line + 1) (i + 1)
+pub BeginsLine-next : (text : List ℕ) (line i : ℕ) → i < length text → lines_before text i ≡ line
+    → ends_line text i ≡ true → BeginsLine text (line + 1) (i + 1)
 BeginsLine-next text line i within lines ends = record {
   within = omega arith;
   lines = lines_before-end text i ends ∙ ap (λ n. n + 1) lines;
@@ -32,7 +35,8 @@ BeginsLine-next text line i within lines ends = record {
 }
 
 -- a line begins at one place
-pub BeginsLine-unique : (text : List ℕ) (line s t : ℕ) → BeginsLine text line s → BeginsLine text line t → s ≡ t
+pub BeginsLine-unique : (text : List ℕ) (line s t : ℕ) → BeginsLine text line s
+    → BeginsLine text line t → s ≡ t
 BeginsLine-unique text line s t p q = elim (cases_lt s t) [
   | inl below ↦ absurd (omega (arith, q.first s below, p.lines))
   | inr above ↦ elim (cases_lt t s) [
@@ -42,20 +46,29 @@ BeginsLine-unique text line s t p q = elim (cases_lt s t) [
 ]
 
 -- the units through one more byte
-pub units-next : (e : Encoding) (text : List ℕ) (s i : ℕ) → s ≤ i → i < length text → units e (slice_range text s (i + 1)) ≡ units e (slice_range text s i) + unit_count e (get_or text i 0)
+pub units-next : (e : Encoding) (text : List ℕ) (s i : ℕ) → s ≤ i → i < length text → units e
+    (slice_range text s (i + 1)) ≡ units e (slice_range text s i) + unit_count e (get_or text i 0)
 units-next e text s i from within =
     let more : (i + 1) - s ≡ (i - s) + 1 = omega arith in
     let place : s + (i - s) ≡ i = omega arith in
     ap (λ n. sum_by (unit_count e) (take n (drop s text))) more
     ∙ (sum_by_more (unit_count e) (drop s text) (i - s) 0 (simp length-drop (omega arith))
-    ∙ ap (λ b. units e (slice_range text s i) + unit_count e b) (get_or-drop s text (i - s) 0 ∙ ap (λ n. get_or text n 0) place))
+    ∙ ap (λ b. units e (slice_range text s i) + unit_count e b) (get_or-drop s text (i - s) 0
+    ∙ ap (λ n. get_or text n 0) place))
 
 -- more bytes have no fewer units
-pub units-le : (e : Encoding) (text : List ℕ) (s i j : ℕ) → s ≤ i → i ≤ j → j ≤ length text → units e (slice_range text s i) ≤ units e (slice_range text s j)
+pub units-le : (e : Encoding) (text : List ℕ) (s i j : ℕ) → s ≤ i → i ≤ j → j ≤ length text
+    → units e (slice_range text s i) ≤ units e (slice_range text s j)
 units-le e text s i zero from upto within = let same : i ≡ 0 = omega arith in rw same (omega arith)
 units-le e text s i (suc j) from upto within = elim (cases_lt j i) [
   | inl above ↦ let same : i ≡ suc j = omega arith in rw same (omega arith)
-  | inr below ↦ omega (arith, units-le e text s i j from below (omega arith), subst (λ n. units e (slice_range text s n) ≡ units e (slice_range text s j) + unit_count e (get_or text j 0)) (add-one j) (units-next e text s j (omega arith) (omega arith)))
+  | inr below ↦ omega (
+    arith,
+    units-le e text s i j from below (omega arith),
+    subst (λ n. units e (slice_range text s n)
+        ≡ units e (slice_range text s j) + unit_count e (get_or text j 0)) (add-one j)
+        (units-next e text s j (omega arith) (omega arith)),
+  )
 ]
 
 -- only an ASCII character ends a line

@@ -16,7 +16,12 @@ is_plain : is_simple cedar_app ≡ true
 unfolding clap_on_literals
 is_plain = refl
 
-pub matched : (words : List Text) (a : App) (r : Result ArgMatches Error) → a ≡ cedar_app → IfOk r (HasMatchesOf a words) → (is_simple_and_free a ≡ true → FailsBy (fault_of a words) r) → MatchResult r (HasMatches words) (λ e. HasFault words (kind_of e))
-matched words a (Ok m) is has fails =
-    (ap (λ (b : App). fault_of b words) (sym is) ∙ fails (ap is_simple_and_free is ∙ is_free), (has (ap is_simple is ∙ is_plain)).1 ∙ ap (λ (b : App). subcommand_of b words) is)
-matched words a (Err e) is has fails = subst (λ (b : App). HasKind (fault_of b words) e) is (fails (ap is_simple_and_free is ∙ is_free))
+pub matched : (words : List Text) (a : App) (r : Result ArgMatches Error) → a ≡ cedar_app
+    → IfOk r (HasMatchesOf a words) → (is_simple_and_free a ≡ true → FailsBy (fault_of a words) r)
+    → MatchResult r (HasMatches words) (λ e. HasFault words (kind_of e))
+matched words a (Ok m) is has fails = (
+  ap (λ (b : App). fault_of b words) (sym is) ∙ fails (ap is_simple_and_free is ∙ is_free),
+  (has (ap is_simple is ∙ is_plain)).1 ∙ ap (λ (b : App). subcommand_of b words) is,
+)
+matched words a (Err e) is has fails = subst (λ (b : App). HasKind (fault_of b words) e) is
+    (fails (ap is_simple_and_free is ∙ is_free))

@@ -14,36 +14,57 @@ use Rattle.cedar_policy_formatter.specs.Compared.{HaveEqualLists}
 use Rattle.cedar_ranges.specs.Pieces.{ArePieces, IsTouchedSpan}
 use Rattle.cedar_ranges.specs.Edits.{IsPartOf, edited, within, feeds_after, LaysOut, LaysOutPolicies}
 use Rattle.cedar_ranges.specs.Inside.Parts.{HoldsPieces}
-use Rattle.cedar_ranges.proofs.Chains.{chain_parts, chain_place, chain_piece, place_accepted, place_inside, place_boundary, place_more}
+use Rattle.cedar_cst.proofs.Places.{place_accepted, place_boundary}
+use Rattle.cedar_ranges.proofs.Chains.{chain_parts, chain_place, chain_piece}
 use Rattle.cedar_ranges.proofs.Keeping.{Alike, equal_lists, laid_out_alike, same_alike}
 use Rattle.cedar_ranges.proofs.Standing.{stands_in_output}
+use Rattle.cedar_cst.proofs.Readers.{ends_inside, ends_more}
 
 -- a range touches whole pieces
-pub touched_pieces : (text : List ℕ) (range span : Span) → IsTouchedSpan text range span → HoldsPieces text span
-touched_pieces text range span t = record { first = subst (EndsPiece text) (sym t.start) (chain_place t.before text (drop (sum_by length t.before) text) before.0); pieces = go t.touched inner.0 t.end }
+pub touched_pieces : (text : List ℕ) (range span : Span) → IsTouchedSpan text range span
+    → HoldsPieces text span
+touched_pieces text range span t = record {
+  first = subst (EndsPiece text) (sym t.start)
+      (chain_place t.before text (drop (sum_by length t.before) text) before.0);
+  pieces = go t.touched inner.0 t.end;
+}
   where
-    before : ArePieces t.before text (drop (sum_by length t.before) text) × ArePieces (t.touched ++ t.after) (drop (sum_by length t.before) text) t.rest
+    before : ArePieces t.before text (drop (sum_by length t.before) text)
+        × ArePieces (t.touched ++ t.after) (drop (sum_by length t.before) text) t.rest
     before = chain_parts t.before (t.touched ++ t.after) text t.rest t.pieces
 
     rest : List ℕ
     rest = drop (sum_by length t.before) text
 
-    inner : ArePieces t.touched (drop (sum_by length t.before) text) (drop (sum_by length t.touched) (drop (sum_by length t.before) text)) × ArePieces t.after (drop (sum_by length t.touched) (drop (sum_by length t.before) text)) t.rest
+    inner : ArePieces t.touched (drop (sum_by length t.before) text)
+        (drop (sum_by length t.touched) (drop (sum_by length t.before) text)) × ArePieces t.after
+        (drop (sum_by length t.touched) (drop (sum_by length t.before) text)) t.rest
     inner = chain_parts t.touched t.after (drop (sum_by length t.before) text) t.rest before.1
 
-    go : (ps : List (List ℕ)) → ArePieces ps (drop (sum_by length t.before) text) (drop (sum_by length t.touched) (drop (sum_by length t.before) text)) → span.end ≡ span.start + sum_by length ps
+    go : (ps : List (List ℕ)) → ArePieces ps (drop (sum_by length t.before) text) (drop
+        (sum_by length t.touched) (drop (sum_by length t.before) text))
+        → span.end ≡ span.start + sum_by length ps
         → (span.start ≡ span.end) ⊎ IsPiece (drop span.start text) (span.end - span.start)
     go [] s e = inl (omega (arith, e))
     go (p ∷ ps) s e =
         let len : sum_by length (p ∷ ps) ≡ span.end - span.start = omega (arith, e) in
-        inr (subst (λ k. IsPiece (drop k text) (span.end - span.start)) (sym t.start) (subst (IsPiece (drop (sum_by length t.before) text)) len (chain_piece p ps (drop (sum_by length t.before) text) (drop (sum_by length t.touched) (drop (sum_by length t.before) text)) s)))
+        inr (subst (λ k. IsPiece (drop k text) (span.end - span.start)) (sym t.start) (subst
+        (IsPiece (drop (sum_by length t.before) text)) len (chain_piece p ps (drop (sum_by length
+        t.before) text) (drop (sum_by length t.touched) (drop (sum_by length t.before) text)) s)))
 
-ends_order : (text : List ℕ) (range span : Span) → IsTouchedSpan text range span → span.start ≤ span.end
+ends_order : (text : List ℕ) (range span : Span) → IsTouchedSpan text range span
+    → span.start ≤ span.end
 ends_order text range span t = omega (arith, t.end)
 
 -- so the span is a part of the text
-pub part_of_text : (text : List ℕ) (range span : Span) → IsUtf8 text → Accepted text → IsTouchedSpan text range span → IsPartOf text span
-part_of_text text range span u a t = record { order = order; inside = place_inside text span.end (last held.pieces); first = place_boundary text span.start held.first u a; last = place_boundary text span.end (last held.pieces) u a }
+pub part_of_text : (text : List ℕ) (range span : Span) → IsUtf8 text → Accepted text
+    → IsTouchedSpan text range span → IsPartOf text span
+part_of_text text range span u a t = record {
+  order = order;
+  inside = ends_inside text span.end (last held.pieces);
+  first = place_boundary text span.start held.first u a;
+  last = place_boundary text span.end (last held.pieces) u a;
+}
   where
     order : span.start ≤ span.end
     order = ends_order text range span t
@@ -51,40 +72,57 @@ part_of_text text range span u a t = record { order = order; inside = place_insi
     held : HoldsPieces text span
     held = touched_pieces text range span t
 
-    last : (span.start ≡ span.end) ⊎ IsPiece (drop span.start text) (span.end - span.start) → EndsPiece text span.end
+    last : (span.start ≡ span.end) ⊎ IsPiece (drop span.start text) (span.end - span.start)
+        → EndsPiece text span.end
     last (inl e) = subst (EndsPiece text) e held.first
-    last (inr p) = let e : span.start + (span.end - span.start) ≡ span.end = omega (arith, order) in subst (EndsPiece text) e (place_more text span.start (span.end - span.start) held.first p)
+    last (inr p) =
+        let e : span.start + (span.end - span.start) ≡ span.end = omega (arith, order) in
+        subst (EndsPiece text) e (ends_more text span.start (span.end - span.start) held.first p)
 
 -- ---- edits
 
 -- the pieces of a span that is not empty
-pub pieces_of : (text : List ℕ) (span : Span) → HoldsPieces text span → span.start < span.end → IsPiece (drop span.start text) (span.end - span.start)
+pub pieces_of : (text : List ℕ) (span : Span) → HoldsPieces text span → span.start < span.end
+    → IsPiece (drop span.start text) (span.end - span.start)
 pieces_of text span h l = elim h.pieces [ inl e ↦ absurd (omega (arith, l, e)) | inr p ↦ p ]
 
-pub pieces_accepted : (text : List ℕ) (span : Span) → Accepted text → HoldsPieces text span → span.start < span.end → Accepted (within text span)
-pieces_accepted text span a h l = (place_accepted (drop span.start text) (span.end - span.start) (inr (pieces_of text span h l)) (place_accepted text span.start h.first a).1).0
+pub pieces_accepted : (text : List ℕ) (span : Span) → Accepted text → HoldsPieces text span
+    → span.start < span.end → Accepted (within text span)
+pieces_accepted text span a h l = (place_accepted (drop span.start text) (span.end - span.start)
+    (inr (pieces_of text span h l)) (place_accepted text span.start h.first a).1).0
 
 -- what is laid out for a span
-pub lays_out : (w : ℕ) (i : ℤ) (text : List ℕ) (span : Span) (out bytes : List ℕ) → IsUtf8 text → Accepted text → HoldsPieces text span → span.start < span.end → IsOutputOf w i (within text span) out → bytes ≡ feeds_after (take span.start text) ++ out → LaysOut w i text span bytes
+pub lays_out : (w : ℕ) (i : ℤ) (text : List ℕ) (span : Span) (out bytes : List ℕ) → IsUtf8 text
+    → Accepted text → HoldsPieces text span → span.start < span.end
+    → IsOutputOf w i (within text span) out → bytes ≡ feeds_after (take span.start text) ++ out
+    → LaysOut w i text span bytes
 lays_out w i text span out bytes u a h l o e = record {
   out = out;
   output = o;
-  stands = stands_in_output w i text span.start (span.end - span.start) out u a h.first (pieces_of text span h l) o;
+  stands = stands_in_output w i text span.start (span.end - span.start) out u a h.first
+      (pieces_of text span h l) o;
   parted = e;
 }
 
 -- the text with the edit applied is accepted and has the list of the text
-pub edit_alike : (w : ℕ) (i : ℤ) (text : List ℕ) (range span : Span) (bytes : List ℕ) → IsUtf8 text → Accepted text → IsTouchedSpan text range span → LaysOutPolicies w i text span bytes → Alike text (edited text span bytes)
+pub edit_alike : (w : ℕ) (i : ℤ) (text : List ℕ) (range span : Span) (bytes : List ℕ) → IsUtf8 text
+    → Accepted text → IsTouchedSpan text range span → LaysOutPolicies w i text span bytes
+    → Alike text (edited text span bytes)
 edit_alike w i text range span bytes u a t (inl (e, n)) =
-    let same : text ≡ edited text span bytes = sym (take-append-drop span.start text) ∙ (ap (λ k. take span.start text ++ drop k text) e ∙ ap (λ z. take span.start text ++ (z ++ drop span.end text)) (sym n)) in
+    let same : text ≡ edited text span bytes =
+    sym (take-append-drop span.start text) ∙ (ap (λ k. take span.start text ++ drop k text) e
+    ∙ ap (λ z. take span.start text ++ (z ++ drop span.end text)) (sym n)) in
     subst (Alike text) same (same_alike text a)
 edit_alike w i text range span bytes u a t (inr (l, k)) =
     let h = touched_pieces text range span t in
     let part = part_of_text text range span u a t in
     let end : span.start + (span.end - span.start) ≡ span.end = omega (arith, l) in
-    let alike = laid_out_alike w i text span.start (span.end - span.start) k.out a h.first (pieces_of text span h l) (IsUtf8-between text span.start span.end u part.order part.first part.last) k.output in
+    let alike = laid_out_alike w i text span.start (span.end - span.start) k.out a h.first
+    (pieces_of text span h l)
+    (IsUtf8-between text span.start span.end u part.order part.first part.last) k.output in
     subst (λ z. Alike text (take span.start text ++ (z ++ drop span.end text))) (sym k.parted)
-    (subst (λ n. Alike text (take span.start text ++ ((feeds_after (take span.start text) ++ k.out) ++ drop n text))) end alike)
+    (subst (λ n. Alike text (take span.start text
+    ++ ((feeds_after (take span.start text) ++ k.out) ++ drop n text))) end alike)
 
 pub have_equal_lists : (x y : List ℕ) → Alike x y → HaveEqualLists x y
 have_equal_lists x y k = (k.left, k.right, k.is_left, k.is_right, equal_lists x y k)

@@ -6,17 +6,18 @@ use Rattle.std.proofs.Math.Seq.{drop-append_seam}
 use Rattle.std.proofs.lemmas.Bool.Decides.{nat_tests}
 use Rattle.std.proofs.lemmas.List.Elements.{filter-append}
 use Rattle.std.proofs.lemmas.List.Folds.{list_any-append}
+use Rattle.std.proofs.lemmas.Bool.{and_parts}
 use Rattle.cedar_tokens.specs.Units.{BeginsWith, IsUnit, blank, comment, token, is_token, is_string_rest, is_escaped_rest}
 use Rattle.cedar_tokens.specs.Split.{SplitsInto}
 use Rattle.cedar_tokens.specs.Listing.{Decorated, Listing, IsListing, listing, gaps, decorate}
 use Rattle.cedar_tokens.proofs.CommentLines.{comments_nil}
-use Rattle.cedar_tokens.proofs.Prefixes.{and_parts, begins_fits}
+use Rattle.cedar_tokens.proofs.Prefixes.{begins_fits}
 use Rattle.cedar_tokens.proofs.Scanning.{split_unique, listing_unique}
 use Rattle.cedar_grammar.specs.KindGrammar.{G}
 use Rattle.cedar_grammar.specs.Numbers.{is_too_large}
 use Rattle.cedar_grammar.specs.Texts.{greatest_depth, only_tokens, Accepted}
 use Rattle.cedar_tokens.specs.TokenKinds.{kind_of}
-use Rattle.cedar_grammar.proofs.AcceptedKinds.{is_accepted, kinds_of}
+use Rattle.cedar_grammar.proofs.Texts.Accepted.{is_accepted, kinds_of}
 use Rattle.cedar_laws.specs.Joining.{follow}
 use Rattle.cedar_laws.proofs.BlankLines.{feedless, feedless_back, blank_feed}
 use Rattle.cedar_laws.proofs.Joined.{joined}
@@ -26,21 +27,29 @@ use Rattle.cedar_laws.proofs.Spaces.{comment_feedless}
 use Rattle.cedar_pieces.proofs.Accepted.{accepted_empty}
 use Rattle.cedar_pieces.proofs.Refusals.{fit_parts}
 use Rattle.cedar_pieces.proofs.Sequences.{lists_join}
+use Rattle.cedar_cst.proofs.PartLaws.{append_not_nil}
 
 -- ---- the last unit of a text that ends in a line feed
 
 abbrev NoString : List ℕ → Type 0
-NoString w = (is_string_rest (w ++ (10 ∷ [])) ≡ true → ⊥) × (is_escaped_rest (w ++ (10 ∷ [])) ≡ true → ⊥)
+NoString w =
+    (is_string_rest (w ++ (10 ∷ [])) ≡ true → ⊥) × (is_escaped_rest (w ++ (10 ∷ [])) ≡ true → ⊥)
 
 some_bytes : (n : ℕ) → 0 < n → (n == 0) ≡ true → ⊥
 some_bytes n l h = grind (arith, nat_tests)
 
 no_string : (w : List ℕ) → NoString w
-no_string [] = (λ h. let e : false ≡ true = h in absurd cc, λ h. let e : false ≡ true = h in absurd cc)
-no_string (b ∷ w) = (λ h. first (b == 34) (b == 92) (no_string w) (some_bytes (length (w ++ (10 ∷ []))) (omega (arith, length-append w (10 ∷ [])))) h, λ h. (no_string w).0 (and_parts _ (is_string_rest (w ++ (10 ∷ []))) h).1)
+no_string [] =
+    (λ h. let e : false ≡ true = h in absurd cc, λ h. let e : false ≡ true = h in absurd cc)
+no_string (b ∷ w) = (
+  λ h. first (b == 34) (b == 92) (no_string w)
+      (some_bytes (length (w ++ (10 ∷ []))) (omega (arith, length-append w (10 ∷ [])))) h,
+  λ h. (no_string w).0 (and_parts _ (is_string_rest (w ++ (10 ∷ []))) h).1,
+)
   where
     first : (q e : Bool) → NoString w → ((length (w ++ (10 ∷ [])) == 0) ≡ true → ⊥)
-        → cond q (length (w ++ (10 ∷ [])) == 0) (cond e (is_escaped_rest (w ++ (10 ∷ []))) (is_string_rest (w ++ (10 ∷ [])))) ≡ true → ⊥
+        → cond q (length (w ++ (10 ∷ [])) == 0) (cond e (is_escaped_rest (w ++ (10 ∷ [])))
+        (is_string_rest (w ++ (10 ∷ [])))) ≡ true → ⊥
     first true e n l h = l h
     first false true n l h = n.1 h
     first false false n l h = n.0 h
@@ -49,7 +58,8 @@ no_string (b ∷ w) = (λ h. first (b == 34) (b == 92) (no_string w) (some_bytes
 feed_unit : (w : List ℕ) → IsUnit (w ++ (10 ∷ [])) → w ≡ []
 feed_unit [] k = refl
 feed_unit (b ∷ w) k = absurd (elim k [
-  | blank e ↦ elim (blank_feed (b ∷ (w ++ (10 ∷ []))) e) [ inl s ↦ omega (arith, ap length s, length-append w (10 ∷ [])) | inr f ↦ no_feed f ]
+  | blank e ↦ elim (blank_feed (b ∷ (w ++ (10 ∷ [])))
+      e) [ inl s ↦ omega (arith, ap length s, length-append w (10 ∷ [])) | inr f ↦ no_feed f ]
   | comment e ↦ no_feed (comment_feedless (b ∷ (w ++ (10 ∷ []))) e)
   | token e ↦ (no_string w).0 (token_no_feed b w [] e).1
 ])
@@ -57,19 +67,19 @@ feed_unit (b ∷ w) k = absurd (elim k [
     no_feed : feedless (b ∷ (w ++ (10 ∷ []))) ≡ true → ⊥
     no_feed f = let e = feedless_back (b ∷ w) (10 ∷ []) f in absurd cc
 
-no_bytes : (x : List ℕ) → x ++ (10 ∷ []) ≡ [] → ⊥
-no_bytes [] e = absurd cc
-no_bytes (b ∷ x) e = absurd cc
-
 -- so the text before the line feed splits
-pub front_splits : (us : List (List ℕ)) (x : List ℕ) → SplitsInto (x ++ (10 ∷ [])) us → (vs : List (List ℕ)) × SplitsInto x vs
-front_splits [] x s = absurd (no_bytes x s)
+pub front_splits : (us : List (List ℕ)) (x : List ℕ) → SplitsInto (x ++ (10 ∷ [])) us
+    → (vs : List (List ℕ)) × SplitsInto x vs
+front_splits [] x s = absurd (append_not_nil x 10 [] s)
 front_splits (u ∷ us) x s = go (past x u s.0.begins) (λ t. front_splits us t)
   where
     -- a unit of the text lies within the first part, or is all of the text
     past : (x u : List ℕ) → BeginsWith (x ++ (10 ∷ [])) u → BeginsWith x u ⊎ (u ≡ x ++ (10 ∷ []))
     past x [] g = inl (x, refl)
-    past [] (c ∷ u) (r, e) = let f : 10 ≡ c = cc in let n : [] ≡ u ++ r = cc in inr (ap (λ z. z ∷ u) (sym f) ∙ ap (λ z. 10 ∷ z) (none u r n))
+    past [] (c ∷ u) (r, e) =
+        let f : 10 ≡ c = cc in
+        let n : [] ≡ u ++ r = cc in
+        inr (ap (λ z. z ∷ u) (sym f) ∙ ap (λ z. 10 ∷ z) (none u r n))
       where
         none : (u r : List ℕ) → [] ≡ u ++ r → u ≡ []
         none [] r n = refl
@@ -79,26 +89,42 @@ front_splits (u ∷ us) x s = go (past x u s.0.begins) (λ t. front_splits us t)
         let n : x ++ (10 ∷ []) ≡ u ++ r = cc in
         more f (past x u (r, n))
       where
-        more : b ≡ c → BeginsWith x u ⊎ (u ≡ x ++ (10 ∷ [])) → BeginsWith (b ∷ x) (c ∷ u) ⊎ (c ∷ u ≡ b ∷ (x ++ (10 ∷ [])))
+        more : b ≡ c → BeginsWith x u ⊎ (u ≡ x ++ (10 ∷ []))
+            → BeginsWith (b ∷ x) (c ∷ u) ⊎ (c ∷ u ≡ b ∷ (x ++ (10 ∷ [])))
         more f (inl (t, e)) = inl (t, cc)
         more f (inr e) = inr cc
 
-    go : BeginsWith x u ⊎ (u ≡ x ++ (10 ∷ [])) → ((t : List ℕ) → SplitsInto (t ++ (10 ∷ [])) us → (vs : List (List ℕ)) × SplitsInto t vs) → (vs : List (List ℕ)) × SplitsInto x vs
+    go : BeginsWith x u ⊎ (u ≡ x ++ (10 ∷ []))
+        → ((t : List ℕ) → SplitsInto (t ++ (10 ∷ [])) us → (vs : List (List ℕ)) × SplitsInto t vs)
+        → (vs : List (List ℕ)) × SplitsInto x vs
     go (inl (t, e)) ih =
-        let rest : drop (length u) (x ++ (10 ∷ [])) ≡ t ++ (10 ∷ []) = ap (λ z. drop (length u) (z ++ (10 ∷ []))) e ∙ (ap (drop (length u)) (append_assoc u t (10 ∷ [])) ∙ drop-append_seam u (t ++ (10 ∷ []))) in
+        let rest : drop (length u) (x ++ (10 ∷ [])) ≡ t ++ (10 ∷ []) =
+        ap (λ z. drop (length u) (z ++ (10 ∷ []))) e
+        ∙ (ap (drop (length u)) (append_assoc u t (10 ∷ []))
+        ∙ drop-append_seam u (t ++ (10 ∷ []))) in
         let left : drop (length u) x ≡ t = ap (drop (length u)) e ∙ drop-append_seam u t in
-        let more = ih t (subst (λ z. SplitsInto z us) rest s.1) in
-        (u ∷ more.0, (first_within x (10 ∷ []) u s.0 (begins_fits x u (t, e)), subst (λ z. SplitsInto z more.0) (sym left) more.1))
+        let more = ih t (subst (λ z. SplitsInto z us) rest s.1) in (
+          u ∷ more.0,
+          (
+            first_within x (10 ∷ []) u s.0 (begins_fits x u (t, e)),
+            subst (λ z. SplitsInto z more.0) (sym left) more.1,
+          ),
+        )
     go (inr e) ih = ([], feed_unit x (subst IsUnit e s.0.kind))
 
 -- ---- lists
 
 none_follow : (l : Listing) → follow l (record { tokens = []; closing = [] }) ≡ l
-none_follow l = ap (λ z. record { tokens = z; closing = l.closing ++ [] }) (append-nil l.tokens) ∙ ap (λ z. record { tokens = l.tokens; closing = z }) (append-nil l.closing)
+none_follow l = ap (λ z. record { tokens = z; closing = l.closing ++ [] }) (append-nil l.tokens)
+    ∙ ap (λ z. record { tokens = l.tokens; closing = z }) (append-nil l.closing)
 
 empty_list : IsListing [] (record { tokens = []; closing = [] })
 unfolding listing decorate gaps
-empty_list = record { units = []; split = refl; value = ap (λ z. record { tokens = []; closing = z }) (sym comments_nil) }
+empty_list = record {
+  units = [];
+  split = refl;
+  value = ap (λ z. record { tokens = []; closing = z }) (sym comments_nil);
+}
 
 -- a line feed at the end of a text is not in its list
 pub front_list : (x : List ℕ) (l : Listing) → IsListing (x ++ (10 ∷ [])) l → IsListing x l
@@ -106,41 +132,55 @@ front_list x l s =
     let f = front_splits s.units x s.split in
     let m = listing f.0 in
     let is_m : IsListing x m = record { units = f.0; split = f.1; value = refl } in
-    let same : l ≡ m = listing_unique (x ++ (10 ∷ [])) l (follow m (record { tokens = []; closing = [] })) s (joined x [] m (record { tokens = []; closing = [] }) is_m empty_list) ∙ none_follow m in
+    let same : l ≡ m =
+    listing_unique (x ++ (10 ∷ [])) l (follow m (record { tokens = []; closing = [] })) s
+    (joined x [] m (record { tokens = []; closing = [] }) is_m empty_list) ∙ none_follow m in
     subst (IsListing x) (sym same) is_m
 
 -- after a list without closing comments comes the other
-follow_closed : (ts : List Decorated) (m : Listing) → follow (record { tokens = ts; closing = [] }) m ≡ record { tokens = ts ++ m.tokens; closing = m.closing }
+follow_closed : (ts : List Decorated) (m : Listing) → follow (record { tokens = ts; closing = [] })
+    m ≡ record { tokens = ts ++ m.tokens; closing = m.closing }
 follow_closed ts m = go m.tokens m.closing
   where
-    go : (us : List Decorated) (cs : List (List ℕ)) → follow (record { tokens = ts; closing = [] }) (record { tokens = us; closing = cs }) ≡ record { tokens = ts ++ us; closing = cs }
+    go : (us : List Decorated) (cs : List (List ℕ)) → follow (record { tokens = ts; closing = [] })
+        (record { tokens = us; closing = cs }) ≡ record { tokens = ts ++ us; closing = cs }
     go [] cs = refl
     go (u ∷ us) cs = refl
 
-pub fed_lists : (x y : List ℕ) (l m : Listing) → l.closing ≡ [] → IsListing x l → IsListing y m → IsListing (x ++ (10 ∷ y)) (record { tokens = l.tokens ++ m.tokens; closing = m.closing })
-fed_lists x y l m e a b = subst (IsListing (x ++ (10 ∷ y))) (ap (λ c. follow (record { tokens = l.tokens; closing = c }) m) e ∙ follow_closed l.tokens m) (joined x y l m a b)
+pub fed_lists : (x y : List ℕ) (l m : Listing) → l.closing ≡ [] → IsListing x l → IsListing y m
+    → IsListing (x ++ (10 ∷ y)) (record { tokens = l.tokens ++ m.tokens; closing = m.closing })
+fed_lists x y l m e a b = subst (IsListing (x ++ (10 ∷ y)))
+    (ap (λ c. follow (record { tokens = l.tokens; closing = c }) m) e ∙ follow_closed l.tokens m)
+    (joined x y l m a b)
 
 pub fed_list : (y : List ℕ) (m : Listing) → IsListing y m → IsListing (10 ∷ y) m
 fed_list y m b = fed_lists [] y (record { tokens = []; closing = [] }) m refl empty_list b
 
 -- ---- accepted texts
 
-tokens_fed : (us vs : List (List ℕ)) → only_tokens (us ++ ((10 ∷ []) ∷ vs)) ≡ only_tokens us ++ only_tokens vs
-tokens_fed us vs = filter-append is_token us ((10 ∷ []) ∷ vs) ∙ ap (λ z. only_tokens us ++ z) (rw feed_no_token refl)
+tokens_fed : (us vs : List (List ℕ))
+    → only_tokens (us ++ ((10 ∷ []) ∷ vs)) ≡ only_tokens us ++ only_tokens vs
+tokens_fed us vs = filter-append is_token us ((10 ∷ []) ∷ vs)
+    ∙ ap (λ z. only_tokens us ++ z) (rw feed_no_token refl)
 
 feed_fits : is_too_large (10 ∷ []) ≡ false
 feed_fits = refl
 
-fitting_fed : (us vs : List (List ℕ)) → list_any is_too_large us ≡ false → list_any is_too_large vs ≡ false → list_any is_too_large (us ++ ((10 ∷ []) ∷ vs)) ≡ false
-fitting_fed us vs a b = list_any-append is_too_large us ((10 ∷ []) ∷ vs) ∙ (ap (λ z. z || (is_too_large (10 ∷ []) || list_any is_too_large vs)) a ∙ (ap (λ z. z || list_any is_too_large vs) feed_fits ∙ b))
+fitting_fed : (us vs : List (List ℕ)) → list_any is_too_large us ≡ false
+    → list_any is_too_large vs ≡ false → list_any is_too_large (us ++ ((10 ∷ []) ∷ vs)) ≡ false
+fitting_fed us vs a b = list_any-append is_too_large us ((10 ∷ []) ∷ vs)
+    ∙ (ap (λ z. z || (is_too_large (10 ∷ []) || list_any is_too_large vs)) a
+    ∙ (ap (λ z. z || list_any is_too_large vs) feed_fits ∙ b))
 
 -- accepted texts joined by a line feed are accepted
 pub fed_accepted : (x y : List ℕ) → Accepted x → Accepted y → Accepted (x ++ (10 ∷ y))
 fed_accepted x y (f, a) (g, b) =
     let us = a.units ++ ((10 ∷ []) ∷ b.units) in
-    let t = lists_join kind_of greatest_depth f g (only_tokens a.units) (only_tokens b.units) (kinds_of a) (kinds_of b) in (
+    let t = lists_join kind_of greatest_depth f g (only_tokens a.units) (only_tokens b.units)
+    (kinds_of a) (kinds_of b) in (
       t.0,
-      is_accepted (x ++ (10 ∷ y)) t.0 us (splits_join a.units b.units x y a.split b.split) (fitting_fed a.units b.units a.fitting b.fitting)
+      is_accepted (x ++ (10 ∷ y)) t.0 us (splits_join a.units b.units x y a.split b.split)
+          (fitting_fed a.units b.units a.fitting b.fitting)
           (subst (λ z. G kind_of greatest_depth t.0 z) (sym (tokens_fed a.units b.units)) t.1),
     )
 
@@ -151,7 +191,13 @@ empty_accepted = accepted_empty [] [] refl refl refl
 pub front_accepted : (x : List ℕ) → Accepted (x ++ (10 ∷ [])) → Accepted x
 front_accepted x (f, a) =
     let s = front_splits a.units x a.split in
-    let same : a.units ≡ s.0 ++ ((10 ∷ []) ∷ []) = split_unique (x ++ (10 ∷ [])) a.units (s.0 ++ ((10 ∷ []) ∷ [])) a.split (splits_join s.0 [] x [] s.1 refl) in
-    let tokens : only_tokens a.units ≡ only_tokens s.0 = ap only_tokens same ∙ (tokens_fed s.0 [] ∙ append-nil (only_tokens s.0)) in
-    let fits = fit_parts s.0 ((10 ∷ []) ∷ []) (ap (list_any is_too_large) (sym same) ∙ a.fitting) in
-    (f, is_accepted x f s.0 s.1 fits.0 (subst (λ z. G kind_of greatest_depth f z) tokens (kinds_of a)))
+    let same : a.units ≡ s.0 ++ ((10 ∷ []) ∷ []) = split_unique (x ++ (10 ∷ [])) a.units
+    (s.0 ++ ((10 ∷ []) ∷ [])) a.split (splits_join s.0 [] x [] s.1 refl) in
+    let tokens : only_tokens a.units ≡ only_tokens s.0 =
+    ap only_tokens same ∙ (tokens_fed s.0 [] ∙ append-nil (only_tokens s.0)) in
+    let fits =
+    fit_parts s.0 ((10 ∷ []) ∷ []) (ap (list_any is_too_large) (sym same) ∙ a.fitting) in (
+      f,
+      is_accepted x f s.0 s.1 fits.0
+          (subst (λ z. G kind_of greatest_depth f z) tokens (kinds_of a)),
+    )

@@ -20,9 +20,10 @@ use Rattle.cedar_pieces.proofs.Lists.{lists_follow, piece_ends, plain_follow, pl
 use Rattle.cedar_pieces.proofs.Prefixes.{piece_inside, piece_positive}
 use Rattle.cedar_cst.specs.PolicyReaders.{EndsPiece}
 use Rattle.cedar_ranges.specs.Edits.{feeds_after}
-use Rattle.cedar_ranges.proofs.Chains.{place_accepted}
+use Rattle.cedar_cst.proofs.Places.{place_accepted}
 use Rattle.cedar_ranges.proofs.Feeds.{front_list, fed_lists, fed_list, fed_accepted, front_accepted, empty_accepted}
-use Rattle.cedar_ranges.proofs.Openings.{first_stays}
+use Rattle.cedar_policy_formatter.proofs.PieceOutputs.{list_stays}
+use Rattle.cedar_cst.proofs.PartLaws.{append_not_nil}
 
 -- two accepted texts whose lists without trailing commas are equal by value
 pub record Alike (x y : List ℕ) : Type 0 where
@@ -35,9 +36,11 @@ pub record Alike (x y : List ℕ) : Type 0 where
   pub accepted : Accepted x
   pub keeps : Accepted y
 
-pub equal_lists : (x y : List ℕ) (k : Alike x y) → EqualByValue (plain_listing k.left) (plain_listing k.right)
+pub equal_lists : (x y : List ℕ) (k : Alike x y)
+    → EqualByValue (plain_listing k.left) (plain_listing k.right)
 equal_lists x y k =
-    ap (λ z. record { tokens = z; closing = k.left.closing }) k.tokens ∙ ap (λ z. record { tokens = map with_value (plain_list k.right.tokens); closing = z }) k.closing
+    ap (λ z. record { tokens = z; closing = k.left.closing }) k.tokens ∙ ap
+    (λ z. record { tokens = map with_value (plain_list k.right.tokens); closing = z }) k.closing
 
 -- the list of an accepted text
 list_of : (x : List ℕ) → Accepted x → (l : Listing) × IsListing x l
@@ -47,7 +50,16 @@ list_of x (f, a) = (listing a.units, record { units = a.units; split = a.split; 
 pub same_alike : (x : List ℕ) → Accepted x → Alike x x
 same_alike x a =
     let l = list_of x a in
-    record { left = l.0; right = l.0; is_left = l.1; is_right = l.1; tokens = refl; closing = refl; accepted = a; keeps = a }
+    record {
+      left = l.0;
+      right = l.0;
+      is_left = l.1;
+      is_right = l.1;
+      tokens = refl;
+      closing = refl;
+      accepted = a;
+      keeps = a;
+    }
 
 -- ---- the last token of policies
 
@@ -56,25 +68,35 @@ EndsIn us = (ts : List Decorated) × (t : Decorated) × (us ≡ ts ++ (t ∷ [])
 
 policy_last : (p : Clause Decorated policy) → PartFit p → EndsIn (map with_value (part_yield p))
 policy_last (policy_of ns e l p c a d r q cs s) f =
-    let front : List Decorated = part_yield ns ++ (e ∷ (l ∷ (part_yield p ++ (c ∷ (part_yield a ++ (d ∷ (part_yield r ++ (q ∷ part_yield cs)))))))) in
-    let all : part_yield (policy_of ns e l p c a d r q cs s) ≡ front ++ (s ∷ []) = sym (simp append_assoc) in
-    (map with_value front, with_value s, ap (map with_value) all ∙ map-append with_value front (s ∷ []), f.10)
+    let front : List Decorated = part_yield ns ++ (e ∷ (l
+    ∷ (part_yield p ++ (c ∷ (part_yield a ++ (d ∷ (part_yield r ++ (q ∷ part_yield cs)))))))) in
+    let all : part_yield (policy_of ns e l p c a d r q cs s) ≡ front ++ (s ∷ []) =
+    sym (simp append_assoc) in (
+      map with_value front,
+      with_value s,
+      ap (map with_value) all ∙ map-append with_value front (s ∷ []),
+      f.10,
+    )
 
-policies_last : (ps : List (Clause Decorated policy)) → AllByRecursion PartFit ps → (ps ≡ [] → ⊥) → EndsIn (map with_value (tokens_of ps))
+policies_last : (ps : List (Clause Decorated policy)) → AllByRecursion PartFit ps → (ps ≡ [] → ⊥)
+    → EndsIn (map with_value (tokens_of ps))
 policies_last [] f n = absurd (n refl)
-policies_last (p ∷ []) f n = subst EndsIn (ap (map with_value) (sym (append-nil (part_yield p)))) (policy_last p f.0)
+policies_last (p ∷ []) f n =
+    subst EndsIn (ap (map with_value) (sym (append-nil (part_yield p)))) (policy_last p f.0)
 policies_last (p ∷ (q ∷ ps)) f n =
     let r = policies_last (q ∷ ps) f.1 (λ e. absurd cc) in
-    let ys = map with_value (part_yield p) in
-    (ys ++ r.0, r.1, map-append with_value (part_yield p) (tokens_of (q ∷ ps)) ∙ (ap (λ z. ys ++ z) r.2 ∙ sym (append_assoc ys r.0 (r.1 ∷ []))), r.3)
-
-has_last : (ts : List Decorated) (t : Decorated) → ts ++ (t ∷ []) ≡ [] → ⊥
-has_last [] t h = absurd cc
-has_last (x ∷ ts) t h = absurd cc
+    let ys = map with_value (part_yield p) in (
+      ys ++ r.0,
+      r.1,
+      map-append with_value (part_yield p) (tokens_of (q ∷ ps))
+          ∙ (ap (λ z. ys ++ z) r.2 ∙ sym (append_assoc ys r.0 (r.1 ∷ []))),
+      r.3,
+    )
 
 -- ---- a piece laid out in place
 
-module _ (w : ℕ) (i : ℤ) (text : List ℕ) (n : ℕ) (out : List ℕ) (accepted : Accepted text) (p : IsPiece text n) (utf8 : IsUtf8 (take n text)) (o : IsOutputOf w i (take n text) out) where
+module _ (w : ℕ) (i : ℤ) (text : List ℕ) (n : ℕ) (out : List ℕ) (accepted : Accepted text)
+    (p : IsPiece text n) (utf8 : IsUtf8 (take n text)) (o : IsOutputOf w i (take n text) out) where
   abbrev front : List ℕ
   front = paragraphs o.output.texts
 
@@ -88,7 +110,8 @@ module _ (w : ℕ) (i : ℤ) (text : List ℕ) (n : ℕ) (out : List ℕ) (accep
   values = map with_value (tokens_of o.policies)
 
   own : IsListing out (record { tokens = values; closing = [] })
-  own = subst (λ c. IsListing out (record { tokens = values; closing = c })) ends.0 (own_list w i (take n text) out utf8 o)
+  own = subst (λ c. IsListing out (record { tokens = values; closing = c })) ends.0
+      (own_list w i (take n text) out utf8 o)
 
   abbrev rest : List ℕ
   rest = drop n text
@@ -101,36 +124,51 @@ module _ (w : ℕ) (i : ℤ) (text : List ℕ) (n : ℕ) (out : List ℕ) (accep
 
   values_last : EndsIn values
   values_last = policies_last o.policies (tree_fits o.policies (trees_of o)) (λ e.
-      has_last ends.1.0 ends.1.1 (sym ends.1.2 ∙ plain_empty o.list.tokens (sym (leaves_of o) ∙ ap tokens_of e)))
+      append_not_nil ends.1.0 ends.1.1 []
+      (sym ends.1.2 ∙ plain_empty o.list.tokens (sym (leaves_of o) ∙ ap tokens_of e)))
 
-  follows : (ts us : List Decorated) → EndsIn ts → us ≡ left.0.tokens → plain_list (ts ++ us) ≡ plain_list ts ++ plain_list left.0.tokens
+  follows : (ts us : List Decorated) → EndsIn ts → us ≡ left.0.tokens
+      → plain_list (ts ++ us) ≡ plain_list ts ++ plain_list left.0.tokens
   follows ts us e same =
-      ap (λ z. plain_list (ts ++ z)) same ∙ (ap (λ z. plain_list (z ++ left.0.tokens)) e.2 ∙ (plain_follow e.0 e.1 left.0.tokens e.3 (first_stays rest left.0 rest_accepted left.1) ∙ ap (λ z. plain_list z ++ plain_list left.0.tokens) (sym e.2)))
+      ap (λ z. plain_list (ts ++ z)) same ∙ (ap (λ z. plain_list (z ++ left.0.tokens)) e.2
+      ∙ (plain_follow e.0 e.1 left.0.tokens e.3 (list_stays rest left.0 rest_accepted left.1)
+      ∙ ap (λ z. plain_list z ++ plain_list left.0.tokens) (sym e.2)))
 
-  tokens_alike : map with_value (plain_list (o.list.tokens ++ left.0.tokens)) ≡ map with_value (plain_list (values ++ left.0.tokens))
+  tokens_alike : map with_value (plain_list (o.list.tokens ++ left.0.tokens))
+      ≡ map with_value (plain_list (values ++ left.0.tokens))
   tokens_alike =
-      let q = output_list w i (take n text) out (record { tokens = values; closing = [] }) utf8 o own in
+      let q =
+      output_list w i (take n text) out (record { tokens = values; closing = [] }) utf8 o own in
       let plain : plain_list values ≡ values = ap (λ (l : Listing). l.tokens) q.1 in
-      let equal : map with_value values ≡ map with_value (plain_list o.list.tokens) = ap (λ (l : Listing). l.tokens) q.0 in
+      let equal : map with_value values ≡ map with_value (plain_list o.list.tokens) =
+      ap (λ (l : Listing). l.tokens) q.0 in
       let tail = map with_value (plain_list left.0.tokens) in
-      ap (map with_value) (follows o.list.tokens left.0.tokens ends.1 refl) ∙ (map-append with_value (plain_list o.list.tokens) (plain_list left.0.tokens)
-      ∙ (ap (λ z. z ++ tail) (sym equal ∙ ap (map with_value) (sym plain)) ∙ (sym (map-append with_value (plain_list values) (plain_list left.0.tokens))
+      ap (map with_value) (follows o.list.tokens left.0.tokens ends.1 refl)
+      ∙ (map-append with_value (plain_list o.list.tokens) (plain_list left.0.tokens)
+      ∙ (ap (λ z. z ++ tail) (sym equal ∙ ap (map with_value) (sym plain))
+      ∙ (sym (map-append with_value (plain_list values) (plain_list left.0.tokens))
       ∙ ap (map with_value) (sym (follows values left.0.tokens values_last refl)))))
 
   -- the text with its piece laid out
   pub piece_alike : Alike text (out ++ drop n text)
   piece_alike =
-      let whole : front ++ (10 ∷ rest) ≡ out ++ rest = sym (append_assoc front (10 ∷ []) rest) ∙ ap (λ z. z ++ rest) (sym bytes) in
-      let is_front = front_list front (record { tokens = values; closing = [] }) (subst (λ z. IsListing z (record { tokens = values; closing = [] })) bytes own) in
+      let whole : front ++ (10 ∷ rest) ≡ out ++ rest =
+      sym (append_assoc front (10 ∷ []) rest) ∙ ap (λ z. z ++ rest) (sym bytes) in
+      let is_front = front_list front (record { tokens = values; closing = [] })
+      (subst (λ z. IsListing z (record { tokens = values; closing = [] })) bytes own) in
       record {
         left = record { tokens = o.list.tokens ++ left.0.tokens; closing = left.0.closing };
         right = record { tokens = values ++ left.0.tokens; closing = left.0.closing };
         is_left = lists_follow text n o.list left.0 p o.is_list left.1;
-        is_right = subst (λ z. IsListing z (record { tokens = values ++ left.0.tokens; closing = left.0.closing })) whole (fed_lists front rest (record { tokens = values; closing = [] }) left.0 refl is_front left.1);
+        is_right = subst (λ z.
+            IsListing z (record { tokens = values ++ left.0.tokens; closing = left.0.closing }))
+            whole (fed_lists front rest
+            (record { tokens = values; closing = [] }) left.0 refl is_front left.1);
         tokens = tokens_alike;
         closing = refl;
         accepted = accepted;
-        keeps = subst Accepted whole (fed_accepted front rest (front_accepted front (subst Accepted bytes (output_accepted w i (take n text) out utf8 o))) rest_accepted);
+        keeps = subst Accepted whole (fed_accepted front rest (front_accepted front
+            (subst Accepted bytes (output_accepted w i (take n text) out utf8 o))) rest_accepted);
       }
 
 -- ---- what comes before stays
@@ -147,29 +185,38 @@ fed_alike x y k = record {
   keeps = fed_accepted [] y empty_accepted k.keeps;
 }
 
-after_alike : (text : List ℕ) (n : ℕ) (y : List ℕ) → Accepted text → IsPiece text n → Alike (drop n text) y → Alike text (take n text ++ (10 ∷ y))
+after_alike : (text : List ℕ) (n : ℕ) (y : List ℕ) → Accepted text → IsPiece text n
+    → Alike (drop n text) y → Alike text (take n text ++ (10 ∷ y))
 after_alike text n y a p k =
     let front_accepted = (place_accepted text n (inr p) a).0 in
     let b = list_of (take n text) front_accepted in
     let e = piece_ends text n b.0 p b.1 in
     let s = e.1.2 in
-    let parted = λ (us : List Decorated) (h : _). subst (λ z. plain_list (z ++ us) ≡ plain_list z ++ plain_list us) (sym s) (plain_follow e.1.0 e.1.1 us e.1.3 h) in
+    let parted = λ (us : List Decorated) (h : _). subst (λ z. plain_list (z ++ us)
+    ≡ plain_list z ++ plain_list us) (sym s) (plain_follow e.1.0 e.1.1 us e.1.3 h) in
     record {
       left = record { tokens = b.0.tokens ++ k.left.tokens; closing = k.left.closing };
       right = record { tokens = b.0.tokens ++ k.right.tokens; closing = k.right.closing };
       is_left = lists_follow text n b.0 k.left p b.1 k.is_left;
       is_right = fed_lists (take n text) y b.0 k.right e.0 b.1 k.is_right;
-      tokens = ap (map with_value) (parted k.left.tokens (first_stays (drop n text) k.left k.accepted k.is_left)) ∙ (map-append with_value (plain_list b.0.tokens) (plain_list k.left.tokens)
-          ∙ (ap (λ z. map with_value (plain_list b.0.tokens) ++ z) k.tokens ∙ (sym (map-append with_value (plain_list b.0.tokens) (plain_list k.right.tokens))
-          ∙ ap (map with_value) (sym (parted k.right.tokens (first_stays y k.right k.keeps k.is_right))))));
+      tokens = ap (map with_value)
+          (parted k.left.tokens (list_stays (drop n text) k.left k.accepted k.is_left))
+          ∙ (map-append with_value (plain_list b.0.tokens) (plain_list k.left.tokens)
+          ∙ (ap (λ z. map with_value (plain_list b.0.tokens) ++ z) k.tokens
+          ∙ (sym (map-append with_value (plain_list b.0.tokens) (plain_list k.right.tokens))
+          ∙ ap (map with_value)
+          (sym (parted k.right.tokens (list_stays y k.right k.keeps k.is_right))))));
       closing = k.closing;
       accepted = a;
       keeps = fed_accepted (take n text) y front_accepted k.keeps;
     }
 
 -- after what comes before, the line feeds of an empty line may come
-parted_alike : (text : List ℕ) (n : ℕ) (b : ℕ) (bs y : List ℕ) → take n text ≡ b ∷ bs → Accepted text → IsPiece text n → Alike (drop n text) y → Alike text (take n text ++ (feeds_after (take n text) ++ y))
-parted_alike text n b bs y e a p k = subst (λ z. Alike text (take n text ++ (feeds_after z ++ y))) (sym e) (go (last_byte_or b bs == 10))
+parted_alike : (text : List ℕ) (n : ℕ) (b : ℕ) (bs y : List ℕ) → take n text ≡ b ∷ bs
+    → Accepted text → IsPiece text n → Alike (drop n text) y
+    → Alike text (take n text ++ (feeds_after (take n text) ++ y))
+parted_alike text n b bs y e a p k = subst (λ z. Alike text (take n text ++ (feeds_after z ++ y)))
+    (sym e) (go (last_byte_or b bs == 10))
   where
     go : (t : Bool) → Alike text (take n text ++ (cond t (10 ∷ []) (10 ∷ (10 ∷ [])) ++ y))
     go true = after_alike text n y a p k
@@ -180,18 +227,27 @@ some_bytes [] l = absurd (omega (arith, l))
 some_bytes (b ∷ bs) l = (b, bs, refl)
 
 -- the text with the pieces from one place to another laid out
-pub laid_out_alike : (w : ℕ) (i : ℤ) (text : List ℕ) (start len : ℕ) (out : List ℕ) → Accepted text → EndsPiece text start → IsPiece (drop start text) len → IsUtf8 (take len (drop start text)) → IsOutputOf w i (take len (drop start text)) out
-    → Alike text (take start text ++ ((feeds_after (take start text) ++ out) ++ drop (start + len) text))
+pub laid_out_alike : (w : ℕ) (i : ℤ) (text : List ℕ) (start len : ℕ) (out : List ℕ) → Accepted text
+    → EndsPiece text start → IsPiece (drop start text) len → IsUtf8 (take len (drop start text))
+    → IsOutputOf w i (take len (drop start text)) out
+    → Alike text
+    (take start text ++ ((feeds_after (take start text) ++ out) ++ drop (start + len) text))
 laid_out_alike w i text start len out a (inl e) p u o =
-    let f = λ (k : ℕ). Alike text (take k text ++ ((feeds_after (take k text) ++ out) ++ drop (k + len) text)) in
+    let f = λ (k : ℕ).
+    Alike text (take k text ++ ((feeds_after (take k text) ++ out) ++ drop (k + len) text)) in
     let z : len ≡ 0 + len = omega arith in
     let q = subst (λ k. IsPiece (drop k text) len) e p in
     subst f (sym e) (subst (λ k. Alike text (out ++ drop k text)) z
-    (piece_alike w i text len out a q (subst (λ k. IsUtf8 (take len (drop k text))) e u) (subst (λ k. IsOutputOf w i (take len (drop k text)) out) e o)))
+    (piece_alike w i text len out a q (subst (λ k. IsUtf8 (take len (drop k text))) e u)
+    (subst (λ k. IsOutputOf w i (take len (drop k text)) out) e o)))
 laid_out_alike w i text start len out a (inr b) p u o =
     let rest = place_accepted text start (inr b) a in
     let k = piece_alike w i (drop start text) len out rest.1 p u o in
-    let bytes = some_bytes (take start text) (omega (arith, length-take-le start text (piece_inside text start b), piece_positive text start b)) in
+    let bytes = some_bytes (take start text) (omega
+    (arith, length-take-le start text (piece_inside text start b), piece_positive text start b)) in
     let behind : drop len (drop start text) ≡ drop (start + len) text = drop-drop len start text in
-    subst (λ z. Alike text (take start text ++ z)) (sym (append_assoc (feeds_after (take start text)) out (drop (start + len) text)))
-    (subst (λ z. Alike text (take start text ++ (feeds_after (take start text) ++ (out ++ z)))) behind (parted_alike text start bytes.0 bytes.1 (out ++ drop len (drop start text)) bytes.2 a b k))
+    subst (λ z. Alike text (take start text ++ z))
+    (sym (append_assoc (feeds_after (take start text)) out (drop (start + len) text)))
+    (subst
+    (λ z. Alike text (take start text ++ (feeds_after (take start text) ++ (out ++ z)))) behind
+    (parted_alike text start bytes.0 bytes.1 (out ++ drop len (drop start text)) bytes.2 a b k))

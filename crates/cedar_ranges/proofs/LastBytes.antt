@@ -9,9 +9,12 @@ last_byte b [] = refl
 last_byte b (c ∷ bs) = last_byte c bs
 
 -- one line feed at the start of a line, and otherwise two
-pub feeds_by_test : (before : List ℕ) (empty ends : Bool) → empty ≡ (length before == 0) → empty ≡ false → ends ≡ (slice_index before (length before - 1) == 10) → feeds_after before ≡ cond ends (10 ∷ []) (10 ∷ (10 ∷ []))
+pub feeds_by_test : (before : List ℕ) (empty ends : Bool) → empty ≡ (length before == 0)
+    → empty ≡ false → ends ≡ (slice_index before (length before - 1) == 10)
+    → feeds_after before ≡ cond ends (10 ∷ []) (10 ∷ (10 ∷ []))
 feeds_by_test [] empty ends e f h = absurd (let z : false ≡ true = sym f ∙ e in cc)
 feeds_by_test (b ∷ bs) empty ends e f h =
     let k : length (b ∷ bs) - 1 ≡ length bs = omega arith in
-    let g : (last_byte_or b bs == 10) ≡ ends = ap (λ z. z == 10) (sym (ap (λ n. slice_index (b ∷ bs) n) k ∙ last_byte b bs)) ∙ sym h in
+    let g : (last_byte_or b bs == 10) ≡ ends =
+    ap (λ z. z == 10) (sym (ap (λ n. slice_index (b ∷ bs) n) k ∙ last_byte b bs)) ∙ sym h in
     ap (λ t. cond t (10 ∷ []) (10 ∷ (10 ∷ []))) g

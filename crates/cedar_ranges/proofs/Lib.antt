@@ -1,5 +1,4 @@
 pub mod Feeds
-pub mod Openings
 pub mod Chains
 pub mod Progress
 pub mod Keeping

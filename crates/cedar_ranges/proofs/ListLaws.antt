@@ -9,8 +9,11 @@ use Rattle.cedar_ranges.specs.Laws.{EqualListsHaveOneOutput, EqualListsFollow}
 pub lists_have_one_output : EqualListsHaveOneOutput
 lists_have_one_output w i x y z u v accepted (l, m, p, q, e) a =
     let b = accepted_has_output w i y v accepted in
-    let same = (outputs_tell w i x y z b.0 u v a b.1).1 (ap (λ k. by_value (plain_listing k)) (listing_unique x a.list l a.is_list p) ∙ (e ∙ ap (λ k. by_value (plain_listing k)) (listing_unique y m b.1.list q b.1.is_list))) in
+    let same = (outputs_tell w i x y z b.0 u v a b.1).1
+    (ap (λ k. by_value (plain_listing k)) (listing_unique x a.list l a.is_list p)
+    ∙ (e ∙ ap (λ k. by_value (plain_listing k)) (listing_unique y m b.1.list q b.1.is_list))) in
     subst (IsOutputOf w i y) (sym same) b.1
 
 pub lists_follow : EqualListsFollow
-lists_follow x y z (l, m, p, q, e) (n, o, r, s, f) = (l, o, p, s, e ∙ (ap (λ k. by_value (plain_listing k)) (listing_unique y m n q r) ∙ f))
+lists_follow x y z (l, m, p, q, e) (n, o, r, s, f) =
+    (l, o, p, s, e ∙ (ap (λ k. by_value (plain_listing k)) (listing_unique y m n q r) ∙ f))

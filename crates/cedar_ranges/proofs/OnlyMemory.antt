@@ -5,7 +5,8 @@ use Rattle.cedar_tree.specs.declared.error.FormatError.TheVariants.{UnknownChara
 use Rattle.cedar_tree.specs.Refusals.{OutOfMemoryOr}
 
 -- if nothing else holds of an error, it is out of memory
-pub only_memory : (Holds : FormatError → Type 0) → ((e : FormatError) → Holds e → ⊥) → (e : FormatError) → OutOfMemoryOr Holds e → e ≡ OutOfMemory
+pub only_memory : (Holds : FormatError → Type 0) → ((e : FormatError) → Holds e → ⊥)
+    → (e : FormatError) → OutOfMemoryOr Holds e → e ≡ OutOfMemory
 only_memory Holds n (UnknownCharacter at) h = absurd (n (UnknownCharacter at) h)
 only_memory Holds n (UnfinishedString at) h = absurd (n (UnfinishedString at) h)
 only_memory Holds n (NumberTooLarge at) h = absurd (n (NumberTooLarge at) h)

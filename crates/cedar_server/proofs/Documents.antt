@@ -18,10 +18,14 @@ text_in m q = option_map string_bytes (get_by_text m q)
 abbrev pub IsUpdated : List ℕ → Option (String Global) → Texts → Texts → Type 0
 IsUpdated uri w m n = (q : List ℕ) → get_by_text n q ≡ update bytes_eq (get_by_text m) uri w q
 
-pub own_text : (uri : List ℕ) (w : Option (String Global)) (m n : Texts) → IsUpdated uri w m n → text_in n uri ≡ option_map string_bytes w
-own_text uri w m n updated = ap (option_map string_bytes) (updated uri ∙ ap (λ b. cond b w (get_by_text m uri)) ((bytes_eq-Decides uri uri).1 refl))
+pub own_text : (uri : List ℕ) (w : Option (String Global)) (m n : Texts) → IsUpdated uri w m n
+    → text_in n uri ≡ option_map string_bytes w
+own_text uri w m n updated = ap (option_map string_bytes)
+    (updated uri ∙ ap (λ b. cond b w (get_by_text m uri)) ((bytes_eq-Decides uri uri).1 refl))
 
-pub other_text : (uri : List ℕ) (w : Option (String Global)) (m n : Texts) → IsUpdated uri w m n → (q : List ℕ) → q ≢ uri → text_in n q ≡ text_in m q
+pub other_text : (uri : List ℕ) (w : Option (String Global)) (m n : Texts) → IsUpdated uri w m n
+    → (q : List ℕ) → q ≢ uri → text_in n q ≡ text_in m q
 other_text uri w m n updated q other =
-    let differs : bytes_eq uri q ≡ false = false_from_ne_true _ (λ same. let e : uri ≡ q = (bytes_eq-Decides uri q).0 same in let back : q ≡ uri = cc in other back) in
+    let differs : bytes_eq uri q ≡ false = false_from_ne_true _ (λ same. let e : uri ≡ q =
+    (bytes_eq-Decides uri q).0 same in let back : q ≡ uri = cc in other back) in
     ap (option_map string_bytes) (updated q ∙ ap (λ b. cond b w (get_by_text m q)) differs)

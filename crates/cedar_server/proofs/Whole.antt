@@ -5,4 +5,5 @@ use Rattle.cedar_positions.specs.Changes.{replaced}
 
 -- the whole text is replaced
 pub whole_put : (text put : List ℕ) → put ≡ replaced text 0 (length text) put
-whole_put text put = sym (ap (λ rest. put ++ rest) (drop_all (max 0 (length text)) text (omega arith)) ∙ append-nil put)
+whole_put text put = sym
+    (ap (λ rest. put ++ rest) (drop_all (max 0 (length text)) text (omega arith)) ∙ append-nil put)

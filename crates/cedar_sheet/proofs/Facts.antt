@@ -38,13 +38,15 @@ heavy (space_or_break ∷ xs) h = let k = heavy xs h in omega (arith, k)
 heavy (nothing_or_break ∷ xs) h = let k = heavy xs h in omega (arith, k)
 heavy (must_break ∷ xs) h = omega arith
 
-fits_at : (b : Bool) (xs : List Atom) (w col t : ℕ) → w < 2 ^ 64 → has_hard xs ≡ b → nat_le (col + weight xs + t) w ≡ (not b && nat_le (col + flat_columns xs + t) w)
+fits_at : (b : Bool) (xs : List Atom) (w col t : ℕ) → w < 2 ^ 64 → has_hard xs ≡ b
+    → nat_le (col + weight xs + t) w ≡ (not b && nat_le (col + flat_columns xs + t) w)
 fits_at true xs w col t l h = let k = heavy xs h in grind (arith, nat_tests)
 fits_at false xs w col t l h = ap (λ n. nat_le (col + n + t) w) (light xs h)
 
 -- ---- a document before marks
 
-pub columns_onto : (d : Doc) (ms : List Sign) → (facts (onto d ms)).columns ≡ weight (atoms d) + (facts ms).columns
+pub columns_onto : (d : Doc) (ms : List Sign)
+    → (facts (onto d ms)).columns ≡ weight (atoms d) + (facts ms).columns
 columns_onto nil ms = omega arith
 columns_onto (text_then s r) ms = let h = columns_onto r ms in omega (arith, h)
 columns_onto (line_then r) ms = let h = columns_onto r ms in omega (arith, h)
@@ -72,7 +74,8 @@ ends_onto (group_then d r) ms = ap others (ends_onto d (end_mark ∷ onto r ms))
 abbrev pub HasTail : List Sign → ℕ → Type 0
 HasTail ms t = (facts ms).columns ≡ t + (facts ms).stop
 
-pub tail_onto : (d : Doc) (ms : List Sign) (t : ℕ) → HasTail ms t → HasTail (onto d ms) (tail_then (atoms d) t)
+pub tail_onto : (d : Doc) (ms : List Sign) (t : ℕ) → HasTail ms t
+    → HasTail (onto d ms) (tail_then (atoms d) t)
 tail_onto nil ms t h = h
 tail_onto (text_then s r) ms t h = let k = tail_onto r ms t h in omega (arith, k)
 tail_onto (line_then r) ms t h = omega arith
@@ -80,17 +83,23 @@ tail_onto (line_or_nil_then r) ms t h = omega arith
 tail_onto (hard_then r) ms t h = omega arith
 tail_onto (nest_then n d r) ms t h =
     tail_onto d (end_mark ∷ onto r ms) (tail_then (atoms r) t) (tail_onto r ms t h)
-    ∙ ap (λ u. u + (facts (onto d (end_mark ∷ onto r ms))).stop) (sym (tail_then-append (atoms d) (atoms r) t))
+    ∙ ap (λ u. u + (facts (onto d (end_mark ∷ onto r ms))).stop)
+    (sym (tail_then-append (atoms d) (atoms r) t))
 tail_onto (group_then d r) ms t h =
     tail_onto d (end_mark ∷ onto r ms) (tail_then (atoms r) t) (tail_onto r ms t h)
-    ∙ ap (λ u. u + (facts (onto d (end_mark ∷ onto r ms))).stop) (sym (tail_then-append (atoms d) (atoms r) t))
+    ∙ ap (λ u. u + (facts (onto d (end_mark ∷ onto r ms))).stop)
+    (sym (tail_then-append (atoms d) (atoms r) t))
 
 -- a group before marks: it is flat where it fits
 pub group_fits : (w : ℕ) (d : Doc) (ms : List Sign) (col t : ℕ) → w < 2 ^ 64 → HasTail ms t →
-    nat_le (col + (facts (onto d (end_mark ∷ ms))).columns - first_of (facts (onto d (end_mark ∷ ms))).ends) w ≡ fits w (atoms d) col t
+    nat_le (col + (facts (onto d (end_mark ∷ ms))).columns
+    - first_of (facts (onto d (end_mark ∷ ms))).ends) w ≡ fits w (atoms d) col t
 group_fits w d ms col t l h =
-    let e : col + (weight (atoms d) + (facts ms).columns) - (facts ms).stop ≡ col + weight (atoms d) + t = omega (arith, h) in
-    ap (λ n. nat_le (col + n - first_of (facts (onto d (end_mark ∷ ms))).ends) w) (columns_onto d (end_mark ∷ ms))
-    ∙ ap (λ ns. nat_le (col + (weight (atoms d) + (facts ms).columns) - first_of ns) w) (ends_onto d (end_mark ∷ ms))
+    let e : col + (weight (atoms d) + (facts ms).columns) - (facts ms).stop
+    ≡ col + weight (atoms d) + t = omega (arith, h) in
+    ap (λ n. nat_le (col + n - first_of (facts (onto d (end_mark ∷ ms))).ends) w)
+    (columns_onto d (end_mark ∷ ms))
+    ∙ ap (λ ns. nat_le (col + (weight (atoms d) + (facts ms).columns) - first_of ns) w)
+    (ends_onto d (end_mark ∷ ms))
     ∙ ap (λ n. nat_le n w) e
     ∙ fits_at (has_hard (atoms d)) (atoms d) w col t l refl

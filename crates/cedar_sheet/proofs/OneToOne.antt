@@ -23,10 +23,12 @@ onto_is (line_or_nil_then r) ms = ap (λ xs. line_or_nil_mark ∷ xs) (onto_is r
 onto_is (hard_then r) ms = ap (λ xs. hard_mark ∷ xs) (onto_is r ms)
 onto_is (nest_then n d r) ms =
     ap (λ xs. nest_mark n ∷ onto d (end_mark ∷ xs)) (onto_is r ms)
-    ∙ ap (λ xs. nest_mark n ∷ xs) (onto_is d (end_mark ∷ (flat r ++ ms)) ∙ sym (append_assoc (flat d) (end_mark ∷ flat r) ms))
+    ∙ ap (λ xs. nest_mark n ∷ xs) (onto_is d (end_mark ∷ (flat r ++ ms))
+    ∙ sym (append_assoc (flat d) (end_mark ∷ flat r) ms))
 onto_is (group_then d r) ms =
     ap (λ xs. group_mark ∷ onto d (end_mark ∷ xs)) (onto_is r ms)
-    ∙ ap (λ xs. group_mark ∷ xs) (onto_is d (end_mark ∷ (flat r ++ ms)) ∙ sym (append_assoc (flat d) (end_mark ∷ flat r) ms))
+    ∙ ap (λ xs. group_mark ∷ xs) (onto_is d (end_mark ∷ (flat r ++ ms))
+    ∙ sym (append_assoc (flat d) (end_mark ∷ flat r) ms))
 
 pub flat_is_onto : (d : Doc) → flat d ≡ onto d []
 flat_is_onto d = sym (append-nil (flat d)) ∙ sym (onto_is d [])
@@ -41,16 +43,25 @@ read_onto (line_then r) ms = ap (λ x. with_doc (line_then nil) x) (read_onto r 
 read_onto (line_or_nil_then r) ms = ap (λ x. with_doc (line_or_nil_then nil) x) (read_onto r ms)
 read_onto (hard_then r) ms = ap (λ x. with_doc (hard_then nil) x) (read_onto r ms)
 read_onto (nest_then n d r) ms =
-    ap (λ (x : Read). let y : Read = record { here = nest_then n x.here (first_doc x.after); after = other_docs x.after } in y) (read_onto d (end_mark ∷ onto r ms))
-    ∙ ap (λ (x : Read). let y : Read = record { here = nest_then n (d · nil) x.here; after = x.after } in y) (read_onto r ms)
-    ∙ ap (λ e. let y : Read = record { here = nest_then n e (r · (read ms).here); after = (read ms).after } in y) (dot-nil d)
+    ap (λ (x : Read). let y : Read =
+    record { here = nest_then n x.here (first_doc x.after); after = other_docs x.after } in y)
+    (read_onto d (end_mark ∷ onto r ms))
+    ∙ ap (λ (x : Read). let y : Read =
+    record { here = nest_then n (d · nil) x.here; after = x.after } in y) (read_onto r ms)
+    ∙ ap (λ e. let y : Read =
+    record { here = nest_then n e (r · (read ms).here); after = (read ms).after } in y) (dot-nil d)
 read_onto (group_then d r) ms =
-    ap (λ (x : Read). let y : Read = record { here = group_then x.here (first_doc x.after); after = other_docs x.after } in y) (read_onto d (end_mark ∷ onto r ms))
-    ∙ ap (λ (x : Read). let y : Read = record { here = group_then (d · nil) x.here; after = x.after } in y) (read_onto r ms)
-    ∙ ap (λ e. let y : Read = record { here = group_then e (r · (read ms).here); after = (read ms).after } in y) (dot-nil d)
+    ap (λ (x : Read). let y : Read =
+    record { here = group_then x.here (first_doc x.after); after = other_docs x.after } in y)
+    (read_onto d (end_mark ∷ onto r ms))
+    ∙ ap (λ (x : Read). let y : Read =
+    record { here = group_then (d · nil) x.here; after = x.after } in y) (read_onto r ms)
+    ∙ ap (λ e. let y : Read =
+    record { here = group_then e (r · (read ms).here); after = (read ms).after } in y) (dot-nil d)
 
 pub read_flat : (d : Doc) → read (flat d) ≡ record { here = d; after = [] }
-read_flat d = ap read (flat_is_onto d) ∙ read_onto d [] ∙ ap (λ e. let y : Read = record { here = e; after = [] } in y) (dot-nil d)
+read_flat d = ap read (flat_is_onto d) ∙ read_onto d []
+    ∙ ap (λ e. let y : Read = record { here = e; after = [] } in y) (dot-nil d)
 
 pub flat_is_one_to_one : (d e : Doc) → flat d ≡ flat e → d ≡ e
 flat_is_one_to_one d e h = ap (λ (x : Read). x.here) (sym (read_flat d) ∙ ap read h ∙ read_flat e)

@@ -9,31 +9,34 @@ written-dot ms (text_then s r) e = written-dot (then_mark ms (text_mark s)) r e
 written-dot ms (line_then r) e = written-dot (then_mark ms line_mark) r e
 written-dot ms (line_or_nil_then r) e = written-dot (then_mark ms line_or_nil_mark) r e
 written-dot ms (hard_then r) e = written-dot (then_mark ms hard_mark) r e
-written-dot ms (nest_then n d r) e = written-dot (then_mark (written (then_mark ms (nest_mark n)) d) end_mark) r e
-written-dot ms (group_then d r) e = written-dot (then_mark (written (then_mark ms group_mark) d) end_mark) r e
-
-pub flat-dot : (d e : Doc) → flat (d · e) ≡ flat d ++ flat e
-flat-dot nil e = refl
-flat-dot (text_then s r) e = ap (λ xs. text_mark s ∷ xs) (flat-dot r e)
-flat-dot (line_then r) e = ap (λ xs. line_mark ∷ xs) (flat-dot r e)
-flat-dot (line_or_nil_then r) e = ap (λ xs. line_or_nil_mark ∷ xs) (flat-dot r e)
-flat-dot (hard_then r) e = ap (λ xs. hard_mark ∷ xs) (flat-dot r e)
-flat-dot (nest_then n d r) e = ap (λ xs. nest_mark n ∷ (flat d ++ end_mark ∷ xs)) (flat-dot r e) ∙ ap (λ xs. nest_mark n ∷ xs) (sym (append_assoc (flat d) (end_mark ∷ flat r) (flat e)))
-flat-dot (group_then d r) e = ap (λ xs. group_mark ∷ (flat d ++ end_mark ∷ xs)) (flat-dot r e) ∙ ap (λ xs. group_mark ∷ xs) (sym (append_assoc (flat d) (end_mark ∷ flat r) (flat e)))
+written-dot ms (nest_then n d r) e =
+    written-dot (then_mark (written (then_mark ms (nest_mark n)) d) end_mark) r e
+written-dot ms (group_then d r) e =
+    written-dot (then_mark (written (then_mark ms group_mark) d) end_mark) r e
 
 one_more : (ms xs : List Sign) (m : Sign) → then_mark ms m ++ xs ≡ ms ++ m ∷ xs
 one_more ms xs m = append_assoc ms (m ∷ []) xs
 
-within : (ms xs ys : List Sign) (m : Sign) → then_mark (then_mark ms m ++ xs) end_mark ++ ys ≡ ms ++ m ∷ (xs ++ end_mark ∷ ys)
-within ms xs ys m = one_more (then_mark ms m ++ xs) ys end_mark ∙ append_assoc (then_mark ms m) xs (end_mark ∷ ys) ∙ one_more ms (xs ++ end_mark ∷ ys) m
+within : (ms xs ys : List Sign) (m : Sign)
+    → then_mark (then_mark ms m ++ xs) end_mark ++ ys ≡ ms ++ m ∷ (xs ++ end_mark ∷ ys)
+within ms xs ys m = one_more (then_mark ms m ++ xs) ys end_mark
+    ∙ append_assoc (then_mark ms m) xs (end_mark ∷ ys) ∙ one_more ms (xs ++ end_mark ∷ ys) m
 
 pub written_is : (ms : List Sign) (d : Doc) → written ms d ≡ ms ++ flat d
 written_is ms nil = sym (append-nil ms)
-written_is ms (text_then s r) = written_is (then_mark ms (text_mark s)) r ∙ one_more ms (flat r) (text_mark s)
+written_is ms (text_then s r) =
+    written_is (then_mark ms (text_mark s)) r ∙ one_more ms (flat r) (text_mark s)
 written_is ms (line_then r) = written_is (then_mark ms line_mark) r ∙ one_more ms (flat r) line_mark
-written_is ms (line_or_nil_then r) = written_is (then_mark ms line_or_nil_mark) r ∙ one_more ms (flat r) line_or_nil_mark
+written_is ms (line_or_nil_then r) =
+    written_is (then_mark ms line_or_nil_mark) r ∙ one_more ms (flat r) line_or_nil_mark
 written_is ms (hard_then r) = written_is (then_mark ms hard_mark) r ∙ one_more ms (flat r) hard_mark
-written_is ms (nest_then n d r) = written_is (then_mark (written (then_mark ms (nest_mark n)) d) end_mark) r ∙ ap (λ xs. then_mark xs end_mark ++ flat r) (written_is (then_mark ms (nest_mark n)) d) ∙ within ms (flat d) (flat r) (nest_mark n)
-written_is ms (group_then d r) = written_is (then_mark (written (then_mark ms group_mark) d) end_mark) r ∙ ap (λ xs. then_mark xs end_mark ++ flat r) (written_is (then_mark ms group_mark) d) ∙ within ms (flat d) (flat r) group_mark
+written_is ms (nest_then n d r) =
+    written_is (then_mark (written (then_mark ms (nest_mark n)) d) end_mark) r
+    ∙ ap (λ xs. then_mark xs end_mark ++ flat r) (written_is (then_mark ms (nest_mark n)) d)
+    ∙ within ms (flat d) (flat r) (nest_mark n)
+written_is ms (group_then d r) =
+    written_is (then_mark (written (then_mark ms group_mark) d) end_mark) r
+    ∙ ap (λ xs. then_mark xs end_mark ++ flat r) (written_is (then_mark ms group_mark) d)
+    ∙ within ms (flat d) (flat r) group_mark
 
 pub ruleset written_laws = (written-dot)

@@ -9,7 +9,8 @@ policies-preserved c =
     let text = c.args.text.now in
     let items = c.policies.policies.items in
     let answer = c.in_ok-policy.ensures.answer text items c.policies.invariant in
-    let more : HasRead c.next.new.self text (items ++ c.in-Some.policy ∷ []) = rw c.in-Some.is at answer in
+    let more : HasRead c.next.new.self text (items ++ c.in-Some.policy ∷ []) =
+    rw c.in-Some.is at answer in
     subst (HasRead c.next.new.self text) (sym c.in_ok-push.ensures.items) more
 
 pub policies-smaller : goal.policies-smaller
@@ -22,11 +23,18 @@ policies-smaller c =
     let more : HasRead new text (items ++ c.in-Some.policy ∷ []) = rw c.in-Some.is at answer in
     let place = c.in_ok-policy.ensures.place in
     let further : old.at < new.at = rw c.in-Some.is at place in
-    omega (arith, further, ends_inside text new.at more.ends, ap length more.of_text, ap length c.policies.invariant.of_text)
+    omega (
+      arith,
+      further,
+      ends_inside text new.at more.ends,
+      ap length more.of_text,
+      ap length c.policies.invariant.of_text,
+    )
 
 pub returns-clause-tree : goal.returns-clause-tree
 returns-clause-tree c =
     let text = c.args.text.now in
-    let answer = c.in_ok-policy.ensures.answer text c.policies.policies.items c.policies.invariant in
+    let answer =
+    c.in_ok-policy.ensures.answer text c.policies.policies.items c.policies.invariant in
     let has : HasPolicies text c.policies.policies.items = rw c.in_default.is at answer in
     (c.tree_has_the_policies.ensures text (record { policies = c.policies.policies })).0 has

@@ -5,4 +5,6 @@ use Rattle.cedar_document_expressions.specs.Inside.Signs.{signs_of}
 use Rattle.cedar_document_expressions.proofs.signs.write_each.Given as goal
 
 abbrev pub invariant-loop-comment : goal.invariant-loop-comment
-invariant-loop-comment l = written l.sheet (signs_of l.text (map comment_parts (drop l.comment-index l.comments))) ≡ written l.initial.sheet (signs_of l.text (map comment_parts l.comments))
+invariant-loop-comment l =
+    written l.sheet (signs_of l.text (map comment_parts (drop l.comment-index l.comments)))
+    ≡ written l.initial.sheet (signs_of l.text (map comment_parts l.comments))

@@ -12,7 +12,12 @@ use Rattle.cedar_document_rows.proofs.names.write_name.Given as goal
 abbrev pub invariant-loop-word : goal.invariant-loop-word
 invariant-loop-word l = record {
   kept : KeepsTokens l.fn.tokens l.tokens;
-  found : has_its_tokens (places l.fn.tokens) (path_parts l.fn.name.path.items l.fn.name.name) ≡ has_its_tokens (places l.fn.tokens) (path_parts (drop l.word-index l.fn.name.path.items) l.fn.name.name);
-  so_far : (i : ℤ) (t : Tree Shown kind.name) → IsNodeOf (path_parts l.fn.name.path.items l.fn.name.name) t → (before after : List Shown) → map shown l.fn.tokens ≡ before ++ (tree_yield t ++ after)
-      → NameSoFar i t l.initial.sheet before after l.fn.name.name (drop l.word-index l.fn.name.path.items) l.sheet l.tokens;
+  found : has_its_tokens (places l.fn.tokens) (path_parts l.fn.name.path.items l.fn.name.name)
+      ≡ has_its_tokens (places l.fn.tokens)
+      (path_parts (drop l.word-index l.fn.name.path.items) l.fn.name.name);
+  so_far : (i : ℤ) (t : Tree Shown kind.name)
+      → IsNodeOf (path_parts l.fn.name.path.items l.fn.name.name) t → (before after : List Shown)
+      → map shown l.fn.tokens ≡ before ++ (tree_yield t ++ after)
+      → NameSoFar i t l.initial.sheet before after l.fn.name.name
+      (drop l.word-index l.fn.name.path.items) l.sheet l.tokens;
 }

@@ -12,7 +12,10 @@ use Rattle.cedar_documents.proofs.conditions.write_conds.Given as goal
 abbrev pub invariant-loop-cond : goal.invariant-loop-cond
 invariant-loop-cond l = record {
   kept : KeepsTokens l.fn.tokens l.tokens;
-  found : has_its_tokens (places l.fn.tokens) (cond_trees l.conds none) ≡ has_its_tokens (places l.fn.tokens) (cond_trees (drop l.cond-index l.conds) none);
-  so_far : (t : Clause Shown conds) → IsPartOf (cond_trees l.conds none) t → (before after : List Shown) → map shown l.fn.tokens ≡ before ++ (part_yield t ++ after)
-      → Conditioned l.fn.indent t l.initial.sheet before after (drop l.cond-index l.conds) l.is_first l.sheet l.tokens;
+  found : has_its_tokens (places l.fn.tokens) (cond_trees l.conds none)
+      ≡ has_its_tokens (places l.fn.tokens) (cond_trees (drop l.cond-index l.conds) none);
+  so_far : (t : Clause Shown conds) → IsPartOf (cond_trees l.conds none) t
+      → (before after : List Shown) → map shown l.fn.tokens ≡ before ++ (part_yield t ++ after)
+      → Conditioned l.fn.indent t l.initial.sheet before after
+      (drop l.cond-index l.conds) l.is_first l.sheet l.tokens;
 }

@@ -15,9 +15,13 @@ use Rattle.cedar_documents.proofs.scopes.write_left.Goals as goal
 pub returns-in-Some-clause-writes : goal.returns-in-Some-clause-writes
 returns-in-Some-clause-writes c name is w t h k =
     let same : name ≡ c.in-Some.name = cc (c.in-Some.is, is) in
-    let path = subst (λ (m : Node Name). IsNodeOf (path_parts m.inner.path.items m.inner.name) t) same k in
+    let path =
+    subst (λ (m : Node Name). IsNodeOf (path_parts m.inner.path.items m.inner.name) t) same k in
     let txt = c.args.variable.now.variable.inner.0.now in
     let trail = trail_of (trailing_text c.args.comment.now) nil in
-    let behind = written_so _ (λ z. trail_of z nil) c.in_ok-trailing_text.ensures c.trailing_comment.ensures in
-    rewritten (ap (λ i. text txt · trail · type_part i (as_leaf w) (document i t)) (to_z-of_z w64 c.args.indent c.ranges.indent))
-    (text_first refl c.in_ok-text.ensures.ok (first trail behind (c.write_type_part.ensures.writes w t h path)))
+    let behind =
+    written_so _ (λ z. trail_of z nil) c.in_ok-trailing_text.ensures c.trailing_comment.ensures in
+    rewritten (ap (λ i. text txt · trail · type_part i (as_leaf w) (document i t))
+    (to_z-of_z w64 c.args.indent c.ranges.indent))
+    (text_first refl c.in_ok-text.ensures.ok
+    (first trail behind (c.write_type_part.ensures.writes w t h path)))

@@ -12,15 +12,25 @@ use Rattle.cedar_documents.proofs.scopes.write_type_part.Goals as goal
 
 pub returns-clause-writes : goal.returns-clause-writes
 returns-clause-writes c w t h k =
-    let word = in_group c.in_ok-group-2.ensures.ok (line_first c.in_ok-line.ensures.ok (c.in_ok-token_after.ensures.writes w h)) c.in_ok-end.ensures.ok in
-    let name = line_first c.in_ok-line-2.ensures.ok (c.in_ok-write_name.ensures.writes c.args.indent t k) in
-    rewritten (ap (λ i. group (nest i (group (line · printed (as_leaf w)) · line · document c.args.indent t))) (to_z-of_z w64 c.args.indent c.ranges.indent))
-    (done _ (in_group c.in_ok-group.ensures.ok (in_nest _ c.in_ok-nest.ensures.ok (and_then word name) c.in_ok-end-2.ensures.ok) c.in_ok-end-3.ensures.ok))
+    let word = in_group c.in_ok-group-2.ensures.ok (line_first c.in_ok-line.ensures.ok
+    (c.in_ok-token_after.ensures.writes w h)) c.in_ok-end.ensures.ok in
+    let name =
+    line_first c.in_ok-line-2.ensures.ok (c.in_ok-write_name.ensures.writes c.args.indent t k) in
+    rewritten
+    (ap (λ i. group (nest i (group (line · printed (as_leaf w)) · line · document c.args.indent t)))
+    (to_z-of_z w64 c.args.indent c.ranges.indent))
+    (done _ (in_group c.in_ok-group.ensures.ok (in_nest _ c.in_ok-nest.ensures.ok
+    (and_then word name) c.in_ok-end-2.ensures.ok) c.in_ok-end-3.ensures.ok))
 
 pub returns-clause-found : goal.returns-clause-found
-returns-clause-found c = as_before (λ p. has_its_tokens p (path_parts c.args.name.now.inner.path.items c.args.name.now.inner.name)) true c.args.tokens.now c.token_after.new.tokens c.in_ok-token_after.ensures.kept c.in_ok-write_name.ensures.found
+returns-clause-found c = as_before (λ p. has_its_tokens p
+    (path_parts c.args.name.now.inner.path.items c.args.name.now.inner.name)) true c.args.tokens.now
+    c.token_after.new.tokens c.in_ok-token_after.ensures.kept c.in_ok-write_name.ensures.found
 
 pub returns-in_err-write_name-clause-found : goal.returns-in_err-write_name-clause-found
 returns-in_err-write_name-clause-found c =
-    missed c.from_residual-in_err-write_name.result _ _ _ c.from_residual-in_err-write_name.ensures.1 c.in_err-write_name.ensures.found
-    (λ h. as_before (λ p. has_its_tokens p (path_parts c.args.name.now.inner.path.items c.args.name.now.inner.name)) false c.args.tokens.now c.token_after.new.tokens c.in_ok-token_after.ensures.kept h)
+    missed c.from_residual-in_err-write_name.result _ _ _
+    c.from_residual-in_err-write_name.ensures.1 c.in_err-write_name.ensures.found
+    (λ h. as_before
+    (λ p. has_its_tokens p (path_parts c.args.name.now.inner.path.items c.args.name.now.inner.name))
+    false c.args.tokens.now c.token_after.new.tokens c.in_ok-token_after.ensures.kept h)

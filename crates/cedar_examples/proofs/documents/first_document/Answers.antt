@@ -24,5 +24,7 @@ returns-clause-document c =
       };
       comments = c.in_ok-drop_trailing_commas.ensures.plain;
     } in
-    documented c.own_tokens_are_met.ensures.policies c.args.text.now c.in_ok-tree.tree c.drop_trailing_commas.new.tokens.items c.to_doc.new.context.tokens.items plain
-    c.args.config.now.indent_width policy.now first.0 c.in_ok-to_doc.field-0 c.in_ok-tree.ensures.tree (sym c.deref.ensures.value ∙ first.1) c.in_ok-to_doc.ensures.shows
+    documented c.own_tokens_are_met.ensures.policies c.args.text.now c.in_ok-tree.tree
+    c.drop_trailing_commas.new.tokens.items c.to_doc.new.context.tokens.items plain
+    c.args.config.now.indent_width policy.now first.0 c.in_ok-to_doc.field-0
+    c.in_ok-tree.ensures.tree (sym c.deref.ensures.value ∙ first.1) c.in_ok-to_doc.ensures.shows

@@ -16,4 +16,5 @@ returns-clause-told c =
     let found : AreCommentsOf c.args.a.now xs = rw c.in-Some.is at c.in_ok-first.ensures in
     let others : AreCommentsOf c.args.b.now ys = rw c.in-Some-2.is at c.in_ok-second.ensures in
     equal_tells c.listing_is_unique.ensures c.args.a.now c.args.b.now xs ys c.eq.result found others
-    (slice_eq-Decides bytes_decides xs ys c.eq.result (c.eq.ensures ∙ sym (pointwise-map (λ s. s.now) bytes_eq first second)))
+    (slice_eq-Decides bytes_decides xs ys c.eq.result
+    (c.eq.ensures ∙ sym (pointwise-map (λ s. s.now) bytes_eq first second)))

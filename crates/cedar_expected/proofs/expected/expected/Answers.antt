@@ -5,7 +5,8 @@ use Rattle.cedar_expected.proofs.expected.expected.Goals as goal
 
 pub overflow_sub-leaving : goal.overflow_sub-leaving
 overflow_sub-leaving c =
-    let b : LeavesAfter c.args.text.now c.in-Some.leaving = rw c.in-Some.is at c.in_ok-leaving.ensures in
+    let b : LeavesAfter c.args.text.now c.in-Some.leaving =
+    rw c.in-Some.is at c.in_ok-leaving.ensures in
     from_before c.args.text.now c.in-Some.leaving b
 
 pub split_at-requires : goal.split_at-requires
@@ -17,12 +18,14 @@ split_at-requires c =
 
 pub kinds_after-requires : goal.kinds_after-requires
 kinds_after-requires c =
-    let b : LeavesAfter c.args.text.now c.in-Some.leaving = rw c.in-Some.is at c.in_ok-leaving.ensures in
+    let b : LeavesAfter c.args.text.now c.in-Some.leaving =
+    rw c.in-Some.is at c.in_ok-leaving.ensures in
     rw c.split_at.ensures.front (front_tokens c.args.text.now c.in-Some.leaving b)
 
 pub is_accepted-requires : goal.is_accepted-requires
 is_accepted-requires c =
-    let b : LeavesAfter c.args.text.now c.in-Some.leaving = rw c.in-Some.is at c.in_ok-leaving.ensures in
+    let b : LeavesAfter c.args.text.now c.in-Some.leaving =
+    rw c.in-Some.is at c.in_ok-leaving.ensures in
     rw c.split_at.ensures.front (front_tokens c.args.text.now c.in-Some.leaving b)
 
 pub returns : goal.returns
@@ -30,5 +33,7 @@ returns c =
     let text = c.args.text.now in
     let l = c.in-Some.leaving in
     let b : LeavesAfter text l = rw c.in-Some.is at c.in_ok-leaving.ensures in
-    let found = c.first_unit.ensures b.leaves.after (rw c.split_at.ensures.back (back_split text l b)) in
-    is_expected text l b c.split_at.result.0.now _ c.split_at.ensures.front refl found c.in_ok-kinds.ensures c.in_ok-names.ensures c.in_ok-end.ensures
+    let found =
+    c.first_unit.ensures b.leaves.after (rw c.split_at.ensures.back (back_split text l b)) in
+    is_expected text l b c.split_at.result.0.now _ c.split_at.ensures.front refl found
+    c.in_ok-kinds.ensures c.in_ok-names.ensures c.in_ok-end.ensures

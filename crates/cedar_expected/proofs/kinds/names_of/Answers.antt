@@ -10,14 +10,22 @@ loop-kind-preserved c =
     let i = c.loop-kind.kind-index in
     elim c.if-not-is_named.branch [
       | then-not-is_named+in_ok-push w ↦
-          (let e : c.if-not-is_named.names.items ≡ c.loop-kind.names.items ++ w.name.result ∷ [] = ap (λ v. v.items) w.names-is ∙ w.in_ok-push.ensures.items in
+          (let e : c.if-not-is_named.names.items ≡ c.loop-kind.names.items ++ w.name.result ∷ [] =
+          ap (λ v. v.items) w.names-is ∙ w.in_ok-push.ensures.items in
           let n = rw c.deref-kind-items.ensures.value at w.name.ensures.named in
-          subst (λ all. SoFar kinds all (i + 1)) (sym e) (grows kinds c.loop-kind.names.items i w.name.result (rw c.deref-kind-items.ensures.value at c.loop-kind-test.true) c.loop-kind.invariant n w.name.ensures.within))
+          subst (λ all. SoFar kinds all (i + 1)) (sym e)
+          (grows kinds c.loop-kind.names.items i w.name.result (rw c.deref-kind-items.ensures.value
+          at c.loop-kind-test.true) c.loop-kind.invariant n w.name.ensures.within))
       | else-not-is_named w ↦
-          (let e : c.if-not-is_named.names.items ≡ c.loop-kind.names.items = ap (λ v. v.items) w.names-is in
-          let n : Named c.loop-kind.names.items (get_or kinds i K.True) = rw (c.deref-kind-items.ensures.value, c.deref.ensures.value) at (c.is_named.ensures.0 w.if-not-is_named.false) in
-          subst (λ all. SoFar kinds all (i + 1)) (sym e) (stays kinds c.loop-kind.names.items i (rw c.deref-kind-items.ensures.value at c.loop-kind-test.true) c.loop-kind.invariant n))
+          (let e : c.if-not-is_named.names.items ≡ c.loop-kind.names.items =
+          ap (λ v. v.items) w.names-is in
+          let n : Named c.loop-kind.names.items (get_or kinds i K.True) =
+          rw (c.deref-kind-items.ensures.value, c.deref.ensures.value) at
+          (c.is_named.ensures.0 w.if-not-is_named.false) in
+          subst (λ all. SoFar kinds all (i + 1)) (sym e) (stays kinds c.loop-kind.names.items i
+          (rw c.deref-kind-items.ensures.value at c.loop-kind-test.true) c.loop-kind.invariant n))
     ]
 
 pub returns : goal.returns
-returns c = all_named c.args.kinds.now.items.items c.loop-kind.names.items c.loop-kind.kind-index (rw c.deref-kind-items.ensures.value at c.loop-kind-test.false) c.loop-kind.invariant
+returns c = all_named c.args.kinds.now.items.items c.loop-kind.names.items c.loop-kind.kind-index
+    (rw c.deref-kind-items.ensures.value at c.loop-kind-test.false) c.loop-kind.invariant

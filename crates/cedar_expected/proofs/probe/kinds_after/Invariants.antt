@@ -6,4 +6,5 @@ use Rattle.cedar_expected.proofs.probe.kinds_after.Given as goal
 
 -- of the kinds so far, those that can follow
 abbrev pub invariant-loop-kind : goal.invariant-loop-kind
-invariant-loop-kind l = (units : List (List ℕ)) → SplitsInto l.text units → l.items.items ≡ filter (follows units) (take l.kind-index l.kind-items)
+invariant-loop-kind l = (units : List (List ℕ)) → SplitsInto l.text units
+    → l.items.items ≡ filter (follows units) (take l.kind-index l.kind-items)

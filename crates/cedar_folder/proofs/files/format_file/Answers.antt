@@ -16,8 +16,12 @@ returns-in-Other g c =
     let pic = g.F.Folder.picture in
     let only = c.args.only_checks in
     let f = stored c.in-Ok.file in
-    let isnt : IsUnformatted c.args.config.now f.bytes = subst (λ z. IsUnformatted c.args.config.now z) c.deref.ensures.value c.in-Other.ensures.0 in
-    as_one (λ p q h. of_read c.args.config.now c.args.name.now only Unformatted f p q h (isnt, subst (λ b. HoldsReplaced b c.args.config.now f (Some f)) (sym c.if-only_checks.true) refl))
+    let isnt : IsUnformatted c.args.config.now f.bytes =
+    subst (λ z. IsUnformatted c.args.config.now z) c.deref.ensures.value c.in-Other.ensures.0 in
+    as_one (λ p q h. of_read c.args.config.now c.args.name.now only Unformatted f p q h (
+      isnt,
+      subst (λ b. HoldsReplaced b c.args.config.now f (Some f)) (sym c.if-only_checks.true) refl,
+    ))
     (pic c.args.folder.now) (pic c.read.new.self) c.in-Ok.ensures
 
 pub returns-in-Other-2 : goal.returns-in-Other-2
@@ -28,19 +32,29 @@ returns-in-Other-2 g c =
     let f = stored c.in-Ok.file in
     let o = c.replace_file.result in
     let ys = c.as_bytes.result.now in
-    let given : GivesLayout config f.bytes (Other c.in-Other.field-0) = subst (λ z. GivesLayout config z (Other c.in-Other.field-0)) c.deref.ensures.value c.in-Other.ensures in
+    let given : GivesLayout config f.bytes (Other c.in-Other.field-0) = subst (λ z.
+    GivesLayout config z (Other c.in-Other.field-0)) c.deref.ensures.value c.in-Other.ensures in
     let is : string_bytes c.in-Other.field-0 ≡ ys = sym c.as_bytes.ensures.value in
-    subst (λ b. Follows (Handles config b name o) (pic c.args.folder.now) (pic c.replace_file.new.folder)) (sym c.if-only_checks.false)
-    (of_two (λ p q r h done. of_replaced config name f ys given.0 (subst (λ z. HasOutput config f.bytes z) is given.1) (subst (λ z. IsUtf8 z) is given.2) o p q r h done)
-    (pic c.args.folder.now) (pic c.read.new.self) (pic c.replace_file.new.folder) c.in-Ok.ensures c.replace_file.ensures)
+    subst (λ b. Follows (Handles config b name o) (pic c.args.folder.now)
+    (pic c.replace_file.new.folder)) (sym c.if-only_checks.false)
+    (of_two (λ p q r h done. of_replaced config name f ys given.0 (subst
+    (λ z. HasOutput config f.bytes z) is given.1) (subst (λ z. IsUtf8 z) is given.2) o p q r h done)
+    (pic c.args.folder.now) (pic c.read.new.self)
+    (pic c.replace_file.new.folder) c.in-Ok.ensures c.replace_file.ensures)
 
 pub returns-in-NotUtf8 : goal.returns-in-NotUtf8
 returns-in-NotUtf8 g c =
     let pic = g.F.Folder.picture in
-    as_one (λ p q h. of_read c.args.config.now c.args.name.now c.args.only_checks NotUtf8 (stored c.in-Ok.file) p q h (subst (λ z. IsUtf8 z → ⊥) c.deref.ensures.value c.in-NotUtf8.ensures, refl)) (pic c.args.folder.now) (pic c.read.new.self) c.in-Ok.ensures
+    as_one (λ p q h.
+    of_read c.args.config.now c.args.name.now c.args.only_checks NotUtf8 (stored c.in-Ok.file) p q h
+    (subst (λ z. IsUtf8 z → ⊥) c.deref.ensures.value c.in-NotUtf8.ensures, refl))
+    (pic c.args.folder.now) (pic c.read.new.self) c.in-Ok.ensures
 
 pub returns : goal.returns
 returns g c =
     let pic = g.F.Folder.picture in
-    let why : OutOfMemoryOr (Refuses c.in-Ok.file.bytes.items) c.in-Refused.error = subst (λ z. OutOfMemoryOr (Refuses z) c.in-Refused.error) c.deref.ensures.value c.in-Refused.ensures in
-    as_one (λ p q h. of_read c.args.config.now c.args.name.now c.args.only_checks (Refused c.in-Refused.error c.in-Ok.file.bytes) (stored c.in-Ok.file) p q h (why, refl, refl)) (pic c.args.folder.now) (pic c.read.new.self) c.in-Ok.ensures
+    let why : OutOfMemoryOr (Refuses c.in-Ok.file.bytes.items) c.in-Refused.error = subst (λ z.
+    OutOfMemoryOr (Refuses z) c.in-Refused.error) c.deref.ensures.value c.in-Refused.ensures in
+    as_one (λ p q h. of_read c.args.config.now c.args.name.now c.args.only_checks
+    (Refused c.in-Refused.error c.in-Ok.file.bytes) (stored c.in-Ok.file) p q h (why, refl, refl))
+    (pic c.args.folder.now) (pic c.read.new.self) c.in-Ok.ensures

@@ -13,10 +13,16 @@ loop-name-preserved g c =
     let m = c.as_str.result.now in
     let o = c.format_file-outcome.result in (
       before.0 ++ ((m, o) ∷ []),
-      next_name c.args.names.now before.0 c.loop-name.name-index c.name-item.result m o c.loop-name-test.true c.name-item.is c.as_str.ensures.value before.1,
-      of_three (λ p q r s. one_more c.outputs_are_canonical.ensures.again c.outputs_are_canonical.ensures.equal c.listing_is_unique.ensures c.args.only_checks c.args.config.now before.0 m o c.report.result p q r s)
-          (pic c.args.folder.now) (pic c.loop-name.folder) (pic c.format_file-outcome.new.folder) (pic c.report.new.self) before.2 c.format_file-outcome.ensures
-          (subst (λ z. Follows (Reports z o c.report.result) (pic c.format_file-outcome.new.folder) (pic c.report.new.self)) (c.as_str-in-loop-name.ensures.value ∙ sym c.as_str.ensures.value) c.report.ensures),
+      next_name c.args.names.now before.0 c.loop-name.name-index c.name-item.result m o
+          c.loop-name-test.true c.name-item.is c.as_str.ensures.value before.1,
+      of_three (λ p q r s. one_more c.outputs_are_canonical.ensures.again
+          c.outputs_are_canonical.ensures.equal c.listing_is_unique.ensures c.args.only_checks
+          c.args.config.now before.0 m o c.report.result p q r s)
+          (pic c.args.folder.now) (pic c.loop-name.folder) (pic c.format_file-outcome.new.folder)
+          (pic c.report.new.self) before.2 c.format_file-outcome.ensures
+          (subst (λ z. Follows (Reports z o c.report.result) (pic c.format_file-outcome.new.folder)
+          (pic c.report.new.self))
+          (c.as_str-in-loop-name.ensures.value ∙ sym c.as_str.ensures.value) c.report.ensures),
     )
 
 pub returns-then-not-report : goal.returns-then-not-report
@@ -27,8 +33,16 @@ returns-then-not-report g c =
     let o = c.format_file-outcome.result in
     let goes_on = c.report.result in
     let told = before.0 ++ ((m, o) ∷ []) in
-    let named = next_name c.args.names.now before.0 c.loop-name.name-index c.name-item.result m o c.loop-name-test.true c.name-item.is c.as_str.ensures.value before.1 in
-    of_three (λ p q r s these step is. until_stopped c.args.names.now told (c.loop-name.name-index + 1) c.args.config.now c.args.only_checks p s named (stops_where m o goes_on r s c.if-not-report.true is)
-    (one_more c.outputs_are_canonical.ensures.again c.outputs_are_canonical.ensures.equal c.listing_is_unique.ensures c.args.only_checks c.args.config.now before.0 m o goes_on p q r s these step is))
-    (pic c.args.folder.now) (pic c.loop-name.folder) (pic c.format_file-outcome.new.folder) (pic c.report.new.self) before.2 c.format_file-outcome.ensures
-    (subst (λ z. Follows (Reports z o goes_on) (pic c.format_file-outcome.new.folder) (pic c.report.new.self)) (c.as_str-in-loop-name.ensures.value ∙ sym c.as_str.ensures.value) c.report.ensures)
+    let named = next_name c.args.names.now before.0 c.loop-name.name-index c.name-item.result m o
+    c.loop-name-test.true c.name-item.is c.as_str.ensures.value before.1 in
+    of_three (λ p q r s these step is.
+    until_stopped c.args.names.now told (c.loop-name.name-index + 1) c.args.config.now
+    c.args.only_checks p s named (stops_where m o goes_on r s c.if-not-report.true is)
+    (one_more c.outputs_are_canonical.ensures.again c.outputs_are_canonical.ensures.equal
+    c.listing_is_unique.ensures c.args.only_checks c.args.config.now before.0 m o goes_on p q r s
+    these step is))
+    (pic c.args.folder.now) (pic c.loop-name.folder) (pic c.format_file-outcome.new.folder)
+    (pic c.report.new.self) before.2 c.format_file-outcome.ensures
+    (subst (λ z.
+    Follows (Reports z o goes_on) (pic c.format_file-outcome.new.folder) (pic c.report.new.self))
+    (c.as_str-in-loop-name.ensures.value ∙ sym c.as_str.ensures.value) c.report.ensures)

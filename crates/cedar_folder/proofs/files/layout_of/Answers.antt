@@ -10,6 +10,9 @@ pub returns-else-eq : goal.returns-else-eq
 returns-else-eq c =
     let made = c.in-Ok-policies_str_to_pretty in
     let text = c.in-Ok.text.now in
-    other_layout c.outputs_are_canonical.ensures.equal c.listing_is_unique.ensures c.args.config.now c.args.bytes.now text (string_bytes made.output) c.eq.result
-    c.in-Ok.ensures.cases made.ensures.output (subst (λ z. IsUtf8 z) c.as_str.ensures.value c.as_str.utf8)
-    (subst (λ z. IsTrue c.eq.result ↔ (z ≡ text)) c.as_str.ensures.value (slice_eq-Decides Decides-eqb c.as_str.result.now text c.eq.result c.eq.ensures)) c.if-eq.false
+    other_layout c.outputs_are_canonical.ensures.equal c.listing_is_unique.ensures c.args.config.now
+    c.args.bytes.now text (string_bytes made.output) c.eq.result
+    c.in-Ok.ensures.cases made.ensures.output
+    (subst (λ z. IsUtf8 z) c.as_str.ensures.value c.as_str.utf8)
+    (subst (λ z. IsTrue c.eq.result ↔ (z ≡ text)) c.as_str.ensures.value
+    (slice_eq-Decides Decides-eqb c.as_str.result.now text c.eq.result c.eq.ensures)) c.if-eq.false

@@ -1,7 +1,7 @@
 use Rattle.std.proofs.Common.{ℕ, List}
 use Rattle.cedar_tokens.specs.Listing.{Decorated}
 use Rattle.cedar_grammar.specs.Placed.{Placed}
-use Rattle.cedar_grammar.proofs.SameGrammars.{grammars_agree}
+use Rattle.cedar_grammar.proofs.Texts.Grammars.{grammars_agree}
 use Rattle.cedar_grammar.proofs.laws.grammars_agree.Goals as goal
 
 pub returns-clause-texts : goal.returns-clause-texts

@@ -1,7 +1,7 @@
 use Rattle.cedar_tokens.specs.TokenKinds.{kind_of}
 use Rattle.cedar_grammar.specs.Placed.{kind_of_placed}
 use Rattle.cedar_grammar.specs.Laws.{kind_of_decorated}
-use Rattle.cedar_grammar.proofs.TreeLaws.{list_has_one_tree}
+use Rattle.cedar_grammar.proofs.Trees.Laws.{list_has_one_tree}
 use Rattle.cedar_grammar.proofs.laws.list_has_one_tree.Goals as goal
 
 pub returns-clause-texts : goal.returns-clause-texts

@@ -1,7 +1,7 @@
 use Rattle.cedar_tokens.specs.TokenKinds.{kind_of}
 use Rattle.cedar_grammar.specs.Placed.{kind_of_placed}
 use Rattle.cedar_grammar.specs.Laws.{kind_of_decorated}
-use Rattle.cedar_grammar.proofs.PlainGrammar.{plain_is_in_the_grammar}
+use Rattle.cedar_grammar.proofs.Plain.Grammar.{plain_is_in_the_grammar}
 use Rattle.cedar_grammar.proofs.laws.plain_is_in_the_grammar.Goals as goal
 
 pub returns-clause-texts : goal.returns-clause-texts

@@ -1,7 +1,7 @@
 use Rattle.std.proofs.Common.{ℕ, List}
 use Rattle.cedar_tokens.specs.Listing.{Decorated}
 use Rattle.cedar_grammar.specs.Placed.{Placed}
-use Rattle.cedar_grammar.proofs.SameGrammars.{texts_are_tokens}
+use Rattle.cedar_grammar.proofs.Texts.Grammars.{texts_are_tokens}
 use Rattle.cedar_grammar.proofs.laws.texts_are_tokens.Goals as goal
 
 pub returns-clause-texts : goal.returns-clause-texts

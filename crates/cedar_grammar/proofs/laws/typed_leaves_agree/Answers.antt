@@ -1,7 +1,7 @@
 use Rattle.cedar_tokens.specs.TokenKinds.{kind_of}
 use Rattle.cedar_grammar.specs.Placed.{kind_of_placed}
 use Rattle.cedar_grammar.specs.Laws.{kind_of_decorated}
-use Rattle.cedar_grammar.proofs.TreeLaws.{typed_leaves_agree}
+use Rattle.cedar_grammar.proofs.Trees.Laws.{typed_leaves_agree}
 use Rattle.cedar_grammar.proofs.laws.typed_leaves_agree.Goals as goal
 
 pub returns-clause-texts : goal.returns-clause-texts

@@ -10,12 +10,16 @@ loop-d-preserved t c =
     let items = c.deref-d-items.result.now in
     let k = c.loop-d.d-index in
     let d = c.d-item.result in
-    let split = docs_of-drop items k d c.loop-d-test.true ∙ ap (λ x. doc_of x · docs_of (drop (k + 1) items)) (sym c.d-item.is) in
-    copy_step c.push.new.self.items c.loop-d.all.items (drop k items) (drop (k + 1) items) c.in_ok-copy-in-Seq.field-0 d _ c.in_ok-push-in-Seq.ensures.items c.in_ok-copy-in-Seq.ensures split c.loop-d.invariant
+    let split = docs_of-drop items k d c.loop-d-test.true
+    ∙ ap (λ x. doc_of x · docs_of (drop (k + 1) items)) (sym c.d-item.is) in
+    copy_step c.push.new.self.items c.loop-d.all.items (drop k items)
+    (drop (k + 1) items) c.in_ok-copy-in-Seq.field-0 d _ c.in_ok-push-in-Seq.ensures.items
+    c.in_ok-copy-in-Seq.ensures split c.loop-d.invariant
 
 pub returns-after-loop-d : goal.returns-after-loop-d
 returns-after-loop-d t c =
     doc_of_seq c.loop-d.all
     ∙ sym (dot-nil (docs_of c.loop-d.all.items))
-    ∙ ap (λ x. docs_of c.loop-d.all.items · x) (sym (docs_of-drop_all c.deref-d-items.result.now c.loop-d.d-index c.loop-d-test.false))
+    ∙ ap (λ x. docs_of c.loop-d.all.items · x)
+    (sym (docs_of-drop_all c.deref-d-items.result.now c.loop-d.d-index c.loop-d-test.false))
     ∙ c.loop-d.invariant

@@ -72,43 +72,56 @@ abbrev pub decreases-parse_bracket : goal.decreases-parse_bracket
 decreases-parse_bracket l = 16 * l.depth + 14
 
 abbrev pub invariant-parse_or-operands : goal.invariant-parse_or-operands
-invariant-parse_or-operands l = (length l.rest < length l.fn.tokens) × OperandsRead Label.and and_parts (λ _. codes "||") (λ n. n) Label.or (is K.Or) (at_depth l.fn.depth and_rule) l.first.value l.extended.items l.fn.tokens l.rest
+invariant-parse_or-operands l = (length l.rest < length l.fn.tokens)
+    × OperandsRead Label.and and_parts (λ _. codes "||") (λ n. n) Label.or (is K.Or)
+    (at_depth l.fn.depth and_rule) l.first.value l.extended.items l.fn.tokens l.rest
 
 abbrev pub decreases-parse_or-operands : goal.decreases-parse_or-operands
 decreases-parse_or-operands l = length l.rest
 
 abbrev pub invariant-parse_and-operands : goal.invariant-parse_and-operands
-invariant-parse_and-operands l = (length l.rest < length l.fn.tokens) × OperandsRead Label.relation relation_parts (λ _. codes "&&") (λ n. n) Label.and (is K.And) (at_depth l.fn.depth relation_rule) l.first.value l.extended.items l.fn.tokens l.rest
+invariant-parse_and-operands l = (length l.rest < length l.fn.tokens)
+    × OperandsRead Label.relation relation_parts (λ _. codes "&&") (λ n. n) Label.and (is K.And)
+    (at_depth l.fn.depth relation_rule) l.first.value l.extended.items l.fn.tokens l.rest
 
 abbrev pub decreases-parse_and-operands : goal.decreases-parse_and-operands
 decreases-parse_and-operands l = length l.rest
 
 abbrev pub invariant-parse_add-operands : goal.invariant-parse_add-operands
-invariant-parse_add-operands l = (length l.rest < length l.fn.tokens) × OperandsRead Label.mult mult_parts (λ x. addop_text x.0) (λ x. x.1) Label.add (λ x. is K.Add x || is K.Dash x) (at_depth l.fn.depth mult_rule) l.first.value l.extended.items l.fn.tokens l.rest
+invariant-parse_add-operands l = (length l.rest < length l.fn.tokens) × OperandsRead Label.mult
+    mult_parts (λ x. addop_text x.0) (λ x. x.1) Label.add (λ x. is K.Add x || is K.Dash x)
+    (at_depth l.fn.depth mult_rule) l.first.value l.extended.items l.fn.tokens l.rest
 
 abbrev pub decreases-parse_add-operands : goal.decreases-parse_add-operands
 decreases-parse_add-operands l = length l.rest
 
 abbrev pub invariant-parse_mult-operands : goal.invariant-parse_mult-operands
-invariant-parse_mult-operands l = (length l.rest < length l.fn.tokens) × OperandsRead Label.unary unary_parts (λ _. codes "*") (λ x. x.1) Label.mult (is K.Mul) (at_depth l.fn.depth unary_rule) l.first.value l.extended.items l.fn.tokens l.rest
+invariant-parse_mult-operands l = (length l.rest < length l.fn.tokens)
+    × OperandsRead Label.unary unary_parts (λ _. codes "*") (λ x. x.1) Label.mult (is K.Mul)
+    (at_depth l.fn.depth unary_rule) l.first.value l.extended.items l.fn.tokens l.rest
 
 abbrev pub decreases-parse_mult-operands : goal.decreases-parse_mult-operands
 decreases-parse_mult-operands l = length l.rest
 
 abbrev pub invariant-parse_member-accesses : goal.invariant-parse_member-accesses
-invariant-parse_member-accesses l = (length l.rest < length l.fn.tokens) × AccessesRead (at_depth l.fn.depth item) (begins kind (λ x. is K.Dot x || is K.LBracket x)) (at_depth l.fn.depth access_rule) l.item.value l.access.items l.fn.tokens l.rest
+invariant-parse_member-accesses l = (length l.rest < length l.fn.tokens)
+    × AccessesRead (at_depth l.fn.depth item) (begins kind (λ x. is K.Dot x || is K.LBracket x))
+    (at_depth l.fn.depth access_rule) l.item.value l.access.items l.fn.tokens l.rest
 
 abbrev pub decreases-parse_member-accesses : goal.decreases-parse_member-accesses
 decreases-parse_member-accesses l = length l.rest
 
 abbrev pub invariant-parse_exprs-items : goal.invariant-parse_exprs-items
-invariant-parse_exprs-items l = (length l.rest ≤ length l.fn.tokens) × ItemsRead Label.expr expr_parts expr_first (expr_to kind l.fn.depth) l.fn.tokens l.items.items l.rest
+invariant-parse_exprs-items l = (length l.rest ≤ length l.fn.tokens) × ItemsRead Label.expr
+    expr_parts expr_first (expr_to kind l.fn.depth) l.fn.tokens l.items.items l.rest
 
 abbrev pub decreases-parse_exprs-items : goal.decreases-parse_exprs-items
 decreases-parse_exprs-items l = length l.rest
 
 abbrev pub invariant-parse_inits-inits : goal.invariant-parse_inits-inits
-invariant-parse_inits-inits l = (length l.rest ≤ length l.fn.tokens) × ItemsRead Label.rec_init init_parts (λ x. is_ident x || is K.Str x) (at_depth (suc l.fn.depth) init) l.fn.tokens l.inits.items l.rest
+invariant-parse_inits-inits l = (length l.rest ≤ length l.fn.tokens)
+    × ItemsRead Label.rec_init init_parts (λ x. is_ident x || is K.Str x)
+    (at_depth (suc l.fn.depth) init) l.fn.tokens l.inits.items l.rest
 
 abbrev pub decreases-parse_inits-inits : goal.decreases-parse_inits-inits
 decreases-parse_inits-inits l = length l.rest

@@ -1,11 +1,11 @@
-use Rattle.std.proofs.lemmas.Result.{err_from_is_err_and}
 use Rattle.cedar_parser_expressions.proofs.Primaries.{lone_gives}
+use Rattle.cedar_parser_steps.proofs.Refusals.{refused}
 use Rattle.cedar_parser_expressions.proofs.expressions.literal_item.Goals as goal
 
 pub returns-in_err-primary-clause-reads : goal.returns-in_err-primary-clause-reads
 returns-in_err-primary-clause-reads c =
-    let p = err_from_is_err_and c.from_residual.result c.from_residual.ensures.1 in
-    rw (p.1, p.2) c.in_err-primary.ensures.reads
+    rw (refused c.from_residual.ensures.1) c.in_err-primary.ensures.reads
 
 pub returns-clause-reads : goal.returns-clause-reads
-returns-clause-reads c = lone_gives c.in_ok-primary.primary c.in_ok-primary.rest c.lone_item.result _ c.in_ok-primary.ensures.reads c.lone_item.ensures
+returns-clause-reads c = lone_gives c.in_ok-primary.primary c.in_ok-primary.rest c.lone_item.result
+    _ c.in_ok-primary.ensures.reads c.lone_item.ensures

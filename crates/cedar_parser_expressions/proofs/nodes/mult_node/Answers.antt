@@ -9,4 +9,9 @@ use Rattle.cedar_parser_expressions.proofs.nodes.mult_node.Goals as goal
 pub returns : goal.returns
 returns c =
     let first = c.into_inner-initial.result in
-    rw (c.in_ok-new.ensures.ok, sym c.into_inner-initial.ensures) (view_mult first c.args.extended, c.to-span.ensures ∙ ap (λ z. record { start = first.span.start; end = z }) (c.signed_end-end.ensures ∙ ap (end_of_last (λ (x : MultOp × Node Unary.Unary). x.1) first.span.end) c.deref.ensures.value))
+    rw (c.in_ok-new.ensures.ok, sym c.into_inner-initial.ensures) (
+      view_mult first c.args.extended,
+      c.to-span.ensures ∙ ap (λ z. record { start = first.span.start; end = z })
+          (c.signed_end-end.ensures ∙ ap (end_of_last
+          (λ (x : MultOp × Node Unary.Unary). x.1) first.span.end) c.deref.ensures.value),
+    )

@@ -3,7 +3,8 @@ use Rattle.cedar_parser_steps.proofs.Operands.{head, dotted, field_reader, Acces
 use Rattle.cedar_parser_steps.proofs.accesses.parse_fields.Given as goal
 
 abbrev pub invariant-fields : goal.invariant-fields
-invariant-fields l = (length l.rest < length l.fn.tokens) × AccessesRead head dotted field_reader l.item l.access.items l.fn.tokens l.rest
+invariant-fields l = (length l.rest < length l.fn.tokens)
+    × AccessesRead head dotted field_reader l.item l.access.items l.fn.tokens l.rest
 
 abbrev pub decreases-fields : goal.decreases-fields
 decreases-fields l = length l.rest

@@ -1,17 +1,10 @@
 use Rattle.std.proofs.Common.{refl, sym}
-use Rattle.std.proofs.lemmas.Result.{err_from_is_err_and}
 use Rattle.cedar_tokens.specs.declared.kind.Kind.TheVariants as K
 use Rattle.cedar_grammar.specs.Trees.{Label}
-use Rattle.cedar_grammar.proofs.ReadingLaws.{tree_done, tree_fails}
-use Rattle.cedar_parser_steps.proofs.Steps.{passes}
+use Rattle.cedar_grammar.proofs.Readers.Equations.{tree_done}
 use Rattle.cedar_parser_steps.proofs.Rows.{row_node, row_parts, row_span}
 use Rattle.cedar_parser_steps.proofs.Operands.{row_own}
 use Rattle.cedar_parser_steps.proofs.literals.parse_text.Goals as goal
-
-pub returns-in_err-string-clause-reads : goal.returns-in_err-string-clause-reads
-returns-in_err-string-clause-reads c =
-    let p = err_from_is_err_and c.from_residual.result c.from_residual.ensures.1 in
-    rw (p.1, p.2) (passes _ _ _ c.in_err-string.ensures.reads (λ x r e. tree_fails Label.primary _ _ x r (tree_fails Label.string _ _ x r e)))
 
 pub returns-clause-reads : goal.returns-clause-reads
 returns-clause-reads c =
@@ -20,5 +13,6 @@ returns-clause-reads c =
     let l = c.literal_primary.ensures in (
       _,
       tree_done Label.primary _ _ _ _ (tree_done Label.string _ _ _ _ h.0),
-      row_span _ _ _ _ (sym l.1) (row_parts _ _ _ _ l.0 (row_node Label.string _ _ _ refl (row_own s K.Str h.1 refl refl))),
+      row_span _ _ _ _ (sym l.1) (row_parts _ _ _ _ l.0
+          (row_node Label.string _ _ _ refl (row_own s K.Str h.1 refl refl))),
     )

@@ -3,7 +3,8 @@ use Rattle.cedar_parser_steps.proofs.Paths.{PathRead}
 use Rattle.cedar_parser_steps.proofs.names.parse_path.Given as goal
 
 abbrev pub invariant-words : goal.invariant-words
-invariant-words l = (length l.rest < length l.fn.tokens) × PathRead l.fn.tokens l.path.items l.name l.rest
+invariant-words l =
+    (length l.rest < length l.fn.tokens) × PathRead l.fn.tokens l.path.items l.name l.rest
 
 abbrev pub decreases-words : goal.decreases-words
 decreases-words l = length l.rest

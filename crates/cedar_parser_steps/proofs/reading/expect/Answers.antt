@@ -11,7 +11,9 @@ returns-then-eq-clause-reads c =
 pub returns-else-eq-clause-reads : goal.returns-else-eq-clause-reads
 returns-else-eq-clause-reads c =
     let e = sym (c.eq.ensures ∙ kind_test _ _) ∙ c.if-eq.false in
-    fails_as _ _ _ c.refuse.ensures (token_not (is c.args.wanted) _ (first_begins (is c.args.wanted) _ _ _ c.in-Some.ensures.cases.0 ∙ e))
+    fails_as _ _ _ c.refuse.ensures (token_not (is c.args.wanted) _
+    (first_begins (is c.args.wanted) _ _ _ c.in-Some.ensures.cases.0 ∙ e))
 
 pub returns-in-None-clause-reads : goal.returns-in-None-clause-reads
-returns-in-None-clause-reads c = fails_as _ _ _ c.refuse-in-None.ensures (token_not (is c.args.wanted) _ (none_begins (is c.args.wanted) _ c.in-None.ensures.cases))
+returns-in-None-clause-reads c = fails_as _ _ _ c.refuse-in-None.ensures
+    (token_not (is c.args.wanted) _ (none_begins (is c.args.wanted) _ c.in-None.ensures.cases))

@@ -11,8 +11,18 @@ loop-i-preserved c =
     elim c.if-ends_line.branch [
       | then-ends_line w ↦
           let ends : ends_line text i ≡ true = sym c.ends_line.ensures ∙ w.if-ends_line.true in
-          rw (w.line-is, w.start-is) (lines_before-end text i ends ∙ ap (λ n. n + 1) c.loop-i.invariant.0, BeginsLine-next text c.loop-i.line i (omega arith) c.loop-i.invariant.0 ends, omega arith, omega arith)
+          rw (w.line-is, w.start-is) (
+            lines_before-end text i ends ∙ ap (λ n. n + 1) c.loop-i.invariant.0,
+            BeginsLine-next text c.loop-i.line i (omega arith) c.loop-i.invariant.0 ends,
+            omega arith,
+            omega arith,
+          )
       | else-ends_line w ↦
           let same : ends_line text i ≡ false = sym c.ends_line.ensures ∙ w.if-ends_line.false in
-          rw (w.line-is, w.start-is) (lines_before-same text i same ∙ c.loop-i.invariant.0, c.loop-i.invariant.1, omega arith, omega arith)
+          rw (w.line-is, w.start-is) (
+            lines_before-same text i same ∙ c.loop-i.invariant.0,
+            c.loop-i.invariant.1,
+            omega arith,
+            omega arith,
+          )
     ]

@@ -11,9 +11,11 @@ pub returns-then-lines-line-clause-start : goal.returns-then-lines-line-clause-s
 returns-then-lines-line-clause-start c =
     let ends : ends_line c.args.text.now c.loop-i.i ≡ true = cc in
     let more : c.loop-i.lines + 1 ≡ c.args.line = search rules in
-    subst (λ n. BeginsLine c.args.text.now n (c.loop-i.i + 1)) more (BeginsLine-next c.args.text.now c.loop-i.lines c.loop-i.i (search rules) (search rules) ends)
+    subst (λ n. BeginsLine c.args.text.now n (c.loop-i.i + 1)) more
+    (BeginsLine-next c.args.text.now c.loop-i.lines c.loop-i.i (search rules) (search rules) ends)
 
 pub returns-then-lines-line-clause-boundary : goal.returns-then-lines-line-clause-boundary
 returns-then-lines-line-clause-boundary c =
     let ends : ends_line c.args.text.now c.loop-i.i ≡ true = cc in
-    IsCharBoundary-after_ascii c.args.text.now c.loop-i.i c.utf8.text (search rules) (ends_line-ascii c.args.text.now c.loop-i.i ends)
+    IsCharBoundary-after_ascii c.args.text.now c.loop-i.i c.utf8.text (search rules)
+    (ends_line-ascii c.args.text.now c.loop-i.i ends)

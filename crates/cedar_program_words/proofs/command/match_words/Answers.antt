@@ -10,4 +10,6 @@ returns-in_err-command c =
     rw p.1 (inl p.2)
 
 pub returns : goal.returns
-returns c = matched (map (λ w. string_bytes w) c.args.words.now) (app_of c.in_ok-command.field-0) c.try_get_matches_from.result c.in_ok-command.ensures c.try_get_matches_from.ensures.matches c.try_get_matches_from.ensures.kinds
+returns c = matched (map (λ w. string_bytes w) c.args.words.now)
+    (app_of c.in_ok-command.field-0) c.try_get_matches_from.result c.in_ok-command.ensures
+    c.try_get_matches_from.ensures.matches c.try_get_matches_from.ensures.kinds

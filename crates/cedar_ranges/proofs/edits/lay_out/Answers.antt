@@ -11,11 +11,17 @@ use Rattle.cedar_ranges.proofs.edits.lay_out.Goals as goal
 
 pub returns-in_err-layout : goal.returns-in_err-layout
 returns-in_err-layout c =
-    let some : c.args.span.start < c.args.span.end = omega (arith, c.requires.part.order, c.if-span.false) in
-    let part : c.range-2.result.now ≡ within c.args.text.now c.args.span = c.range-2.ensures.value in
-    let accepted = subst Accepted (sym part) (pieces_accepted c.args.text.now c.args.span c.requires.accepted c.requires.pieces some) in
-    let p = err_from_is_err_and c.from_residual-in_err-layout.result c.from_residual-in_err-layout.ensures.1 in
-    rw (p.1, p.2) (only_memory (Refuses c.range-2.result.now) (λ e h. c.accepted_is_not_refused.ensures c.range-2.result.now e accepted h) c.in_err-layout.field-0.0 c.in_err-layout.ensures.answer)
+    let some : c.args.span.start < c.args.span.end =
+    omega (arith, c.requires.part.order, c.if-span.false) in
+    let part : c.range-2.result.now ≡ within c.args.text.now c.args.span =
+    c.range-2.ensures.value in
+    let accepted = subst Accepted (sym part)
+    (pieces_accepted c.args.text.now c.args.span c.requires.accepted c.requires.pieces some) in
+    let p = err_from_is_err_and c.from_residual-in_err-layout.result
+    c.from_residual-in_err-layout.ensures.1 in
+    rw (p.1, p.2) (only_memory (Refuses c.range-2.result.now)
+    (λ e h. c.accepted_is_not_refused.ensures c.range-2.result.now e accepted h)
+    c.in_err-layout.field-0.0 c.in_err-layout.ensures.answer)
 
 pub returns : goal.returns
 returns c =
@@ -23,11 +29,20 @@ returns c =
     let i = c.args.config.now.indent_width in
     let text = c.args.text.now in
     let out = string_bytes c.in_ok-layout.layout in
-    let some : c.args.span.start < c.args.span.end = omega (arith, c.requires.part.order, c.if-span.false) in
+    let some : c.args.span.start < c.args.span.end =
+    omega (arith, c.requires.part.order, c.if-span.false) in
     let part : c.range-2.result.now ≡ within text c.args.span = c.range-2.ensures.value in
     let front : c.range.result.now ≡ take c.args.span.start text = search rules in
     let output = subst (λ z. IsOutputOf w i z out) part c.in_ok-layout.ensures.output in
-    let bytes : string_bytes c.push_str.new.self ≡ feeds_after (take c.args.span.start text) ++ out =
-    c.in_ok-push_str.ensures.bytes ∙ (ap (λ z. string_bytes c.push_feeds.new.text ++ z) c.as_str.ensures.value
-    ∙ (ap (λ z. z ++ out) (c.in_ok-push_feeds.ensures ∙ ap (λ z. z ++ feeds_after c.range.result.now) c.new-edit.ensures.bytes) ∙ ap (λ z. feeds_after z ++ out) front)) in
-    inr (some, lays_out w i text c.args.span out (string_bytes c.push_str.new.self) c.utf8.text c.requires.accepted c.requires.pieces some output bytes)
+    let bytes : string_bytes c.push_str.new.self
+    ≡ feeds_after (take c.args.span.start text) ++ out =
+    c.in_ok-push_str.ensures.bytes
+    ∙ (ap (λ z. string_bytes c.push_feeds.new.text ++ z) c.as_str.ensures.value
+    ∙ (ap (λ z. z ++ out) (c.in_ok-push_feeds.ensures
+    ∙ ap (λ z. z ++ feeds_after c.range.result.now) c.new-edit.ensures.bytes)
+    ∙ ap (λ z. feeds_after z ++ out) front)) in
+    inr (
+      some,
+      lays_out w i text c.args.span out (string_bytes c.push_str.new.self) c.utf8.text
+          c.requires.accepted c.requires.pieces some output bytes,
+    )

@@ -6,11 +6,15 @@ use Rattle.cedar_ranges.proofs.edits.push_feeds.Goals as goal
 pub returns-then-ends_with : goal.returns-then-ends_with
 returns-then-ends_with c =
     let e : feeds_after c.args.before.now ≡ 10 ∷ [] =
-    feeds_by_test c.args.before.now c.is_empty.result c.ends_with.result c.is_empty.ensures c.if-is_empty.false (c.ends_with.ensures.byte (omega arith) (omega arith) (λ w o h. h)) ∙ ap (λ t. cond t (10 ∷ []) (10 ∷ (10 ∷ []))) c.if-ends_with.true in
+    feeds_by_test c.args.before.now c.is_empty.result c.ends_with.result c.is_empty.ensures
+    c.if-is_empty.false (c.ends_with.ensures.byte (omega arith) (omega arith) (λ w o h. h))
+    ∙ ap (λ t. cond t (10 ∷ []) (10 ∷ (10 ∷ []))) c.if-ends_with.true in
     rw e (search rules)
 
 pub returns-else-ends_with : goal.returns-else-ends_with
 returns-else-ends_with c =
     let e : feeds_after c.args.before.now ≡ 10 ∷ (10 ∷ []) =
-    feeds_by_test c.args.before.now c.is_empty.result c.ends_with.result c.is_empty.ensures c.if-is_empty.false (c.ends_with.ensures.byte (omega arith) (omega arith) (λ w o h. h)) ∙ ap (λ t. cond t (10 ∷ []) (10 ∷ (10 ∷ []))) c.if-ends_with.false in
+    feeds_by_test c.args.before.now c.is_empty.result c.ends_with.result c.is_empty.ensures
+    c.if-is_empty.false (c.ends_with.ensures.byte (omega arith) (omega arith) (λ w o h. h))
+    ∙ ap (λ t. cond t (10 ∷ []) (10 ∷ (10 ∷ []))) c.if-ends_with.false in
     rw e (search rules)

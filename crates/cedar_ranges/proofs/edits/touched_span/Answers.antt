@@ -20,7 +20,14 @@ overflow_add-end c =
     let text = c.pieces.reader.text in
     let n = length c.in-Some.piece.text.now in
     let inside : c.pieces.at + n ≤ length c.args.text.now =
-    omega (arith, c.pieces.invariant.place, piece_inside (drop at text) n goes_on.first.piece, piece_positive (drop at text) n goes_on.first.piece, length-drop at text, ap length c.pieces.invariant.of_text) in
+    omega (
+      arith,
+      c.pieces.invariant.place,
+      piece_inside (drop at text) n goes_on.first.piece,
+      piece_positive (drop at text) n goes_on.first.piece,
+      length-drop at text,
+      ap length c.pieces.invariant.of_text,
+    ) in
     search rules
 
 pub pieces-smaller : goal.pieces-smaller
@@ -31,10 +38,13 @@ pieces-preserved c =
     let goes_on = rw c.in-Some.is at c.in_ok-piece.ensures.answer in
     let piece = c.in-Some.piece.text.now in
     let same : drop c.pieces.reader.at c.pieces.reader.text ≡ drop c.pieces.at c.args.text.now =
-    ap (λ k. drop k c.pieces.reader.text) (sym c.pieces.invariant.place) ∙ ap (drop c.pieces.at) c.pieces.invariant.of_text in
+    ap (λ k. drop k c.pieces.reader.text) (sym c.pieces.invariant.place)
+    ∙ ap (drop c.pieces.at) c.pieces.invariant.of_text in
     record {
       of_text = goes_on.of_text ∙ c.pieces.invariant.of_text;
       place = ap (λ k. k + length piece) c.pieces.invariant.place ∙ sym goes_on.further;
-      touched = touched_more c.args.text.now c.args.range c.pieces.span c.pieces.at c.pieces.invariant.touched piece
-          (subst (λ z. IsFirstPiece z (length piece)) same goes_on.first) (goes_on.bytes ∙ ap (take (length piece)) same) c.with_piece-span.result c.with_piece-span.ensures;
+      touched = touched_more c.args.text.now c.args.range c.pieces.span c.pieces.at
+          c.pieces.invariant.touched piece
+          (subst (λ z. IsFirstPiece z (length piece)) same goes_on.first) (goes_on.bytes
+          ∙ ap (take (length piece)) same) c.with_piece-span.result c.with_piece-span.ensures;
     }

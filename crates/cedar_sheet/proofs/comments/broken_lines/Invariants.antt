@@ -5,4 +5,6 @@ use Rattle.cedar_sheet.proofs.comments.broken_lines.Given as goal
 
 -- the lines to come, after what is written, are all lines after what was written before
 abbrev pub invariant-loop-line : goal.invariant-loop-line
-invariant-loop-line l = written l.sheet (broken_lines (map (λ s. s.now) (drop l.line-index l.lines))) ≡ written l.initial.sheet (broken_lines (map (λ s. s.now) l.lines))
+invariant-loop-line l =
+    written l.sheet (broken_lines (map (λ s. s.now) (drop l.line-index l.lines)))
+    ≡ written l.initial.sheet (broken_lines (map (λ s. s.now) l.lines))

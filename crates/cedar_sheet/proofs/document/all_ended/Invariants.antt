@@ -4,7 +4,8 @@ use Rattle.cedar_sheet.specs.Inside.Documents.{closed}
 use Rattle.cedar_sheet.proofs.document.all_ended.Given as goal
 
 abbrev pub invariant-loop-last : goal.invariant-loop-last
-invariant-loop-last l = closed (reverse l.begun.items) (docs_of l.docs.items) [] ≡ closed (reverse l.initial.begun.items) (docs_of l.initial.docs.items) []
+invariant-loop-last l = closed (reverse l.begun.items) (docs_of l.docs.items) []
+    ≡ closed (reverse l.initial.begun.items) (docs_of l.initial.docs.items) []
 
 abbrev pub decreases-loop-last : goal.decreases-loop-last
 decreases-loop-last l = length l.begun.items

@@ -10,5 +10,7 @@ pub returns : goal.returns
 returns c =
     let bs = c.loop-mark.begun.items in
     let ds = c.loop-mark.docs.items in
-    let done = ap (λ xs. document_at bs ds (signs_of xs)) (sym (drop_all c.loop-mark.mark-index c.args.marks.now (omega arith))) in
-    IfOk-weaker c.all_ended.result _ _ (λ x h. h ∙ sym (no_marks_left bs ds) ∙ done ∙ c.loop-mark.invariant) c.all_ended.ensures
+    let done = ap (λ xs. document_at bs ds (signs_of xs))
+    (sym (drop_all c.loop-mark.mark-index c.args.marks.now (omega arith))) in
+    IfOk-weaker c.all_ended.result _ _
+    (λ x h. h ∙ sym (no_marks_left bs ds) ∙ done ∙ c.loop-mark.invariant) c.all_ended.ensures

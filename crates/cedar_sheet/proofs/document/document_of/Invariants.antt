@@ -5,4 +5,6 @@ use Rattle.cedar_sheet.proofs.document.document_of.Given as goal
 
 -- what was built, with the marks to come, is the document of all marks
 abbrev pub invariant-loop-mark : goal.invariant-loop-mark
-invariant-loop-mark l = document_at l.begun.items l.docs.items (signs_of (drop l.mark-index l.marks)) ≡ document_at [] [] (signs_of l.marks)
+invariant-loop-mark l =
+    document_at l.begun.items l.docs.items (signs_of (drop l.mark-index l.marks))
+    ≡ document_at [] [] (signs_of l.marks)

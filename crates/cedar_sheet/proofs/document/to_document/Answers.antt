@@ -7,4 +7,5 @@ use Rattle.cedar_sheet.proofs.document.to_document.Goals as goal
 pub returns : goal.returns
 returns c =
     let same = ap signs_of c.deref.ensures.value ∙ c.sheet.view_is in
-    IfOk-weaker c.document_of.result _ _ (λ x h d e. h ∙ document_of_flat d (signs_of c.deref.result.now) (same ∙ e)) c.document_of.ensures
+    IfOk-weaker c.document_of.result _ _ (λ x h d e.
+    h ∙ document_of_flat d (signs_of c.deref.result.now) (same ∙ e)) c.document_of.ensures

@@ -13,7 +13,8 @@ returns-in_default-clause-other c =
     let d = c.in_default in
     let u = c.args.text.now in
     let h : has_four_bytes u ≡ true = grind (arith, nat_tests, c.requires) in (
-      not_one_of_passing has_four_bytes keywords u h (d.not-true, (d.not-when, (d.not-like, (d.not-then, (d.not-else, tt))))),
+      not_one_of_passing has_four_bytes keywords u h
+          (d.not-true, (d.not-when, (d.not-like, (d.not-then, (d.not-else, tt))))),
       not_one_of_passing has_four_bytes slots u h tt,
       not_one_of_passing has_four_bytes punctuators u h tt,
     )

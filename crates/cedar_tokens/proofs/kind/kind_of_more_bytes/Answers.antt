@@ -13,7 +13,8 @@ returns-in_default-clause-other c =
     let d = c.in_default in
     let u = c.args.text.now in
     let h : has_more_bytes u ≡ true = grind (arith, nat_tests, c.requires) in (
-      not_one_of_passing has_more_bytes keywords u h (d.not-false, (d.not-has, (d.not-principal, (d.not-resource, (d.not-context, tt))))),
+      not_one_of_passing has_more_bytes keywords u h
+          (d.not-false, (d.not-has, (d.not-principal, (d.not-resource, (d.not-context, tt))))),
       not_one_of_passing has_more_bytes slots u h (d.not-text, (d.not-text-2, tt)),
       not_one_of_passing has_more_bytes punctuators u h tt,
     )

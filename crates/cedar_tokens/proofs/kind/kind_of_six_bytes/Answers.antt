@@ -13,7 +13,8 @@ returns-in_default-clause-other c =
     let d = c.in_default in
     let u = c.args.text.now in
     let h : has_six_bytes u ≡ true = grind (arith, nat_tests, c.requires) in (
-      not_one_of_passing has_six_bytes keywords u h (d.not-permit, (d.not-forbid, (d.not-unless, (d.not-action, tt)))),
+      not_one_of_passing has_six_bytes keywords u h
+          (d.not-permit, (d.not-forbid, (d.not-unless, (d.not-action, tt)))),
       not_one_of_passing has_six_bytes slots u h tt,
       not_one_of_passing has_six_bytes punctuators u h tt,
     )

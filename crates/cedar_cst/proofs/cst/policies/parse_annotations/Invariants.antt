@@ -9,7 +9,9 @@ use Rattle.cedar_cst.proofs.cst.policies.parse_annotations.Given as goal
 use Rattle.cedar_tree.specs.Erased.{annotation_parts}
 
 abbrev pub invariant-annotations : goal.invariant-annotations
-invariant-annotations l = (length l.rest ≤ length l.fn.tokens) × ManyRead Label.annotation annotation_parts (begins kind (is K.At)) (flat annotation_rule) l.fn.tokens l.annotations.items l.rest
+invariant-annotations l =
+    (length l.rest ≤ length l.fn.tokens) × ManyRead Label.annotation annotation_parts
+    (begins kind (is K.At)) (flat annotation_rule) l.fn.tokens l.annotations.items l.rest
 
 abbrev pub decreases-annotations : goal.decreases-annotations
 decreases-annotations l = length l.rest

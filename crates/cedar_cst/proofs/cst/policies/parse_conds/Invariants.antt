@@ -10,7 +10,9 @@ use Rattle.cedar_cst.proofs.cst.policies.parse_conds.Given as goal
 use Rattle.cedar_tree.specs.Erased.{cond_parts}
 
 abbrev pub invariant-conds : goal.invariant-conds
-invariant-conds l = (length l.rest ≤ length l.fn.tokens) × ManyRead Label.condition cond_parts (begins kind is_cond_word) (at_depth (suc greatest_depth) cond_rule) l.fn.tokens l.conds.items l.rest
+invariant-conds l = (length l.rest ≤ length l.fn.tokens)
+    × ManyRead Label.condition cond_parts (begins kind is_cond_word)
+    (at_depth (suc greatest_depth) cond_rule) l.fn.tokens l.conds.items l.rest
 
 abbrev pub decreases-conds : goal.decreases-conds
 decreases-conds l = length l.rest

@@ -9,7 +9,8 @@ use Rattle.cedar_cst.proofs.Sets.{starts}
 use Rattle.cedar_cst.proofs.cst.policies.parse_set.Given as goal
 
 abbrev pub invariant-policies : goal.invariant-policies
-invariant-policies l = ManyRead Label.policy policy_parts starts (at_depth (suc greatest_depth) policy_rule) l.fn.tokens l.policies.items l.rest
+invariant-policies l = ManyRead Label.policy policy_parts starts
+    (at_depth (suc greatest_depth) policy_rule) l.fn.tokens l.policies.items l.rest
 
 abbrev pub decreases-policies : goal.decreases-policies
 decreases-policies l = length l.rest

@@ -8,7 +8,8 @@ use Rattle.cedar_parser_expressions.proofs.Listed.{ItemsRead}
 use Rattle.cedar_cst.proofs.cst.scopes.parse_entities.Given as goal
 
 abbrev pub invariant-items : goal.invariant-items
-invariant-items l = (length l.rest ≤ length l.fn.tokens) × ItemsRead Label.expr expr_parts is_ident (flat entity_item) l.fn.tokens l.items.items l.rest
+invariant-items l = (length l.rest ≤ length l.fn.tokens)
+    × ItemsRead Label.expr expr_parts is_ident (flat entity_item) l.fn.tokens l.items.items l.rest
 
 abbrev pub decreases-items : goal.decreases-items
 decreases-items l = length l.rest

@@ -1,25 +1,21 @@
 use Rattle.std.proofs.Common.{refl, codes}
-use Rattle.std.proofs.lemmas.Result.{err_from_is_err_and}
 use Rattle.cedar_tokens.specs.declared.kind.Kind.TheVariants as K
 use Rattle.cedar_grammar.specs.Trees.{Label}
 use Rattle.cedar_grammar.specs.Reader.Rules.{items}
 use Rattle.cedar_grammar.specs.Reader.Lines.{maybe, entity_item}
-use Rattle.cedar_grammar.proofs.ReadingLaws.{both_fails}
 use Rattle.cedar_tree.specs.Erased.{expr_parts}
 use Rattle.cedar_parser_steps.specs.Reading.{flat}
-use Rattle.cedar_parser_steps.proofs.Steps.{passes}
-use Rattle.cedar_parser_expressions.proofs.Bracketed.{square, list_fails, enclosed_reader, enclosed_gives, primary_gives}
+use Rattle.cedar_parser_expressions.proofs.Bracketed.{square, enclosed_reader, enclosed_gives, primary_gives}
 use Rattle.cedar_cst.proofs.cst.scopes.parse_entity_list.Goals as goal
-
-pub returns-in_err-open-clause-reads : goal.returns-in_err-open-clause-reads
-returns-in_err-open-clause-reads c =
-    let p = err_from_is_err_and c.from_residual.result c.from_residual.ensures.1 in
-    rw (p.1, p.2) (passes _ _ _ c.in_err-open.ensures.reads (λ x r e. list_fails (flat (maybe (items entity_item))) _ x r (both_fails _ _ _ x r e)))
 
 pub returns-clause-reads : goal.returns-clause-reads
 returns-clause-reads c =
     let h = c.in_ok-open.ensures.reads in
     let m = c.list_node.ensures.made in
     let P = flat (maybe (items entity_item)) in
-    let g = enclosed_gives Label.expr expr_parts (codes "[") (codes "]") K.LBracket K.RBracket square P c.parse_entities.result m.0 _ _ c.in_ok-open.open h.0 h.1 c.parse_entities.ensures.reads m.1 in
-    primary_gives Label.expr expr_parts (codes "[") (codes "]") Label.list refl (enclosed_reader Label.expr expr_parts (codes "[") (codes "]") K.LBracket K.RBracket square P) _ m.0 c.list_node.result _ g m.2 m.3
+    let g =
+    enclosed_gives Label.expr expr_parts (codes "[") (codes "]") K.LBracket K.RBracket square P
+    c.parse_entities.result m.0 _ _ c.in_ok-open.open h.0 h.1 c.parse_entities.ensures.reads m.1 in
+    primary_gives Label.expr expr_parts (codes "[") (codes "]") Label.list refl
+    (enclosed_reader Label.expr expr_parts (codes "[") (codes "]") K.LBracket K.RBracket square P) _
+    m.0 c.list_node.result _ g m.2 m.3

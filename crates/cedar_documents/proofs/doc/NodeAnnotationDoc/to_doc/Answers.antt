@@ -1,14 +1,29 @@
 use Rattle.std.proofs.Common.{rules, refl}
+use Rattle.std.proofs.Math.Bool.{and-true}
 use Rattle.cedar_tree.specs.Erased.{node, annotation_parts}
 use Rattle.cedar_grammar.specs.Trees.{Label, none}
 use Rattle.cedar_document_rows.specs.Found.{has_its_tokens}
-use Rattle.cedar_document_rows.proofs.Found.{and_one}
 use Rattle.cedar_documents.proofs.Answered.{Called, kept_after, none_after, order_after, shown_part}
 use Rattle.cedar_documents.proofs.OwnTokens.{signed_part}
 use Rattle.cedar_documents.proofs.doc.NodeAnnotationDoc.to_doc.Goals as goal
 
-called : (c : goal.After-drop-sheet-inside-4) → Called c.write_annotation-wrote.result c.answer.result (node Label.annotation c.args.self.now.span (annotation_parts c.args.self.now.inner) none) (λ P. has_its_tokens P (annotation_parts c.args.self.now.inner)) c.args.context.now.tokens.len c.new-sheet.result c.write_annotation-wrote.new.sheet c.args.context.now.tokens.items c.as_mut_slice.result.now c.write_annotation-wrote.new.tokens
-called c = record { len = search rules; given = c.as_mut_slice.ensures.value; order = c.requires; kept = c.write_annotation-wrote.ensures.kept; found = c.write_annotation-wrote.ensures.found; same = and_one _; empty = c.new-sheet.ensures; told = c.answer.ensures.found; answered = c.answer.ensures.document }
+called : (c : goal.After-drop-sheet-inside-4)
+    → Called c.write_annotation-wrote.result c.answer.result
+    (node Label.annotation c.args.self.now.span (annotation_parts c.args.self.now.inner) none)
+    (λ P. has_its_tokens P (annotation_parts c.args.self.now.inner)) c.args.context.now.tokens.len
+    c.new-sheet.result c.write_annotation-wrote.new.sheet c.args.context.now.tokens.items
+    c.as_mut_slice.result.now c.write_annotation-wrote.new.tokens
+called c = record {
+  len = search rules;
+  given = c.as_mut_slice.ensures.value;
+  order = c.requires;
+  kept = c.write_annotation-wrote.ensures.kept;
+  found = c.write_annotation-wrote.ensures.found;
+  same = and-true _;
+  empty = c.new-sheet.ensures;
+  told = c.answer.ensures.found;
+  answered = c.answer.ensures.document;
+}
 
 pub returns-clause-order : goal.returns-clause-order
 returns-clause-order c = order_after (called c)
@@ -20,4 +35,7 @@ pub returns-clause-none : goal.returns-clause-none
 returns-clause-none c = none_after (called c)
 
 pub returns-clause-shows : goal.returns-clause-shows
-returns-clause-shows c = shown_part c.args.context.now.config.now.indent_width refl Label.annotation c.args.self.now.span (annotation_parts c.args.self.now.inner) refl (λ t. (tt, signed_part t, tt)) (called c) (λ t s n. c.write_annotation-wrote.ensures.writes c.args.context.now.config.now.indent_width t s n)
+returns-clause-shows c = shown_part c.args.context.now.config.now.indent_width refl Label.annotation
+    c.args.self.now.span (annotation_parts c.args.self.now.inner) refl
+    (λ t. (tt, signed_part t, tt)) (called c) (λ t s n.
+    c.write_annotation-wrote.ensures.writes c.args.context.now.config.now.indent_width t s n)

@@ -1,15 +1,29 @@
 use Rattle.std.proofs.Common.{◌≡◌, to_z, of_z, w64, arith, rules, refl}
 use Rattle.std.proofs.lemmas.Int.{ints}
+use Rattle.std.proofs.Math.Bool.{and-true}
 use Rattle.cedar_tree.specs.Erased.{node, primary_parts}
 use Rattle.cedar_grammar.specs.Trees.{Label, none}
 use Rattle.cedar_document_rows.specs.Found.{has_its_tokens}
-use Rattle.cedar_document_rows.proofs.Found.{and_one}
 use Rattle.cedar_documents.proofs.Answered.{Called, kept_after, none_after, order_after, shown_node}
 use Rattle.cedar_documents.proofs.OwnTokens.{signed_tree}
 use Rattle.cedar_documents.proofs.doc.NodePrimaryDoc.to_doc.Goals as goal
 
-called : (c : goal.After-drop-sheet-inside-4) → Called c.write_primary-wrote.result c.answer.result (node Label.primary c.args.self.now.span (primary_parts c.args.self.now.inner) none) (λ P. has_its_tokens P (primary_parts c.args.self.now.inner)) c.args.context.now.tokens.len c.new-sheet.result c.write_primary-wrote.new.sheet c.args.context.now.tokens.items c.as_mut_slice.result.now c.write_primary-wrote.new.tokens
-called c = record { len = search rules; given = c.as_mut_slice.ensures.value; order = c.requires; kept = c.write_primary-wrote.ensures.kept; found = c.write_primary-wrote.ensures.found; same = and_one _; empty = c.new-sheet.ensures; told = c.answer.ensures.found; answered = c.answer.ensures.document }
+called : (c : goal.After-drop-sheet-inside-4) → Called c.write_primary-wrote.result c.answer.result
+    (node Label.primary c.args.self.now.span (primary_parts c.args.self.now.inner) none)
+    (λ P. has_its_tokens P (primary_parts c.args.self.now.inner)) c.args.context.now.tokens.len
+    c.new-sheet.result c.write_primary-wrote.new.sheet c.args.context.now.tokens.items
+    c.as_mut_slice.result.now c.write_primary-wrote.new.tokens
+called c = record {
+  len = search rules;
+  given = c.as_mut_slice.ensures.value;
+  order = c.requires;
+  kept = c.write_primary-wrote.ensures.kept;
+  found = c.write_primary-wrote.ensures.found;
+  same = and-true _;
+  empty = c.new-sheet.ensures;
+  told = c.answer.ensures.found;
+  answered = c.answer.ensures.document;
+}
 
 pub returns-clause-order : goal.returns-clause-order
 returns-clause-order c = order_after (called c)
@@ -22,5 +36,8 @@ returns-clause-none c = none_after (called c)
 
 pub returns-clause-shows : goal.returns-clause-shows
 returns-clause-shows c =
-    let width : to_z w64 (of_z w64 c.args.context.now.config.now.indent_width) ≡ c.args.context.now.config.now.indent_width = omega (arith, ints) in
-    shown_node c.args.context.now.config.now.indent_width width Label.primary c.args.self.now.span (primary_parts c.args.self.now.inner) refl (λ t. (tt, signed_tree t, tt)) (called c) (λ t s n. c.write_primary-wrote.ensures.writes t s n)
+    let width : to_z w64 (of_z w64 c.args.context.now.config.now.indent_width)
+    ≡ c.args.context.now.config.now.indent_width = omega (arith, ints) in
+    shown_node c.args.context.now.config.now.indent_width width Label.primary c.args.self.now.span
+    (primary_parts c.args.self.now.inner) refl (λ t. (tt, signed_tree t, tt)) (called c)
+    (λ t s n. c.write_primary-wrote.ensures.writes t s n)

@@ -11,5 +11,6 @@ returns-clause-gains c =
     let old = c.self.inside.keys in
     let new = c.insert.new.self in
     subst (λ z. Gains z (map string_bytes new.keys) c.args.text.now) c.self.view_is
-    (put_gains c.keys_tell_lists.ensures c.outputs_are_canonical.ensures.some old.keys new.keys c.args.text.now key c.utf8.text c.in_ok-key.ensures.key
+    (put_gains c.keys_tell_lists.ensures c.outputs_are_canonical.ensures.some old.keys new.keys
+    c.args.text.now key c.utf8.text c.in_ok-key.ensures.key
     (hash_set_updates_text key old new true c.in_ok-insert.ensures.updates))

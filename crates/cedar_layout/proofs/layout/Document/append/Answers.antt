@@ -5,7 +5,9 @@ use Rattle.cedar_layout.proofs.Values.{dot-nil, doc_of_nil, doc_of_seq, docs_of-
 use Rattle.cedar_layout.proofs.layout.Document.append.Goals as goal
 
 pub returns-in-Nil-other : goal.returns-in-Nil-other
-returns-in-Nil-other c = sym (ap (λ d. doc_of c.args.self · d) (ap doc_of c.in-Nil-other.is ∙ doc_of_nil) ∙ dot-nil (doc_of c.args.self))
+returns-in-Nil-other c =
+    sym (ap (λ d. doc_of c.args.self · d) (ap doc_of c.in-Nil-other.is ∙ doc_of_nil)
+    ∙ dot-nil (doc_of c.args.self))
 
 pub returns : goal.returns
 returns c =

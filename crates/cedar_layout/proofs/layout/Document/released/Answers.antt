@@ -6,16 +6,20 @@ use Rattle.cedar_layout.proofs.Releasing.{leaf_released, inner_released, nested_
 use Rattle.cedar_layout.proofs.layout.Document.released.Goals as goal
 
 pub returns-in-Nil : goal.returns-in-Nil
-returns-in-Nil c = leaf_released c.args.docs.items c.args.self (nested_leaf c.args.self c.in-Nil.is) (nodes_pos c.args.self)
+returns-in-Nil c = leaf_released c.args.docs.items c.args.self (nested_leaf c.args.self c.in-Nil.is)
+    (nodes_pos c.args.self)
 
 pub returns-in-Nest : goal.returns-in-Nest
 returns-in-Nest c =
     inner_released c.args.docs.items _ c.args.self c.into_inner.result c.put.ensures
     (ap nested c.in-Nest.is ∙ nested_nest _ c.in-Nest.inner)
-    (ap nodes c.in-Nest.is ∙ nodes_nest _ c.in-Nest.inner ∙ ap (λ d. 1 + nodes d) (sym c.into_inner.ensures))
+    (ap nodes c.in-Nest.is ∙ nodes_nest _ c.in-Nest.inner
+    ∙ ap (λ d. 1 + nodes d) (sym c.into_inner.ensures))
 
 pub returns-in-Group : goal.returns-in-Group
 returns-in-Group c =
-    inner_released c.args.docs.items _ c.args.self c.into_inner-in-Group.result c.put-in-Group.ensures
+    inner_released c.args.docs.items _ c.args.self c.into_inner-in-Group.result
+    c.put-in-Group.ensures
     (ap nested c.in-Group.is ∙ nested_group c.in-Group.inner)
-    (ap nodes c.in-Group.is ∙ nodes_group c.in-Group.inner ∙ ap (λ d. 1 + nodes d) (sym c.into_inner-in-Group.ensures))
+    (ap nodes c.in-Group.is ∙ nodes_group c.in-Group.inner
+    ∙ ap (λ d. 1 + nodes d) (sym c.into_inner-in-Group.ensures))

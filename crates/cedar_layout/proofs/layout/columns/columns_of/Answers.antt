@@ -8,7 +8,8 @@ use Rattle.cedar_layout.proofs.layout.columns.columns_of.Goals as goal
 pub returns-then-all_printable-clause-value : goal.returns-then-all_printable-clause-value
 returns-then-all_printable-clause-value c =
     let printable : list_all (is_in_range 0x20 0x7E) c.args.text.now ≡ true =
-    ap (list_all (is_in_range 0x20 0x7E)) (sym c.as_bytes.ensures.value) ∙ (sym c.all_printable.ensures ∙ c.if-all_printable.true) in
+    ap (list_all (is_in_range 0x20 0x7E)) (sym c.as_bytes.ensures.value)
+    ∙ (sym c.all_printable.ensures ∙ c.if-all_printable.true) in
     sym (printable_columns c.args.text.now printable)
 
 pub returns-else-all_printable-clause-value : goal.returns-else-all_printable-clause-value

@@ -7,7 +7,8 @@ use Rattle.cedar_layout.proofs.layout.measure.measure.Given as goal
 -- the notes so far and those to come are those of the whole document, and likewise the steps
 abbrev pub invariant-loop-next : goal.invariant-loop-next
 invariant-loop-next g l = record {
-  notes : l.notes.items ++ notes_to_come (items_of l.stack.items) l.known ≡ all_notes (doc_of l.doc) 0;
+  notes : l.notes.items ++ notes_to_come (items_of l.stack.items) l.known
+      ≡ all_notes (doc_of l.doc) 0;
   steps : l.steps + nodes_to_take l.stack.items ≡ l.fn.steps + nodes l.doc;
   least : l.fn.steps ≤ l.steps;
 }

@@ -12,17 +12,25 @@ loop-i-preserved c =
     let k = c.loop-i.i in
     let d = c.index-docs-i.result in
     let old = c.loop-i.stack.items in
-    let target : List Todo = todos a.stack.now.items ++ record { doc = docs_of a.docs.now; flat = a.flat; indent = a.indent } ∷ [] in
-    let grown : todos c.push.new.self.items ≡ todos old ++ record { doc = doc_of d; flat = a.flat; indent = a.indent } ∷ [] = ap todos c.in_ok-push.ensures.items ∙ map-append todo old _ in
+    let target : List Todo = todos a.stack.now.items
+    ++ record { doc = docs_of a.docs.now; flat = a.flat; indent = a.indent } ∷ [] in
+    let grown : todos c.push.new.self.items
+    ≡ todos old ++ record { doc = doc_of d; flat = a.flat; indent = a.indent } ∷ [] =
+    ap todos c.in_ok-push.ensures.items ∙ map-append todo old _ in
     let p = nodes_to_print_pushed old c.push.new.self.items _ c.in_ok-push.ensures.items in
     let b = nodes_of_all-back a.docs.now k d c.loop-i-test.true c.loop-i.auto.i c.index-docs-i.is in
     record {
-      same = subst (λ ps. PrintsSame (ps ++ record { doc = docs_of (take (k - 1) a.docs.now); flat = a.flat; indent = a.indent } ∷ []) target) (sym grown)
-          (push_step (todos old) target a.docs.now d a.flat a.indent k c.loop-i-test.true c.loop-i.auto.i c.index-docs-i.is c.loop-i.invariant.same);
+      same = subst (λ ps. PrintsSame (ps
+          ++ record { doc = docs_of (take (k - 1) a.docs.now); flat = a.flat; indent = a.indent }
+          ∷ []) target) (sym grown)
+          (push_step (todos old) target a.docs.now d a.flat a.indent k c.loop-i-test.true
+          c.loop-i.auto.i c.index-docs-i.is c.loop-i.invariant.same);
       nodes = omega (arith, c.loop-i.invariant.nodes);
     }
 
 pub returns-clause-same : goal.returns-clause-same
 returns-clause-same c =
     let a = c.args in
-    push_end (todos c.loop-i.stack.items) (todos a.stack.now.items ++ record { doc = docs_of a.docs.now; flat = a.flat; indent = a.indent } ∷ []) a.docs.now a.flat a.indent c.loop-i.i (omega arith) c.loop-i.invariant.same
+    push_end (todos c.loop-i.stack.items) (todos a.stack.now.items
+    ++ record { doc = docs_of a.docs.now; flat = a.flat; indent = a.indent } ∷ []) a.docs.now a.flat
+    a.indent c.loop-i.i (omega arith) c.loop-i.invariant.same

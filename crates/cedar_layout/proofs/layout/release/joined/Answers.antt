@@ -7,17 +7,21 @@ pub returns-then-is_empty : goal.returns-then-is_empty
 returns-then-is_empty c =
     let docs = c.args.docs in
     let len : vec_len docs ≡ length docs.items = search rules in
-    first_joined docs.items c.args.more (is_nil docs.items _ c.is_empty.result len c.is_empty.ensures c.if-is_empty.true)
+    first_joined docs.items c.args.more
+    (is_nil docs.items _ c.is_empty.result len c.is_empty.ensures c.if-is_empty.true)
 
 pub returns-in-None : goal.returns-in-None
 returns-in-None c =
     let docs = c.args.docs in
     let len : vec_len docs ≡ length docs.items = search rules in
     let none : c.args.more.items ≡ [] = search rules in
-    none_joined docs.items c.args.more (not_empty docs.items _ c.is_empty.result len c.is_empty.ensures c.if-is_empty.false) none
+    none_joined docs.items c.args.more
+    (not_empty docs.items _ c.is_empty.result len c.is_empty.ensures c.if-is_empty.false) none
 
 pub returns-in-Ok : goal.returns-in-Ok
 returns-in-Ok c =
     let docs = c.args.docs in
     let len : vec_len docs ≡ length docs.items = search rules in
-    all_joined docs.items c.pop.new.self.items _ c.args.more c.put.new.docs c.in-Some.last (not_empty docs.items _ c.is_empty.result len c.is_empty.ensures c.if-is_empty.false) c.in-Some.ensures.items c.put.ensures c.in-Ok.ensures.items
+    all_joined docs.items c.pop.new.self.items _ c.args.more c.put.new.docs c.in-Some.last
+    (not_empty docs.items _ c.is_empty.result len c.is_empty.ensures c.if-is_empty.false)
+    c.in-Some.ensures.items c.put.ensures c.in-Ok.ensures.items

@@ -9,4 +9,5 @@ returns-clause-boundary c =
     let text = c.args.text.now in
     let left = c.trim_start.result.now in
     let dropped = c.trim_start.ensures.value in
-    IsCharBoundary-from_drop text (length text - length left) (omega arith) (subst IsUtf8 (sym (drop_rest dropped.0 text left dropped.1)) c.trim_start.utf8)
+    IsCharBoundary-from_drop text (length text - length left) (omega arith)
+    (subst IsUtf8 (sym (drop_rest dropped.0 text left dropped.1)) c.trim_start.utf8)

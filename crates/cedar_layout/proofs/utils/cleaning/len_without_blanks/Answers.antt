@@ -8,4 +8,5 @@ returns-clause-boundary c =
     let text = c.args.text.now in
     let left = c.trim_end.result.now in
     let taken = c.trim_end.ensures.value in
-    IsCharBoundary-from_take text (length left) c.utf8.text (omega (arith, taken.4, taken.5)) (subst IsUtf8 (taken.1 ∙ ap (λ k. take k text) (sym taken.4)) c.trim_end.utf8)
+    IsCharBoundary-from_take text (length left) c.utf8.text (omega (arith, taken.4, taken.5))
+    (subst IsUtf8 (taken.1 ∙ ap (λ k. take k text) (sym taken.4)) c.trim_end.utf8)

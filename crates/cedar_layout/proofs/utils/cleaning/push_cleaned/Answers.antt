@@ -6,5 +6,7 @@ pub trim_from-requires : goal.trim_from-requires
 trim_from-requires c =
     let old = c.args.out.now in
     let new = c.push_pieces.new.out in
-    let e : c.len-start.result ≡ length (string_bytes old) = omega (arith, c.len-start.ensures, old.bytes.ok.0) in
-    cut_point (string_bytes old) (string_bytes new) c.len-start.result old.ok new.ok e c.in_ok-push_pieces.ensures.kept
+    let e : c.len-start.result ≡ length (string_bytes old) =
+    omega (arith, c.len-start.ensures, old.bytes.ok.0) in
+    cut_point (string_bytes old)
+    (string_bytes new) c.len-start.result old.ok new.ok e c.in_ok-push_pieces.ensures.kept

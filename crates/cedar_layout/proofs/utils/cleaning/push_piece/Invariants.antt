@@ -8,7 +8,8 @@ use Rattle.cedar_layout.proofs.utils.cleaning.push_piece.Given as goal
 abbrev pub invariant-loop-rest : goal.invariant-loop-rest
 invariant-loop-rest l = record {
   utf8 : shadow (Utf8 l.rest);
-  bytes : string_bytes l.out ++ without_blank_lines (piece_lines l.rest) ≡ string_bytes l.fn.out ++ clean_piece l.piece;
+  bytes : string_bytes l.out ++ without_blank_lines (piece_lines l.rest)
+      ≡ string_bytes l.fn.out ++ clean_piece l.piece;
   kept : take (length (string_bytes l.fn.out)) (string_bytes l.out) ≡ string_bytes l.fn.out;
 }
 

@@ -10,7 +10,10 @@ returns-clause-ok c =
     let mid = string_bytes c.replace_range.new.self in
     let all = c.range_from.ensures.value ∙ ap (drop start) c.as_str.ensures.value in
     let left = c.range_from-2.ensures.value ∙ ap (drop start) c.as_str-2.ensures.value in
-    trimmed_from start c.blanks_before-blanks.result c.len_without_blanks-len.result old mid (string_bytes c.truncate.new.self) c.requires.0 c.in_ok-replace_range.ensures.bytes
-    (subst (λ z. drop c.blanks_before-blanks.result z ≡ trim_start z) all c.blanks_before-blanks.ensures.rest)
-    (subst (λ z. take c.len_without_blanks-len.result z ≡ trim_end z) left c.len_without_blanks-len.ensures.front)
+    trimmed_from start c.blanks_before-blanks.result c.len_without_blanks-len.result old mid
+    (string_bytes c.truncate.new.self) c.requires.0 c.in_ok-replace_range.ensures.bytes
+    (subst (λ z. drop c.blanks_before-blanks.result z ≡ trim_start z) all
+    c.blanks_before-blanks.ensures.rest)
+    (subst (λ z. take c.len_without_blanks-len.result z ≡ trim_end z) left
+    c.len_without_blanks-len.ensures.front)
     c.truncate.ensures.bytes

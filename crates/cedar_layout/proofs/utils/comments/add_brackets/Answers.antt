@@ -8,6 +8,8 @@ use Rattle.cedar_layout.proofs.utils.comments.add_brackets.Goals as goal
 
 pub returns : goal.returns
 returns c =
-    three c.in_ok-vec.field-0 c.args.leftp c.in_ok-inner.inner c.args.rightp c.in_ok-vec.ensures.items
+    three c.in_ok-vec.field-0 c.args.leftp c.in_ok-inner.inner c.args.rightp
+    c.in_ok-vec.ensures.items
     ∙ ap (λ x. doc_of c.args.leftp · x · doc_of c.args.rightp) c.in_ok-inner.ensures
-    ∙ ap (λ n. doc_of c.args.leftp · nest n (doc_of c.args.d) · doc_of c.args.rightp) (to_z-of_z w64 c.args.offset c.ranges.offset)
+    ∙ ap (λ n. doc_of c.args.leftp · nest n (doc_of c.args.d) · doc_of c.args.rightp)
+    (to_z-of_z w64 c.args.offset c.ranges.offset)

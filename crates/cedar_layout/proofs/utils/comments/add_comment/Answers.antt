@@ -15,5 +15,6 @@ returns c =
     (ap (λ x. x · trailing) c.in_ok-led.ensures ∙ dot_assoc leading d trailing
     ∙ joined_three leading _ d trailing _
     (c.in_ok-leading.ensures ∙ ap lead_of c.leading_comment.ensures)
-    (c.in_ok-trailing.ensures ∙ ap (λ t. trail_of t (doc_of c.args.next_doc)) c.trailing_comment.ensures))
+    (c.in_ok-trailing.ensures
+    ∙ ap (λ t. trail_of t (doc_of c.args.next_doc)) c.trailing_comment.ensures))
     c.append-2.ensures

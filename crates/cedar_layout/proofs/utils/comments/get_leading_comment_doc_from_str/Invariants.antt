@@ -5,4 +5,5 @@ use Rattle.cedar_layout.specs.Value.{docs_of}
 use Rattle.cedar_layout.proofs.utils.comments.get_leading_comment_doc_from_str.Given as goal
 
 abbrev pub invariant-loop-line : goal.invariant-loop-line
-invariant-loop-line l = docs_of l.docs.items ≡ hard · broken_lines (map (λ s. s.now) (take l.line-index l.leading))
+invariant-loop-line l =
+    docs_of l.docs.items ≡ hard · broken_lines (map (λ s. s.now) (take l.line-index l.leading))

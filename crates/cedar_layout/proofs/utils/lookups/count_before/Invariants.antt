@@ -9,10 +9,12 @@ invariant-loop-low g l = record {
   ordered : l.low ≤ l.high;
   fits : l.high ≤ length l.tokens;
   below : (k : ℕ) (d : WrappedToken) → k < l.low → edge_of l.edge (get_or l.tokens k d).span < l.at;
-  above : (k : ℕ) (d : WrappedToken) → l.high ≤ k → k < length l.tokens → l.at ≤ edge_of l.edge (get_or l.tokens k d).span;
+  above : (k : ℕ) (d : WrappedToken) → l.high ≤ k → k < length l.tokens
+      → l.at ≤ edge_of l.edge (get_or l.tokens k d).span;
   grows : l.fn.steps ≤ l.steps;
   least : l.high - l.low < length l.tokens → l.fn.steps < l.steps;
-  most : (d : ℕ) → length l.tokens < 2 ^ d → (e : ℕ) × (l.high - l.low < 2 ^ e) × (l.steps + e ≤ l.fn.steps + d);
+  most : (d : ℕ) → length l.tokens < 2 ^ d
+      → (e : ℕ) × (l.high - l.low < 2 ^ e) × (l.steps + e ≤ l.fn.steps + d);
 }
 
 abbrev pub decreases-loop-low : goal.decreases-loop-low

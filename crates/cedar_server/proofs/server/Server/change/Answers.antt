@@ -10,8 +10,13 @@ returns-clause-ok c =
     let t = c.open.new.self in
     let uri = string_bytes c.args.uri in
     let held : text_of s uri ≡ Some (string_bytes c.in-Some.old.now) =
-    subst (λ (bytes : List ℕ). text_of s bytes ≡ Some (string_bytes c.in-Some.old.now)) c.as_str.ensures.value (ap (option_map string_bytes) (sym c.in-Some.ensures.value)) in
-    let made : MakeInTurn s.encoding c.args.changes.items (string_bytes c.in-Some.old.now) (string_bytes c.in_ok-new.new) =
-    subst (λ (bytes : List ℕ). MakeInTurn s.encoding c.args.changes.items bytes (string_bytes c.in_ok-new.new)) c.as_str-2.ensures.value c.in_ok-new.ensures in
-    subst (λ (o : Option (List ℕ)). MatchOption o (IsSame s t × (c.in_ok-told.told.items ≡ [])) (λ old. (new : List ℕ) × MakeInTurn s.encoding c.args.changes.items old new × Opens uri new s t c.in_ok-told.told.items)) (sym held)
+    subst (λ (bytes : List ℕ). text_of s bytes ≡ Some (string_bytes c.in-Some.old.now))
+    c.as_str.ensures.value (ap (option_map string_bytes) (sym c.in-Some.ensures.value)) in
+    let made : MakeInTurn s.encoding c.args.changes.items (string_bytes c.in-Some.old.now)
+    (string_bytes c.in_ok-new.new) =
+    subst (λ (bytes : List ℕ). MakeInTurn s.encoding c.args.changes.items bytes
+    (string_bytes c.in_ok-new.new)) c.as_str-2.ensures.value c.in_ok-new.ensures in
+    subst (λ (o : Option (List ℕ)). MatchOption o (IsSame s t × (c.in_ok-told.told.items ≡ []))
+    (λ old. (new : List ℕ) × MakeInTurn s.encoding c.args.changes.items old new
+    × Opens uri new s t c.in_ok-told.told.items)) (sym held)
     (string_bytes c.in_ok-new.new, made, c.in_ok-told.ensures.ok)

@@ -9,7 +9,15 @@ returns-clause-ok c =
     let old = c.args.self.now.documents in
     let told = c.in_ok-told.ensures in
     let updated : IsUpdated uri None old c.remove.new.self =
-    subst (λ (bytes : List ℕ). IsUpdated bytes None old c.remove.new.self) c.as_str-2.ensures.value (btree_map_updates_text c.as_str-2.result.now old c.remove.new.self _ c.remove.ensures.updates) in (
-      record { own = own_text uri None old c.remove.new.self updated; others = other_text uri None old c.remove.new.self updated; phase = refl; encoding = refl; width = refl },
+    subst (λ (bytes : List ℕ). IsUpdated bytes None old c.remove.new.self) c.as_str-2.ensures.value
+    (btree_map_updates_text c.as_str-2.result.now old c.remove.new.self _
+    c.remove.ensures.updates) in (
+      record {
+        own = own_text uri None old c.remove.new.self updated;
+        others = other_text uri None old c.remove.new.self updated;
+        phase = refl;
+        encoding = refl;
+        width = refl;
+      },
       (told.0, told.1, told.2, told.3 ∙ c.as_str.ensures.value, told.4),
     )

@@ -1,0 +1,5 @@
+-- Laws of trees.
+pub mod FirstLeaf
+pub mod Relabelling
+pub mod Laws
+pub mod Unlike
