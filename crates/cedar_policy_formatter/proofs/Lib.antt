@@ -1,5 +1,5 @@
 mod PlaceLaws
-pub mod Checked
+pub mod Leaves
 pub mod Outputs
 pub mod Comparisons
 pub mod EqualLists

@@ -22,7 +22,7 @@ use Rattle.cedar_tree.specs.declared.tree.Policies.{Policies}
 use Rattle.cedar_laws.specs.Canonical.{IsOutputOf, OutputHasTheList}
 use Rattle.cedar_laws.proofs.Grammatical.{value_kind}
 use Rattle.cedar_policy_formatter.specs.Texts.{plain_values}
-use Rattle.cedar_policy_formatter.proofs.Checked.{leaves_without_spans}
+use Rattle.cedar_policy_formatter.proofs.Leaves.{leaves_without_spans}
 
 -- a token's text by value
 abbrev pub value_of : Placed → List ℕ

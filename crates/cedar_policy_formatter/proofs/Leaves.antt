@@ -1,4 +1,4 @@
--- Leaves of trees with spans.
+-- Spans are no leaves of a tree of nodes.
 use Rattle.std.specs.Prelude.{◌≡◌, ◌∷◌, ◌++◌}
 use Rattle.std.proofs.Common.{refl, ap, ◌∙◌}
 use Rattle.cedar_grammar.specs.Trees.{none, leaf, branch, yield}
