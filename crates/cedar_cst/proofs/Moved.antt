@@ -16,7 +16,7 @@ use Rattle.cedar_grammar.specs.Placed.{Placed, kind_of_placed}
 use Rattle.cedar_grammar.specs.TrailingCommas.{without_trailing}
 use Rattle.cedar_grammar.specs.Reader.Reading.{Answer, done, stuck}
 use Rattle.cedar_grammar.specs.Reader.Lines.{set_to}
-use Rattle.cedar_grammar.proofs.Rules.Maps.{each, relabel, answer_of, set_agrees}
+use Rattle.cedar_grammar.proofs.Rules.Maps.{each, relabel, answer_of, set_agrees, each_length}
 use Rattle.cedar_grammar.proofs.Trees.Relabelling.{each_map, map_map}
 use Rattle.cedar_tree.specs.declared.tree.Policies.{Policies}
 use Rattle.cedar_tree.specs.Erased.{erase, variant, policy_trees}
@@ -76,27 +76,24 @@ module _ (n : ℕ) where
   right_moved (leaf l f) r = (r.0, right_moved f r.1)
   right_moved (branch l f g) r = (right_moved f r.0, right_moved g r.1)
 
-  each_length : (ls : List Lexeme) → length (each moved ls) ≡ length ls
-  each_length ls = ap length (each_map moved ls) ∙ length-map ls moved
-
   -- the reader's answer on the lexemes at their first places
   set_unmoved : (e : Refusal) (a : Answer Lexeme) → GivesSet (Err e) (answer_of moved a)
       → GivesSet (Err e) a
   set_unmoved (Grammar left) (stuck b r) (s, inl e, i) =
       let kind_is : b ≡ false = cc in
       let same : s ≡ each moved r = cc in
-      (r, inl (ap (λ z. stuck z r) kind_is), i ∙ (ap length same ∙ each_length r))
+      (r, inl (ap (λ z. stuck z r) kind_is), i ∙ (ap length same ∙ each_length moved r))
   set_unmoved (Grammar left) (stuck b r) (s, inr (f, t, u, e, k), i) = absurd cc
   set_unmoved (Grammar left) (done g r) (s, inl e, i) = absurd cc
   set_unmoved (Grammar left) (done g []) (s, inr (f, t, u, e, k), i) =
       absurd (let same : ◌≡◌ {A = List Lexeme} [] (t ∷ u) = cc in cc)
   set_unmoved (Grammar left) (done g (x ∷ r)) (s, inr (f, t, u, e, k), i) =
       let same : s ≡ each moved (x ∷ r) = cc in
-      (x ∷ r, inr (g, x, r, refl, refl), i ∙ (ap length same ∙ each_length (x ∷ r)))
+      (x ∷ r, inr (g, x, r, refl, refl), i ∙ (ap length same ∙ each_length moved (x ∷ r)))
   set_unmoved (TooDeep left) (stuck b r) (s, e, i) =
       let kind_is : b ≡ true = cc in
       let same : s ≡ each moved r = cc in
-      (r, ap (λ z. stuck z r) kind_is, i ∙ (ap length same ∙ each_length r))
+      (r, ap (λ z. stuck z r) kind_is, i ∙ (ap length same ∙ each_length moved r))
   set_unmoved (TooDeep left) (done g r) (s, e, i) = absurd cc
   set_unmoved OutOfMemory a h = tt
 

@@ -320,7 +320,7 @@ append_not_nil (y ∷ xs) x ys e = absurd cc
 -- a piece has policies
 pub has_some : (text : List ℕ) (n : ℕ) → IsPiece text n → HasPoliciesFrom 0 (take n text) [] → ⊥
 has_some text n p h =
-    let end = placed_piece 0 p.before p.line (no_tokens p.line p.behind.no_token) in
+    let end = placed_piece 0 p.before p.line (no_tokens p.line p.rest_of_line.no_token) in
     let tokens : yield h.row ≡ placed_from 0 p.before ++ (end.0 ∷ []) = h.leaves ∙ (ap (placed_from
     0) (split_unique (take n text) h.units (units_of p) h.split (piece_splits text n p)) ∙ end.1) in
     append_not_nil (placed_from 0 p.before) end.0 []
@@ -342,7 +342,7 @@ piece_first text n ps items p a t = go q.1.0 q.1.1
     end : (s : Placed)
         × (placed_from 0 (p.before ++ (codes ";" ∷ p.line)) ≡ placed_from 0 p.before ++ (s ∷ []))
         × (s.text ≡ codes ";")
-    end = placed_piece 0 p.before p.line (no_tokens p.line p.behind.no_token)
+    end = placed_piece 0 p.before p.line (no_tokens p.line p.rest_of_line.no_token)
 
     front : yield a.row ≡ placed_from 0 p.before ++ (end.0 ∷ [])
     front = a.leaves

@@ -128,10 +128,10 @@ document_first i (index l x r m) = three (table.printed (as_leaf l)) (table.prin
 -- ---- the form of a node's access
 
 -- the trees after a token
-behind : Erased → Erased
-behind none = none
-behind (leaf a f) = f
-behind (branch l f g) = none
+following : Erased → Erased
+following none = none
+following (leaf a f) = f
+following (branch l f g) = none
 
 form_by : Label → Access
 form_by Label.ident = dotted
@@ -147,10 +147,10 @@ form_inside (branch l f g) = form_by l.0
 form_at : Erased → Option Access
 form_at none = None
 form_at (leaf a f) = None
-form_at (branch l f g) = Some (form_inside (behind f))
+form_at (branch l f g) = Some (form_inside (following f))
 
 form_in_nodes : (t : Tree Shown accesses) → form_at (nodes_of (parts kind_of_shown t)) ≡ form_in t
-unfolding form_at form_inside form_by behind
+unfolding form_at form_inside form_by following
 form_in_nodes no_access = refl
 form_in_nodes (field d x m) = refl
 form_in_nodes (call_empty l r m) = refl
@@ -166,7 +166,7 @@ form_of_items m (MemAccess.more_of-MemAccess-Call-0-2 a b c) = refl
 
 form_of_node : (s : Span) (a : MemAccess.MemAccess) (r : Erased)
     → form_at (branch (Label.access, Some s) (access_parts a) r) ≡ Some (form_of a)
-unfolding form_at form_inside form_by behind
+unfolding form_at form_inside form_by following
 form_of_node s (MemAccess.Field n) r = refl
 form_of_node s (MemAccess.Call' v row) r = ap Some (form_of_items _ row)
 form_of_node s (MemAccess.Index n) r = refl
@@ -180,19 +180,19 @@ form_is s a r t e = sym (form_in_nodes t) ∙ ap form_at (sym e) ∙ form_of_nod
 field_form : (span s : Span) (w : List ℕ) (t : Tree Shown accesses)
     → node Label.access span (leaf (codes ".") (node Label.ident s (leaf w none) none)) none
     ≡ nodes_of (parts kind_of_shown t) → form_in t ≡ Some dotted
-unfolding form_at form_inside form_by behind
+unfolding form_at form_inside form_by following
 field_form span s w t e = sym (form_in_nodes t) ∙ ap form_at (sym e)
 
 index_form : (span s : Span) (w : List ℕ) (t : Tree Shown accesses) → node Label.access span (leaf
     (codes "[") (node Label.str s (leaf w none) (leaf (codes "]") none))) none
     ≡ nodes_of (parts kind_of_shown t) → form_in t ≡ Some indexed
-unfolding form_at form_inside form_by behind
+unfolding form_at form_inside form_by following
 index_form span s w t e = sym (form_in_nodes t) ∙ ap form_at (sym e)
 
 call_form : (span : Span) (v : List (Node Expr.Expr)) (t : Tree Shown accesses)
     → node Label.access span (leaf (codes "(") (join (item_trees Label.expr expr_parts v)
     (leaf (codes ")") none))) none ≡ nodes_of (parts kind_of_shown t) → form_in t ≡ Some called
-unfolding form_at form_inside form_by behind
+unfolding form_at form_inside form_by following
 call_form span [] t e = sym (form_in_nodes t) ∙ ap form_at (sym e)
 call_form span (n ∷ ns) t e = sym (form_in_nodes t) ∙ ap form_at (sym e)
 
@@ -205,19 +205,19 @@ has_node (branch l f g) = true
 first_has_node : Erased → Bool
 first_has_node none = false
 first_has_node (leaf a f) = false
-first_has_node (branch l f g) = has_node (behind f)
+first_has_node (branch l f g) = has_node (following f)
 
 no_item : (span : Span) (n : Node Expr.Expr) (ns : List (Node Expr.Expr)) (l r : Shown)
     (m : Tree Shown accesses)
     → node Label.access span (leaf (codes "(") (join (item_trees Label.expr expr_parts (n ∷ ns))
     (leaf (codes ")") none))) none ≡ nodes_of (parts kind_of_shown (call_empty l r m)) → ⊥
-unfolding first_has_node has_node behind
+unfolding first_has_node has_node following
 no_item span n ns l r m e = false≢true (sym (ap first_has_node e))
 
 item_missing : (span : Span) (l r : Shown) (a : Tree Shown args) (m : Tree Shown accesses)
     → node Label.access span (leaf (codes "(") (leaf (codes ")") none)) none
     ≡ nodes_of (parts kind_of_shown (call l a r m)) → ⊥
-unfolding first_has_node has_node behind
+unfolding first_has_node has_node following
 item_missing span l r (args_one a) m e = false≢true (ap first_has_node e)
 item_missing span l r (args_more a c b) m e = false≢true (ap first_has_node e)
 

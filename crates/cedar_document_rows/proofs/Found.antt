@@ -3,7 +3,6 @@ use Rattle.std.proofs.Common.{◌≡◌, ℕ, suc, Bool, true, false, List, [], 
 use Rattle.std.specs.Prelude.{IsTrue, IsFalse, IsErrAnd, MatchOption, is_some, ◌==◌, ◌&&◌}
 use Rattle.std.specs.List.{All, list_any}
 use Rattle.std.proofs.Math.Bool.{or-true}
-use Rattle.cedar_tokens.specs.Tokens.{bare}
 use Rattle.cedar_tokens.specs.declared.token.WrappedToken.{WrappedToken}
 use Rattle.cedar_tokens.specs.declared.token.Span.{Span}
 use Rattle.cedar_layout.specs.Lookups.{Shown, Parts, shown, HandedOut, Unmatched, starts_at}
@@ -14,6 +13,7 @@ use Rattle.cedar_document_rows.specs.Kept.{KeepsTokens}
 use Rattle.cedar_document_rows.specs.declared.written.NoDocument.{NoDocument}
 use Rattle.cedar_document_rows.specs.declared.written.NoDocument.TheVariants.{NoToken, OutOfMemory}
 use Rattle.cedar_document_rows.proofs.Keeping.{kept_bare}
+use Rattle.cedar_tokens.proofs.KeptOrder.{spans_of_bare}
 
 -- ---- the token that starts at a place
 
@@ -47,11 +47,8 @@ found_at_start p old new answer (Some c) h = sym (starts_shown p old)
 -- ---- places stay
 
 pub places_kept : (old new : List WrappedToken) → KeepsTokens old new → places new ≡ places old
-places_kept old new k = sym (bared new) ∙ (ap (map (λ b. b.1)) (kept_bare old new k) ∙ bared old)
-  where
-    bared : (ts : List WrappedToken) → map (λ b. b.1) (map bare ts) ≡ places ts
-    bared [] = refl
-    bared (t ∷ ts) = ap (λ r. t.span ∷ r) (bared ts)
+places_kept old new k =
+    sym (spans_of_bare new) ∙ (ap (map (λ b. b.1)) (kept_bare old new k) ∙ spans_of_bare old)
 
 -- ---- answers
 

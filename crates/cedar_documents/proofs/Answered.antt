@@ -30,6 +30,7 @@ use Rattle.cedar_document_rows.specs.declared.written.NoDocument.{NoDocument}
 use Rattle.cedar_document_rows.specs.declared.written.NoDocument.TheVariants.{NoToken, OutOfMemory}
 use Rattle.cedar_document_rows.proofs.Keeping.{order_stays, refilled}
 use Rattle.cedar_documents.proofs.OwnTokens.{AreSigned, Within, first_starts, own, signed_part, signed_tree}
+use Rattle.cedar_layout.proofs.HandedOut.{spans_shown}
 
 -- A part that a function wrote on an empty sheet with the tokens of a context, and the answer that
 -- follows: the slice is that of the n tokens before, `left` is what is left of it,
@@ -84,10 +85,6 @@ both_answered B P (Err OutOfMemory) r has f t k h g =
 abbrev after_call : ℕ → List WrappedToken → List WrappedToken → List WrappedToken
 after_call n old left = take n (left ++ drop (length left) old)
 
-places_shown : (ts : List WrappedToken) → places ts ≡ map (λ t. t.span) (map shown ts)
-places_shown [] = refl
-places_shown (t ∷ ts) = ap (λ z. t.span ∷ z) (places_shown ts)
-
 module _ {wrote : Result ⊤ NoDocument} {result : Result (Option Document) AllocError}
     {nodes : Erased} {has : List Span → Bool} {n : ℕ} {start signs : List Sign}
     {old slice left : List WrappedToken}
@@ -115,7 +112,7 @@ module _ {wrote : Result ⊤ NoDocument} {result : Result (Option Document) Allo
   within ts before after s = record {
     before = before;
     after = after;
-    all = places_shown old ∙ ap (map (λ (t : Shown). t.span)) s;
+    all = spans_shown old ∙ ap (map (λ (t : Shown). t.span)) s;
     order = c.order;
   }
 
@@ -179,7 +176,7 @@ policy_own old span inner p order at n st =
     ∙ clause_own Label.policy span inner p refl (tt, signed_part p, tt) at n (record {
       before = [];
       after = [];
-      all = places_shown old ∙ ap (map (λ (t : Shown). t.span)) alone;
+      all = spans_shown old ∙ ap (map (λ (t : Shown). t.span)) alone;
       order = order;
     })
 

@@ -77,7 +77,7 @@ AreSigned (leaf x f) = AreSigned f
 AreSigned (branch l f g) = Own l f × AreSigned f × AreSigned g
 
 -- the tokens before the member, and the first token of the member
-record Parted (f : Forest Label Shown) : Type 0 where
+record AtMember (f : Forest Label Shown) : Type 0 where
   signs : List Shown
   first : Shown
   others : List Shown
@@ -85,9 +85,9 @@ record Parted (f : Forest Label Shown) : Type 0 where
   count : signs_before (nodes_of f) ≡ length signs
   start : start_of_node (nodes_of f) ≡ first.span.start
 
-parted : (f : Forest Label Shown) → IsSigned f → Parted f
-parted none w = absurd w
-parted (leaf x f) w = let r = parted f w in record {
+at_member : (f : Forest Label Shown) → IsSigned f → AtMember f
+at_member none w = absurd w
+at_member (leaf x f) w = let r = at_member f w in record {
   signs = x ∷ r.signs;
   first = r.first;
   others = r.others;
@@ -95,7 +95,7 @@ parted (leaf x f) w = let r = parted f w in record {
   count = ap suc r.count;
   start = r.start;
 }
-parted (branch l f g) (m, n, w) = record {
+at_member (branch l f g) (m, n, w) = record {
   signs = [];
   first = w.0;
   others = w.1 ++ yield g;
@@ -143,7 +143,7 @@ some_or n b e = ap (λ z. (n == 0) || z) e ∙ or-true (n == 0)
 signs_are_there : {P : List Span} (f : Forest Label Shown) → IsSigned f → Within P (yield f)
     → has_own P Label.unary (span_of text_of (λ t. t.span) (yield f)) (nodes_of f) ≡ true
 signs_are_there {P = P} f w i =
-    let r = parted f w in go r.signs r.first r.others r.tokens r.count r.start
+    let r = at_member f w in go r.signs r.first r.others r.tokens r.count r.start
   where
     go : (ss : List Shown) (m : Shown) (ms : List Shown) → yield f ≡ ss ++ (m ∷ ms)
         → signs_before (nodes_of f) ≡ length ss → start_of_node (nodes_of f) ≡ m.span.start

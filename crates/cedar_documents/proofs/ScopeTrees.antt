@@ -58,7 +58,7 @@ pub record IsTyped (n : Option (Node Name)) (q : Option Operator) (w : Shown)
   pub word : codes "is" ≡ token_value (text_of w)
   pub path : IsNodeOf (path_parts name.inner.path.items name.inner.name) t
   pub place : IsAt name.span (tree_yield t)
-  pub behind : operator_parts q ≡ nodes_of g
+  pub following : operator_parts q ≡ nodes_of g
 
 pub typed : (n : Option (Node Name)) (q : Option Operator) (w : Shown) (t : Tree Shown kind.name)
     (g : Forest Label Shown) → type_parts n (operator_parts q)
@@ -71,7 +71,7 @@ typed None (Some x) w t g e =
 typed (Some m) q w t g e =
     let o = opened_token _ _ w (branch Label.name (parts kind_of_shown t) g) e in
     let p = opened_tree Label.name m.span _ _ t g refl o.1 in
-    record { name = m; is = refl; word = o.0; path = p.0; place = p.1; behind = p.2 }
+    record { name = m; is = refl; word = o.0; path = p.0; place = p.1; following = p.2 }
 
 -- an operator, and its operand
 pub record IsCompared (q : Option Operator) (o : Shown) (t : Tree Shown kind.add) : Type 0 where

@@ -46,7 +46,7 @@ nodes_same (branch l f g) =
     (λ z. branch (l, if is_node l then z else None) (spanned (λ (t : Placed). t.text) (λ t. t.span)
     (relabel place_of f)) (spanned (λ (t : Placed). t.text) (λ t. t.span) (relabel place_of g)))
     (ap (λ z. span_of (λ (t : Placed). t.text) (λ t. t.span) z)
-    (relabel_yield place_of kind_of_shown kind_of_placed (λ t. refl) f) ∙ span_same (yield f))
+    (relabel_yield place_of f) ∙ span_same (yield f))
     ∙ ap (λ z. branch (l, if is_node l then span_of text_of (λ t. t.span) (yield f) else None) z
     (spanned (λ (t : Placed). t.text) (λ t. t.span) (relabel place_of g))) (nodes_same f)
     ∙ ap (λ z. branch (l, if is_node l then span_of text_of (λ t. t.span) (yield f) else None)

@@ -30,9 +30,8 @@ use Rattle.cedar_grammar.proofs.Plain.Grammar.{plain_is_in_the_grammar}
 use Rattle.cedar_grammar.proofs.Plain.CommaPairs.{plain_is_plain}
 use Rattle.cedar_grammar.proofs.Texts.Kinds.{trailing_agrees}
 use Rattle.cedar_grammar.proofs.Texts.Listings.{listing_texts}
-use Rattle.cedar_grammar.proofs.Trees.Relabelling.{relabelled, plain_each, each_map, map_map}
+use Rattle.cedar_grammar.proofs.Trees.Relabelling.{relabelled, plain_each, each_map, map_map, without_relabel}
 use Rattle.cedar_layout.specs.Lookups.{Shown, shown}
-use Rattle.cedar_tree.specs.Erased.{erase}
 use Rattle.cedar_tree.specs.Erased as erased
 use Rattle.cedar_tree.specs.NodeTrees.{spanned, IsTreeOf}
 use Rattle.cedar_tree.specs.declared.tree.Policies.{Policies}
@@ -44,7 +43,7 @@ use Rattle.cedar_laws.proofs.ByValue.{part_yield_map}
 use Rattle.cedar_laws.proofs.FittingTrees.{AllTokens}
 use Rattle.cedar_laws.proofs.GoodLists.{every_list_good, plain_list_good}
 use Rattle.cedar_laws.proofs.Grammatical.{plain_of_length, map_length, good_tokens}
-use Rattle.cedar_laws.proofs.Relabelled.{set_tree_map, without_map}
+use Rattle.cedar_laws.proofs.Relabelled.{set_tree_map}
 use Rattle.cedar_documents.proofs.ShownTrees.{typed_over, place_of}
 
 -- ---- the tokens with their places
@@ -193,7 +192,7 @@ policies_over text p l old new utf8 t is_list e spans plain_texts kept =
             (subst (λ z. G kind_of_decorated greatest_depth
             (relabel as_leaf (set_tree kind_of_shown r.policies)) z) (each_map as_leaf ts) moved));
         plain = ap (without_trailing kind_of_decorated) (sym tree)
-            ∙ (without_map as_leaf kind_of_shown kind_of_decorated (λ _. refl)
+            ∙ (without_relabel as_leaf kind_of_shown kind_of_decorated (λ _. refl)
             (set_tree kind_of_shown r.policies) ∙ (ap (relabel as_leaf) r.plain ∙ tree));
       };
       tokens = leaves;

@@ -69,13 +69,13 @@ module _ (text : List ℕ) (us : List (List ℕ)) (s : SplitsInto text us) where
       → Begins greatest_depth (only_tokens us)
   leaves_end at deep l e =
       let c = cut text at l.before l.after l.split l.place in
-      let none : l.after ≡ [] = no_units l.after _ c.back (behind at e) in
+      let none : l.after ≡ [] = no_units l.after _ c.back (following at e) in
       let same : us ≡ l.before = split_unique text us (l.before ++ l.after) s l.split
       ∙ ap (λ z. l.before ++ z) none ∙ append-nil l.before in
       subst (λ z. Begins greatest_depth (only_tokens z)) (sym same) l.begins
     where
-      behind : (n : ℕ) → n ≡ length text → length (drop n text) ≡ 0
-      behind n i = omega (arith, length-drop n text, i)
+      following : (n : ℕ) → n ≡ length text → length (drop n text) ≡ 0
+      following n i = omega (arith, length-drop n text, i)
 
   stays_inside : (before after : List (List ℕ)) (at : ℕ) (deep : Bool) → us ≡ before ++ after
       → at ≡ sum_by length before → LeaveAfter (only_tokens before) after deep

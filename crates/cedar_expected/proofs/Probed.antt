@@ -4,6 +4,7 @@ use Rattle.std.specs.Prelude.{◌≡◌, ◌↔◌, ℕ, Bool, true, false, List
 use Rattle.std.specs.List.{filter}
 use Rattle.std.proofs.Common.{sym, subst}
 use Rattle.std.proofs.lemmas.Bool.Decides.{Decides-eqb}
+use Rattle.cedar_tokens.specs.Bytes.{line_feed}
 use Rattle.cedar_tokens.specs.Units.{IsToken}
 use Rattle.cedar_tokens.specs.Split.{SplitsInto}
 use Rattle.cedar_tokens.proofs.Scanning.{split_unique}
@@ -30,7 +31,7 @@ of_units text us P s (vs, r, x) = subst (λ z. P (only_tokens z)) (split_unique 
 
 -- a text followed by a line feed and a token
 pub more_has : (text t : List ℕ) → HasTokens text → IsToken t → is_too_large t ≡ false
-    → HasTokens (text ++ (10 ∷ t))
+    → HasTokens (text ++ (line_feed ∷ t))
 more_has text t h i f = record {
   units = more_units h.units t;
   split = more_split text t h.units h.split i;
@@ -38,12 +39,13 @@ more_has text t h i f = record {
 }
 
 pub more_begins : (text t : List ℕ) → HasTokens text → IsToken t
-    → TokensBegin (text ++ (10 ∷ t)) ↔ TokensBeginWith text (t ∷ [])
+    → TokensBegin (text ++ (line_feed ∷ t)) ↔ TokensBeginWith text (t ∷ [])
 more_begins text t h i = (
   λ b. (
     h.units,
     h.split,
-    subst (λ z. Begins greatest_depth z) (more_tokens h.units t i) (of_units (text ++ (10 ∷ t))
+    subst (λ z. Begins greatest_depth z) (more_tokens h.units t i)
+        (of_units (text ++ (line_feed ∷ t))
         (more_units h.units t) (Begins greatest_depth) (more_split text t h.units h.split i) b),
   ),
   λ b. (

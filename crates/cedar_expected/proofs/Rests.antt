@@ -136,7 +136,7 @@ fronts (y ∷ a) b (x ∷ c) d h =
 -- where a text leaves the grammar, given what follows the first n bytes, which are accepted
 pub record Within (text : List ℕ) (n at : ℕ) (before after : List (List ℕ)) : Type 0 where
   pub middle : List (List ℕ)
-  pub behind : n ≤ at
+  pub not_before : n ≤ at
   pub split : SplitsInto (drop n text) (middle ++ after)
   pub place : at - n ≡ sum_by length middle
   pub fitting : list_any is_too_large (before ++ after) ≡ false
@@ -169,7 +169,7 @@ within_piece text n at before after deep p acc s place leave =
         ∙ filter-append is_token (units_of p) e ∙ ap (λ z. z ++ only_tokens e) shape in
         record {
           middle = e;
-          behind = omega (arith, sum);
+          not_before = omega (arith, sum);
           split = subst (λ z. SplitsInto (drop n text) z) j r;
           place = omega (arith, sum);
           fitting = λ f. or_right (list_any is_too_large (units_of p)) (list_any is_too_large e)
@@ -198,7 +198,7 @@ pub within : (text : List ℕ) (n at : ℕ) (deep : Bool) → (n ≡ 0) ⊎ IsPi
 within text n at deep (inl e) acc l =
     subst (λ z. Within text z at l.before l.after) (sym e) (record {
       middle = l.before;
-      behind = omega arith;
+      not_before = omega arith;
       split = l.split;
       place = (let e : at - 0 ≡ at = omega arith in e ∙ l.place);
       fitting = front_fit l.before l.after;

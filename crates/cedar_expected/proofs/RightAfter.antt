@@ -138,11 +138,11 @@ module _ (text : List ℕ) (l : Leaving) (b : LeavesAfter text l) where
   part : Within text b.from l.at b.leaves.before b.leaves.after
   part = within text b.from l.at b.deep b.ends b.accepted b.leaves
 
-  parted : Cut (drop b.from text) (l.at - b.from) part.middle b.leaves.after
-  parted = cut (drop b.from text) (l.at - b.from) part.middle b.leaves.after part.split part.place
+  the_cut : Cut (drop b.from text) (l.at - b.from) part.middle b.leaves.after
+  the_cut = cut (drop b.from text) (l.at - b.from) part.middle b.leaves.after part.split part.place
 
   pub from_before : length text - length l.rest.now ≤ l.at
-  from_before = omega (arith, from_is, part.behind)
+  from_before = omega (arith, from_is, part.not_before)
 
   -- the place in the rest
   place_in : ℕ
@@ -153,11 +153,11 @@ module _ (text : List ℕ) (l : Leaving) (b : LeavesAfter text l) where
   place_is = ap (λ k. l.at - k) from_is
 
   pub rest_is_utf8 : IsUtf8 text → IsUtf8 l.rest.now
-  rest_is_utf8 k = subst (λ z. IsUtf8 z) (sym b.rest) (behind b.ends)
+  rest_is_utf8 k = subst (λ z. IsUtf8 z) (sym b.rest) (following b.ends)
     where
-      behind : EndsPiece text b.from → IsUtf8 (drop b.from text)
-      behind (inl e) = subst (λ n. IsUtf8 (drop n text)) (sym e) k
-      behind (inr p) =
+      following : EndsPiece text b.from → IsUtf8 (drop b.from text)
+      following (inl e) = subst (λ n. IsUtf8 (drop n text)) (sym e) k
+      following (inr p) =
           scan_utf8 (p.before ++ (codes ";" ∷ p.line)) text (drop b.from text) k p.scans
 
   pub at_boundary : IsUtf8 l.rest.now
@@ -165,19 +165,19 @@ module _ (text : List ℕ) (l : Leaving) (b : LeavesAfter text l) where
   unfolding place_in
   at_boundary k = subst (λ n. IsCharBoundary l.rest.now n) (sym place_is)
       (subst (λ z. IsCharBoundary z (l.at - b.from)) (sym b.rest)
-      (parted.boundary (subst (λ z. IsUtf8 z) b.rest k)))
+      (the_cut.boundary (subst (λ z. IsUtf8 z) b.rest k)))
 
   -- what comes before the place, and after it
   front_split : SplitsInto (take (l.at - (length text - length l.rest.now)) l.rest.now) part.middle
   unfolding place_in
   front_split = subst (λ n. SplitsInto (take n l.rest.now) part.middle) (sym place_is)
-      (subst (λ z. SplitsInto (take (l.at - b.from) z) part.middle) (sym b.rest) parted.front)
+      (subst (λ z. SplitsInto (take (l.at - b.from) z) part.middle) (sym b.rest) the_cut.front)
 
   pub back_split : SplitsInto
       (drop (l.at - (length text - length l.rest.now)) l.rest.now) b.leaves.after
   unfolding place_in
   back_split = subst (λ n. SplitsInto (drop n l.rest.now) b.leaves.after) (sym place_is)
-      (subst (λ z. SplitsInto (drop (l.at - b.from) z) b.leaves.after) (sym b.rest) parted.back)
+      (subst (λ z. SplitsInto (drop (l.at - b.from) z) b.leaves.after) (sym b.rest) the_cut.back)
 
   pub front_tokens : HasTokens (take (l.at - (length text - length l.rest.now)) l.rest.now)
   front_tokens =

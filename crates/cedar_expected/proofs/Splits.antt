@@ -9,6 +9,7 @@ use Rattle.std.proofs.lemmas.List.Elements.{filter-append}
 use Rattle.std.proofs.lemmas.List.Folds.{list_any-append}
 use Rattle.std.proofs.lemmas.Str.{IsCharBoundary-at_seam}
 use Rattle.std.proofs.lemmas.Bool.{or_from}
+use Rattle.cedar_tokens.specs.Bytes.{line_feed}
 use Rattle.cedar_tokens.specs.Units.{is_token, IsToken}
 use Rattle.cedar_tokens.specs.Units as U
 use Rattle.cedar_tokens.specs.Split.{Scans, SplitsInto}
@@ -74,23 +75,23 @@ one_token t h = (
 
 -- a text followed by a line feed and a token
 abbrev pub more_units : List (List ℕ) → List ℕ → List (List ℕ)
-more_units us t = us ++ ((10 ∷ []) ∷ (t ∷ []))
+more_units us t = us ++ ((line_feed ∷ []) ∷ (t ∷ []))
 
 pub more_split : (text t : List ℕ) (us : List (List ℕ)) → SplitsInto text us → IsToken t
-    → SplitsInto (text ++ (10 ∷ t)) (more_units us t)
+    → SplitsInto (text ++ (line_feed ∷ t)) (more_units us t)
 more_split text t us s h = splits_join us (t ∷ []) text t s (one_token t h)
 
-last_tokens : (t : List ℕ) → IsToken t → only_tokens ((10 ∷ []) ∷ (t ∷ [])) ≡ t ∷ []
+last_tokens : (t : List ℕ) → IsToken t → only_tokens ((line_feed ∷ []) ∷ (t ∷ [])) ≡ t ∷ []
 last_tokens t h = rw (feed_no_token, h) refl
 
 pub more_tokens : (us : List (List ℕ)) (t : List ℕ) → IsToken t
     → only_tokens (more_units us t) ≡ only_tokens us ++ t ∷ []
-more_tokens us t h = filter-append is_token us ((10 ∷ []) ∷ (t ∷ []))
+more_tokens us t h = filter-append is_token us ((line_feed ∷ []) ∷ (t ∷ []))
     ∙ ap (λ z. only_tokens us ++ z) (last_tokens t h)
 
 pub more_fit : (us : List (List ℕ)) (t : List ℕ) → list_any is_too_large us ≡ false
     → is_too_large t ≡ false → list_any is_too_large (more_units us t) ≡ false
-more_fit us t f h = list_any-append is_too_large us ((10 ∷ []) ∷ (t ∷ []))
+more_fit us t f h = list_any-append is_too_large us ((line_feed ∷ []) ∷ (t ∷ []))
     ∙ ap (λ z. z || (is_too_large t || false)) f ∙ or_from (is_too_large t) false h refl
 
 -- the numbers of the first units fit if all do

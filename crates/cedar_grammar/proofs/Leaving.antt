@@ -17,7 +17,7 @@ use Rattle.cedar_grammar.proofs.Texts.Languages.{whole}
 use Rattle.cedar_grammar.proofs.Texts.Grammars.{grammars_agree}
 use Rattle.cedar_grammar.proofs.Texts.Beginnings.{beginnings_agree}
 use Rattle.cedar_grammar.proofs.Texts.Accepted.{are_tokens}
-use Rattle.cedar_grammar.proofs.Verdicts.{split_length}
+use Rattle.cedar_tokens.proofs.UnitsSoFar.{units_length}
 
 module _ (front : List (List ℕ)) (are : AreTokens (λ t. t) front) where
   begins : (d : ℕ) → Begins d front ↔ BeginsByKinds kind_of d front
@@ -64,7 +64,7 @@ leaves_grammar text at deep (inr (u, at_end, shallow)) = record {
   after = [];
   split = subst (SplitsInto text) (sym (append-nil u.units)) u.split;
   fitting = ap (list_any is_too_large) (append-nil u.units) ∙ u.fitting;
-  place = at_end ∙ split_length u.units text u.split;
+  place = at_end ∙ units_length u.units text u.split;
   begins = (begins (only_tokens u.units) (are_tokens u.units) greatest_depth).1 u.unfinished.before;
   leaves = no_tree (only_tokens u.units) (are_tokens u.units) u.unfinished.not_whole deep shallow;
 }
@@ -93,7 +93,7 @@ is_refused text at deep l = go l.before l.after l.split l.fitting l.place l.begi
               not_whole = tree_missing (only_tokens before) (are_tokens before) deep (n, d);
             };
           },
-          p ∙ sym (split_length before text split),
+          p ∙ sym (units_length before text split),
           d,
         )
     go before (u ∷ us) s f p b (o, n, k) =

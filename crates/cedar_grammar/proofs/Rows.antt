@@ -12,16 +12,16 @@ abbrev with_first : ℕ → List (List ℕ) → List (List ℕ)
 with_first b [] = (b ∷ []) ∷ []
 with_first b (l ∷ ls) = (b ∷ l) ∷ ls
 
-abbrev parted : List ℕ → List (List ℕ)
-parted [] = [] ∷ []
-parted (b ∷ bs) = if b == 126 then [] ∷ parted bs else with_first b (parted bs)
+abbrev pieces : List ℕ → List (List ℕ)
+pieces [] = [] ∷ []
+pieces (b ∷ bs) = if b == 126 then [] ∷ pieces bs else with_first b (pieces bs)
 
 abbrev copies : ℕ → List ℕ → List ℕ
 copies zero text = []
 copies (suc n) text = text ++ copies n text
 
 abbrev row : List ℕ → Verdict
-row text = verdict greatest_depth (parted text)
+row text = verdict greatest_depth (pieces text)
 
 abbrev condition : List ℕ
 condition = codes "permit~(~principal~,~action~,~resource~)~when~{~"
@@ -109,19 +109,22 @@ unfolding both tree nest many repeat token choice tailed slots punctuators
 comma_in_scope = refl
 
 has_and_method : row
-    (codes "permit~(~principal~,~action~,~resource~)~unless~{~principal~ ~has~ ~a~.~b~&&~resource~.~tags~.~contains~(~\"x\"~)~}~;")
+    (codes
+    "permit~(~principal~,~action~,~resource~)~unless~{~principal~ ~has~ ~a~.~b~&&~resource~.~tags~.~contains~(~\"x\"~)~}~;")
     ≡ accepted
 unfolding both tree nest many repeat token choice tailed slots punctuators
 has_and_method = refl
 
 records : row
-    (codes "permit~(~principal~,~action~,~resource~)~when~{~{~a~:~1~,~\"b\"~:~[~2~,~-~3~]~}~==~context~&&~principal~ ~is~ ~A~::~B~ ~in~ ~A~::~\"c\"~}~;")
+    (codes
+    "permit~(~principal~,~action~,~resource~)~when~{~{~a~:~1~,~\"b\"~:~[~2~,~-~3~]~}~==~context~&&~principal~ ~is~ ~A~::~B~ ~in~ ~A~::~\"c\"~}~;")
     ≡ accepted
 unfolding both tree nest many repeat token choice tailed slots punctuators
 records = refl
 
 if_then_else : row
-    (codes "permit~(~principal~,~action~,~resource~)~when~{~if~ ~a~::~\"x\"~==~principal~ ~then~ ~true~ ~else~ ~false~}~;")
+    (codes
+    "permit~(~principal~,~action~,~resource~)~when~{~if~ ~a~::~\"x\"~==~principal~ ~then~ ~true~ ~else~ ~false~}~;")
     ≡ accepted
 unfolding both tree nest many repeat token choice tailed slots punctuators
 if_then_else = refl

@@ -1,9 +1,8 @@
 -- What a text is, computed from its units: accepted, or refused at a byte.
-use Rattle.std.specs.Prelude.{◌≡◌, ℕ, zero, suc, ◌-◌, ◌+◌, Bool, true, false, ◌||◌, if◌then◌else◌, List, [], ◌∷◌, ◌++◌, ◌⊎◌, length, map, drop, Option, Some, None}
+use Rattle.std.specs.Prelude.{◌≡◌, ℕ, zero, suc, ◌-◌, ◌+◌, Bool, true, false, ◌||◌, if◌then◌else◌, List, [], ◌∷◌, ◌++◌, ◌⊎◌, length, map, Option, Some, None}
 use Rattle.std.specs.List.{list_any, sum_by}
 use Rattle.std.specs.Option.{option_map}
 use Rattle.std.proofs.Common.{refl, sym, ap, ◌∙◌, inl, inr, arith, length-append, subst}
-use Rattle.std.proofs.Math.Seq.{drop-append_seam}
 use Rattle.std.proofs.lemmas.List.Sums.{sum_by-cons}
 use Rattle.cedar_tokens.specs.Units.{is_token}
 use Rattle.cedar_tokens.specs.Split.{SplitsInto}
@@ -15,12 +14,13 @@ use Rattle.cedar_grammar.specs.Numbers.{is_too_large, IsFirstTooLarge}
 use Rattle.cedar_grammar.specs.Texts.{greatest_depth, only_tokens, Accepted}
 use Rattle.cedar_grammar.specs.Reader.Reading.{Answer, done, stuck}
 use Rattle.cedar_grammar.specs.Reader.Lines.{set_to}
-use Rattle.cedar_grammar.proofs.Rules.Maps.{each, answer_of, set_agrees}
+use Rattle.cedar_grammar.proofs.Rules.Maps.{answer_of, set_agrees, each_length}
 use Rattle.cedar_grammar.proofs.Answers.{Says, says}
 use Rattle.cedar_grammar.proofs.Texts.Accepted.{is_accepted}
 use Rattle.cedar_grammar.proofs.Texts.Kinds.{samples}
 use Rattle.cedar_grammar.proofs.Texts.Cuts.{Large, numbers_or, unit_cut}
 use Rattle.cedar_grammar.proofs.Trees.Relabelling.{each_map}
+use Rattle.cedar_tokens.proofs.UnitsSoFar.{units_length}
 
 -- accepted; refused at a byte, and whether only by its depth; a number at a byte that is too large
 pub data Verdict : Type 0 where
@@ -127,22 +127,6 @@ start_past (u ∷ us) = go (start_past us) (is_token u) refl ∙ sym (sum_by-con
         else length u + start_after us (suc (length (only_tokens us)))) k ∙ ap (λ n. length u + n) e
     go e false k = other (length (only_tokens us)) k ∙ ap (λ n. length u + n) e
 
--- the units are as long as the text
-pub split_length : (units : List (List ℕ)) (text : List ℕ) → SplitsInto text units
-    → length text ≡ sum_by length units
-split_length [] text e = ap length e
-split_length (u ∷ us) text (f, s) =
-    let rest = f.begins.0 in
-    let whole : text ≡ u ++ rest = f.begins.1 in
-    let left : drop (length u) text ≡ rest = ap (drop (length u)) whole ∙ drop-append_seam u rest in
-    ap length whole ∙ length-append u rest
-    ∙ ap (λ n. length u + n) (ap length (sym left) ∙ split_length us (drop (length u) text) s)
-    ∙ sym (sum_by-cons length u us)
-
-each_length : {A B : Type 0} → (h : A → B) (ts : List A) → length (each h ts) ≡ length ts
-each_length h [] = refl
-each_length h (a ∷ ts) = ap suc (each_length h ts)
-
 same_verdict : {A B : Type 0} → (h : A → B) (units : List (List ℕ)) (x : Answer A)
     → of_answer units (answer_of h x) ≡ of_answer units x
 same_verdict h units (done f []) = refl
@@ -204,7 +188,7 @@ module _ (text : List ℕ) (units : List (List ℕ)) (s : SplitsInto text units)
       fitting = fit;
       unfinished = subst (λ z. Unfinished kind_of z (only_tokens units)) deep h;
     },
-    start_past units ∙ sym (split_length units text s),
+    start_past units ∙ sym (units_length units text s),
     refl,
   )
   answered fit (stuck b (a ∷ r)) e h = hopeless fit h.0 a r b h.1

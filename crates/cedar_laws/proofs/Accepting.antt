@@ -4,6 +4,7 @@ use Rattle.std.specs.List.{list_any}
 use Rattle.std.specs.Str.Parse.{digits_value}
 use Rattle.std.proofs.lemmas.Bool.Decides.{Decides-eqb}
 use Rattle.std.proofs.lemmas.Bool.{and_parts}
+use Rattle.cedar_tokens.specs.Bytes.{digit_zero}
 use Rattle.cedar_tokens.specs.Units.{is_token, is_number}
 use Rattle.cedar_tokens.specs.Listing.{Decorated, Listing, token_value, without_zeros}
 use Rattle.cedar_tokens.specs.PlainList.{plain_list}
@@ -36,14 +37,15 @@ use Rattle.cedar_laws.proofs.CanonicalForm.{own_list, output_list, value_texts}
 zeros_value : (u : List ℕ) → digits_value 10 (without_zeros u) ≡ digits_value 10 u
 unfolding without_zeros
 zeros_value [] = refl
-zeros_value (b ∷ bs) = go (b == 48 && not (length bs == 0)) refl (zeros_value bs)
+zeros_value (b ∷ bs) = go (b == digit_zero && not (length bs == 0)) refl (zeros_value bs)
   where
-    go : (t : Bool) → (b == 48 && not (length bs == 0)) ≡ t
+    go : (t : Bool) → (b == digit_zero && not (length bs == 0)) ≡ t
         → digits_value 10 (without_zeros bs) ≡ digits_value 10 bs
         → digits_value 10 (cond t (without_zeros bs) (b ∷ bs)) ≡ digits_value 10 (b ∷ bs)
     go false e ih = refl
     go true e ih =
-        let z : b ≡ 48 = (Decides-eqb b 48).0 (and_parts (b == 48) (not (length bs == 0)) e).0 in
+        let z : b ≡ digit_zero = (Decides-eqb b digit_zero).0
+        (and_parts (b == digit_zero) (not (length bs == 0)) e).0 in
         ih ∙ ap (λ c. digits_value 10 (c ∷ bs)) (sym z)
 
 large_value : (u : List ℕ) → is_too_large (token_value u) ≡ is_too_large u

@@ -3,6 +3,7 @@ use Rattle.std.proofs.Common.{◌≡◌, ℕ, ℤ, List, [], ◌∷◌, ◌++◌
 use Rattle.std.specs.List.{AllByRecursion, filter}
 use Rattle.std.proofs.lemmas.List.{map-append}
 use Rattle.cedar_layout.specs.Layout.{text_of_choice}
+use Rattle.cedar_tokens.specs.Bytes.{line_feed, space_character}
 use Rattle.cedar_tokens.specs.Listing.{Decorated, IsListing, listing, gaps, decorate}
 use Rattle.cedar_tokens.specs.Split.{SplitsInto}
 use Rattle.cedar_tokens.proofs.CommentLines.{comments_nil}
@@ -62,22 +63,23 @@ policy_reads : (i : ℤ) (p : Clause Decorated policy) (t : List ℕ) → PartFi
     → (s : List ℕ) × IsSomeLayout (part_table i p) s × IsCleaned s t
     → IsListing t (of_tokens (part_yield p))
 policy_reads i p t f g w =
-    let spelled : Spelled 32 (part_yield p) w.0 =
-    subst (λ z. Spelled 32 (part_yield p) z) (sym w.1.1) (law_of_gaps i p w.1.0 f) in
-    let whole = spelled_reads 32 (part_yield p) w.0 spelled g in
+    let spelled : Spelled space_character (part_yield p) w.0 =
+    subst (λ z. Spelled space_character (part_yield p) z) (sym w.1.1) (law_of_gaps i p w.1.0 f) in
+    let whole = spelled_reads space_character (part_yield p) w.0 spelled g in
     clean_reads w.0 t (of_tokens (part_yield p)) (spelled_utf8 spelled g) w.2 whole
 
 joined_reads : (t x : List ℕ) (ts us : List Decorated) (cs : List (List ℕ))
     → IsListing t (of_tokens ts) → IsListing x (record { tokens = map with_value us; closing = cs })
-    → IsListing (t ++ (10 ∷ x)) (record { tokens = map with_value (ts ++ us); closing = cs })
-joined_reads t x ts us cs a b = subst (λ z. IsListing (t ++ (10 ∷ x)) z)
+    → IsListing (t ++ (line_feed ∷ x)) (record { tokens = map with_value (ts ++ us); closing = cs })
+joined_reads t x ts us cs a b = subst (λ z. IsListing (t ++ (line_feed ∷ x)) z)
     (follow_plain (map with_value ts) (map with_value us) cs
     ∙ ap (λ z. record { tokens = z; closing = cs }) (sym (map-append with_value ts us)))
     (joined t x (of_tokens ts) (record { tokens = map with_value us; closing = cs }) a b)
 
 policies_read : (i : ℤ) (ps : List (Clause Decorated policy)) (texts cs : List (List ℕ))
     → AllByRecursion PartFit ps → AllByRecursion IsGood (tokens_of ps) → AllByRecursion IsLine cs
-    → PolicyTexts IsSomeLayout i ps texts → IsListing (paragraphs texts ++ (10 ∷ closing_text cs))
+    → PolicyTexts IsSomeLayout i ps texts
+    → IsListing (paragraphs texts ++ (line_feed ∷ closing_text cs))
     (record { tokens = map with_value (tokens_of ps); closing = cs })
 policies_read i [] [] cs f g c w =
     joined_reads [] (closing_text cs) [] [] cs nothing_reads (closing_reads cs c)
@@ -91,12 +93,14 @@ policies_read i (p ∷ (q ∷ ps)) (t ∷ []) cs f g c w = absurd w.1
 policies_read i (p ∷ (q ∷ ps)) (t ∷ (u ∷ ts)) cs f g c w =
     let a = All-parts IsGood (part_yield p) (tokens_of (q ∷ ps)) g in
     let rest = policies_read i (q ∷ ps) (u ∷ ts) cs f.1 a.1 c w.1 in
-    let gap = joined_reads [] (paragraphs (u ∷ ts) ++ (10 ∷ closing_text cs)) []
+    let gap = joined_reads [] (paragraphs (u ∷ ts) ++ (line_feed ∷ closing_text cs)) []
     (tokens_of (q ∷ ps)) cs nothing_reads rest in
     subst
     (λ z. IsListing z (record { tokens = map with_value (tokens_of (p ∷ (q ∷ ps))); closing = cs }))
-    (sym (append_assoc t (10 ∷ (10 ∷ paragraphs (u ∷ ts))) (10 ∷ closing_text cs)))
-    (joined_reads t (10 ∷ (paragraphs (u ∷ ts) ++ (10 ∷ closing_text cs))) (part_yield p)
+    (sym (append_assoc t (line_feed ∷ (line_feed ∷ paragraphs (u ∷ ts)))
+    (line_feed ∷ closing_text cs)))
+    (joined_reads t (line_feed ∷ (paragraphs (u ∷ ts) ++ (line_feed ∷ closing_text cs)))
+    (part_yield p)
     (tokens_of (q ∷ ps)) cs (policy_reads i p t f.0 a.0 w.0) gap)
 
 -- Every layout reads back.
@@ -108,7 +112,8 @@ reads_back i ps cs output f g c w =
 -- a layout reads back before it is cleaned
 pub raw_reads_back : RawLayoutsReadBack
 raw_reads_back i p c f g =
-    spelled_reads 32 (part_yield p) (text_of_choice (part_table i p) c) (law_of_gaps i p c f) g
+    spelled_reads space_character (part_yield p) (text_of_choice (part_table i p) c)
+    (law_of_gaps i p c f) g
 
 -- two layouts have the same tokens and comments
 pub choices_agree : ChoicesDifferInBlanks

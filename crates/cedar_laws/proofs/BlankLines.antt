@@ -11,6 +11,7 @@ use Rattle.std.specs.Char.{IsScalar}
 use Rattle.std.proofs.lemmas.Bool.{or_right, and_parts, false_from_ne_true, not-true}
 use Rattle.std.proofs.lemmas.Bool.Decides.{nat_tests, Decides-eqb}
 use Rattle.std.proofs.lemmas.List.Folds.{concat-append}
+use Rattle.cedar_tokens.specs.Bytes.{line_feed, slash, space_character}
 use Rattle.cedar_tokens.specs.Units.{IsBlank, IsToken, is_token, is_comment}
 use Rattle.cedar_tokens.specs.Split.{Scans, SplitsInto}
 use Rattle.cedar_tokens.specs.Listing.{Decorated, Listing, gaps, decorate, listing, comments, with_first}
@@ -28,35 +29,36 @@ use Rattle.cedar_laws.proofs.Listed.{gaps_skip}
 use Rattle.cedar_laws.proofs.Units.{last_passes, feed_blank}
 
 -- these units are what their text splits into
-abbrev pub Parted : List (List ℕ) → Type 0
-Parted us = SplitsInto (concat us) us
+abbrev pub AreUnits : List (List ℕ) → Type 0
+AreUnits us = SplitsInto (concat us) us
 
 -- a front of units that their text splits into is one too
-parted_front : (us vs : List (List ℕ)) (y : List ℕ) → Scans (us ++ vs) (concat us ++ y) []
-    → Parted us
-parted_front [] vs y s = refl
-parted_front (u ∷ us) vs y s =
+units_front : (us vs : List (List ℕ)) (y : List ℕ) → Scans (us ++ vs) (concat us ++ y) []
+    → AreUnits us
+units_front [] vs y s = refl
+units_front (u ∷ us) vs y s =
     let e : drop (length u) ((u ++ concat us) ++ y) ≡ concat us ++ y =
     ap (drop (length u)) (append_assoc u (concat us) y) ∙ drop-append_seam u (concat us ++ y) in
     scans_unit u us (concat us) [] (first_within (u ++ concat us) y u s.0
-    (omega (arith, length-append u (concat us)))) (parted_front us vs y (rw e at s.1))
+    (omega (arith, length-append u (concat us)))) (units_front us vs y (rw e at s.1))
 
-parted_back : (us vs : List (List ℕ)) (y : List ℕ) → Scans (us ++ vs) (concat us ++ y) []
+units_back : (us vs : List (List ℕ)) (y : List ℕ) → Scans (us ++ vs) (concat us ++ y) []
     → Scans vs y []
-parted_back [] vs y s = s
-parted_back (u ∷ us) vs y s =
+units_back [] vs y s = s
+units_back (u ∷ us) vs y s =
     let e : drop (length u) ((u ++ concat us) ++ y) ≡ concat us ++ y =
     ap (drop (length u)) (append_assoc u (concat us) y) ∙ drop-append_seam u (concat us ++ y) in
-    parted_back us vs y (rw e at s.1)
+    units_back us vs y (rw e at s.1)
 
-pub parted_parts : (us vs : List (List ℕ)) → Parted (us ++ vs) → Parted us × Parted vs
-parted_parts us vs p =
+pub units_parts : (us vs : List (List ℕ)) → AreUnits (us ++ vs) → AreUnits us × AreUnits vs
+units_parts us vs p =
     let s : Scans (us ++ vs) (concat us ++ concat vs) [] = rw concat-append at p in
-    (parted_front us vs (concat vs) s, parted_back us vs (concat vs) s)
+    (units_front us vs (concat vs) s, units_back us vs (concat vs) s)
 
-pub parted_join : (us vs : List (List ℕ)) → Parted us → Parted vs → Parted (us ++ ((10 ∷ []) ∷ vs))
-parted_join us vs p q =
-    rw (concat-append us ((10 ∷ []) ∷ vs)) (splits_join us vs (concat us) (concat vs) p q)
+pub units_join : (us vs : List (List ℕ)) → AreUnits us → AreUnits vs
+    → AreUnits (us ++ ((line_feed ∷ []) ∷ vs))
+units_join us vs p q =
+    rw (concat-append us ((line_feed ∷ []) ∷ vs)) (splits_join us vs (concat us) (concat vs) p q)
 
 -- units without a token or a comment say nothing
 abbrev pub Silent : List (List ℕ) → Type 0
@@ -64,17 +66,19 @@ Silent us = listing us ≡ record { tokens = []; closing = [] }
 
 -- a blank line goes
 line_goes : (us bs vs : List (List ℕ)) → Silent bs
-    → Parted (us ++ ((10 ∷ []) ∷ (bs ++ ((10 ∷ []) ∷ vs)))) → Parted (us ++ ((10 ∷ []) ∷ vs))
-    × (listing (us ++ ((10 ∷ []) ∷ vs)) ≡ listing (us ++ ((10 ∷ []) ∷ (bs ++ ((10 ∷ []) ∷ vs)))))
+    → AreUnits (us ++ ((line_feed ∷ []) ∷ (bs ++ ((line_feed ∷ []) ∷ vs))))
+    → AreUnits (us ++ ((line_feed ∷ []) ∷ vs))
+    × (listing (us ++ ((line_feed ∷ []) ∷ vs))
+    ≡ listing (us ++ ((line_feed ∷ []) ∷ (bs ++ ((line_feed ∷ []) ∷ vs)))))
 line_goes us bs vs h p =
-    let a = parted_parts us ((10 ∷ []) ∷ (bs ++ ((10 ∷ []) ∷ vs))) p in
-    let b = parted_parts ((10 ∷ []) ∷ []) (bs ++ ((10 ∷ []) ∷ vs)) a.1 in
-    let c = parted_parts bs ((10 ∷ []) ∷ vs) b.1 in
-    let d = parted_parts ((10 ∷ []) ∷ []) vs c.1 in (
-      parted_join us vs a.0 d.1,
+    let a = units_parts us ((line_feed ∷ []) ∷ (bs ++ ((line_feed ∷ []) ∷ vs))) p in
+    let b = units_parts ((line_feed ∷ []) ∷ []) (bs ++ ((line_feed ∷ []) ∷ vs)) a.1 in
+    let c = units_parts bs ((line_feed ∷ []) ∷ vs) b.1 in
+    let d = units_parts ((line_feed ∷ []) ∷ []) vs c.1 in (
+      units_join us vs a.0 d.1,
       listing_join us vs ∙ (ap (follow (listing us)) (sym
           (listing_join bs vs ∙ (ap (λ z. follow z (listing vs)) h ∙ nothing_first (listing vs))))
-          ∙ sym (listing_join us (bs ++ ((10 ∷ []) ∷ vs)))),
+          ∙ sym (listing_join us (bs ++ ((line_feed ∷ []) ∷ vs)))),
     )
   where
     nothing_first : (m : Listing) → follow (record { tokens = []; closing = [] }) m ≡ m
@@ -93,7 +97,7 @@ onto u [] = u ∷ []
 onto u (l ∷ ls) = (u ++ l) ∷ ls
 
 abbrev pub feedless : List ℕ → Bool
-feedless u = list_all (λ b. not (b == 10)) u
+feedless u = list_all (λ b. not (b == line_feed)) u
 
 onto_first : (b : ℕ) (u : List ℕ) (ls : List (List ℕ)) → with_first b (onto u ls) ≡ onto (b ∷ u) ls
 onto_first b u [] = refl
@@ -101,22 +105,23 @@ onto_first b u (l ∷ ls) = refl
 
 onto_nothing : (x : List ℕ) → onto [] (piece_lines x) ≡ piece_lines x
 onto_nothing [] = refl
-onto_nothing (b ∷ x) = go (b == 10) (piece_lines x)
+onto_nothing (b ∷ x) = go (b == line_feed) (piece_lines x)
   where
     same : (ls : List (List ℕ)) → onto [] (with_first b ls) ≡ with_first b ls
     same [] = refl
     same (l ∷ ls) = refl
 
-    go : (t : Bool) (ls : List (List ℕ)) → onto [] (cond t ((10 ∷ []) ∷ ls) (with_first b ls))
-        ≡ cond t ((10 ∷ []) ∷ ls) (with_first b ls)
+    go : (t : Bool) (ls : List (List ℕ))
+        → onto [] (cond t ((line_feed ∷ []) ∷ ls) (with_first b ls))
+        ≡ cond t ((line_feed ∷ []) ∷ ls) (with_first b ls)
     go true ls = refl
     go false ls = same ls
 
 pub lines_onto : (u x : List ℕ) → feedless u ≡ true → piece_lines (u ++ x) ≡ onto u (piece_lines x)
 lines_onto [] x h = sym (onto_nothing x)
 lines_onto (b ∷ u) x h =
-    let p = and_parts (not (b == 10)) (feedless u) h in
-    rw (not-true (b == 10) p.0, lines_onto u x p.1) (onto_first b u (piece_lines x))
+    let p = and_parts (not (b == line_feed)) (feedless u) h in
+    rw (not-true (b == line_feed) p.0, lines_onto u x p.1) (onto_first b u (piece_lines x))
 
 clean_onto : (u : List ℕ) (ls : List (List ℕ)) → clean_lines (onto u ls) ≡ u ++ clean_lines ls
 clean_onto u [] = refl
@@ -126,12 +131,13 @@ pub feedless_append : (u v : List ℕ) → feedless u ≡ true → feedless v �
     → feedless (u ++ v) ≡ true
 feedless_append [] v h k = k
 feedless_append (b ∷ u) v h k =
-    let p = and_parts (not (b == 10)) (feedless u) h in rw (p.0, feedless_append u v p.1 k) refl
+    let p = and_parts (not (b == line_feed)) (feedless u) h in
+    rw (p.0, feedless_append u v p.1 k) refl
 
 -- a unit of a piece: a line feed, or without one; a token or a blank
 pub record Plain (u : List ℕ) : Type 0 where
   pub kind : IsBlank u ⊎ IsToken u
-  pub feed : (u ≡ 10 ∷ []) ⊎ (feedless u ≡ true)
+  pub feed : (u ≡ line_feed ∷ []) ⊎ (feedless u ≡ true)
 
 abbrev pub AllPlain : List (List ℕ) → Type 0
 AllPlain us = AllByRecursion Plain us
@@ -161,30 +167,33 @@ blank_is_byte u w v n l k e =
     inside_one k.0 [] u (length w) (k.2 ∙ sym (append-nil (encode_utf8 k.0)))
     (omega (arith, size, size2, length-append w (n ∷ v))) (omega (arith, at)) ∙ at
 
-pub blank_no_slash : (u : List ℕ) → IsBlank u → list_all (λ b. not (47 == b)) u ≡ true
-blank_no_slash u k = lacks 47 u (λ w v e. absurd (let f = blank_is_byte u w v 47 (omega arith) k
-    e in let g : is_whitespace 47 ≡ true = rw f at k.1 in let h : false ≡ true = g in cc))
+pub blank_no_slash : (u : List ℕ) → IsBlank u → list_all (λ b. not (slash == b)) u ≡ true
+blank_no_slash u k = lacks slash u
+    (λ w v e. absurd (let f = blank_is_byte u w v slash (omega arith) k
+    e in let g : is_whitespace slash ≡ true = rw f at k.1 in let h : false ≡ true = g in cc))
 
-pub comments_pass : (u y : List ℕ) → list_all (λ b. not (47 == b)) u ≡ true
+pub comments_pass : (u y : List ℕ) → list_all (λ b. not (slash == b)) u ≡ true
     → comments (u ++ y) ≡ comments y
 comments_pass [] y h = refl
 comments_pass (b ∷ u) y h =
-    let p = and_parts (not (47 == b)) (list_all (λ b. not (47 == b)) u) h in
-    comments_skip b (u ++ y) (rw (not-true (47 == b) p.0) refl) ∙ comments_pass u y p.1
+    let p = and_parts (not (slash == b)) (list_all (λ b. not (slash == b)) u) h in
+    comments_skip b (u ++ y) (rw (not-true (slash == b) p.0) refl) ∙ comments_pass u y p.1
 
-pub feed_other : (x : ℕ) → not (10 == x) ≡ true → not (x == 10) ≡ true
+pub feed_other : (x : ℕ) → not (line_feed == x) ≡ true → not (x == line_feed) ≡ true
 feed_other x h = grind (arith, nat_tests)
 
 -- a blank is the line feed or has none
-pub blank_feed : (u : List ℕ) → IsBlank u → (u ≡ 10 ∷ []) ⊎ (feedless u ≡ true)
-blank_feed u e = go (e.0 == 10) refl
+pub blank_feed : (u : List ℕ) → IsBlank u → (u ≡ line_feed ∷ []) ⊎ (feedless u ≡ true)
+blank_feed u e = go (e.0 == line_feed) refl
   where
-    go : (t : Bool) → (e.0 == 10) ≡ t → (u ≡ 10 ∷ []) ⊎ (feedless u ≡ true)
+    go : (t : Bool) → (e.0 == line_feed) ≡ t → (u ≡ line_feed ∷ []) ⊎ (feedless u ≡ true)
     go true h =
-        inl (e.2 ∙ (ap encode_utf8 ((Decides-eqb e.0 10).0 h) ∙ encode_ascii 10 (omega arith)))
-    go false h = inr (all_more (λ x. not (10 == x)) (λ x. not (x == 10)) feed_other u
-        (lacks 10 u (λ w v g. absurd (let f = blank_is_byte u w v 10 (omega arith) e g in let t =
-        (Decides-eqb e.0 10).1 f in cc))))
+        inl (e.2 ∙ (ap encode_utf8 ((Decides-eqb e.0 line_feed).0 h)
+        ∙ encode_ascii line_feed (omega arith)))
+    go false h = inr (all_more (λ x. not (line_feed == x)) (λ x. not (x == line_feed)) feed_other u
+        (lacks line_feed u (λ w v g. absurd (let f = blank_is_byte u w v line_feed
+        (omega arith) e g in let t =
+        (Decides-eqb e.0 line_feed).1 f in cc))))
 
 abbrev pub AllBlank : List (List ℕ) → Type 0
 AllBlank us = AllByRecursion IsBlank us
@@ -260,18 +269,23 @@ all_blank (u ∷ us) x a h =
     ]
 
 -- a line of blanks is a blank line
-blank_line : (qs : List (List ℕ)) → AllBlank qs → is_blank_line (concat qs ++ (10 ∷ [])) ≡ true
-blank_line qs a = rw (last_feed 32 (concat qs), white qs a) refl
+blank_line : (qs : List (List ℕ)) → AllBlank qs → is_blank_line (concat qs ++ (line_feed ∷ []))
+    ≡ true
+blank_line qs a = rw (last_feed space_character (concat qs), white qs a) refl
   where
-    last_feed : (c : ℕ) (x : List ℕ) → (last_byte_or c (x ++ (10 ∷ [])) == 10) ≡ true
+    last_feed : (c : ℕ) (x : List ℕ) → (last_byte_or c (x ++ (line_feed ∷ [])) == line_feed) ≡ true
     last_feed c [] = refl
     last_feed c (b ∷ x) = last_feed b x
 
     white : (qs : List (List ℕ)) → AllBlank qs
-        → list_all is_whitespace (chars (concat qs ++ (10 ∷ []))) ≡ true
-    white [] a = rw (chars_low 10 [] (omega arith), chars-nil) refl
+        → list_all is_whitespace (chars (concat qs ++ (line_feed ∷ []))) ≡ true
+    white [] a = rw (chars_low line_feed [] (omega arith), chars-nil) refl
     white (u ∷ qs) a =
-        rw (append_assoc u (concat qs) (10 ∷ []), chars_blank u (concat qs ++ (10 ∷ [])) a.0, a.0.1)
+        rw (
+          append_assoc u (concat qs) (line_feed ∷ []),
+          chars_blank u (concat qs ++ (line_feed ∷ [])) a.0,
+          a.0.1,
+        )
         (white qs a.1)
 
 -- ---- a piece
@@ -279,7 +293,7 @@ blank_line qs a = rw (last_feed 32 (concat qs), white qs a) refl
 -- ---- blank lines among units
 
 abbrev pub is_feed : List ℕ → Bool
-is_feed (b ∷ []) = b == 10
+is_feed (b ∷ []) = b == line_feed
 is_feed _ = false
 
 -- reads units after a line feed and blanks (true) or elsewhere (false);
@@ -317,7 +331,7 @@ blank_no_comment u k = go (is_comment u) refl
     none (a ∷ []) k e = absurd cc
     none (a ∷ (b ∷ v)) k e =
         let p = comment_parts a b v e in
-        let z : class 47 ≡ 0 = rw p.0 at (class-blank a (b ∷ v) k) in
+        let z : class slash ≡ 0 = rw p.0 at (class-blank a (b ∷ v) k) in
         omega (arith, z)
 
     go : (t : Bool) → is_comment u ≡ t → t ≡ false
@@ -329,17 +343,19 @@ blank_not_solid u k = rw (blank_no_token u k, blank_no_comment u k) refl
 
 pub no_feed_unit : (u : List ℕ) → feedless u ≡ true → is_feed u ≡ false
 no_feed_unit [] h = refl
-no_feed_unit (b ∷ []) h = not-true (b == 10) (and_parts (not (b == 10)) true h).0
+no_feed_unit (b ∷ []) h = not-true (b == line_feed) (and_parts (not (b == line_feed)) true h).0
 no_feed_unit (b ∷ (c ∷ u)) h = refl
 
 pub feedless_front : (u x : List ℕ) → feedless (u ++ x) ≡ true → feedless u ≡ true
 feedless_front [] x h = refl
 feedless_front (b ∷ u) x h =
-    let p = and_parts (not (b == 10)) (feedless (u ++ x)) h in rw p.0 (feedless_front u x p.1)
+    let p = and_parts (not (b == line_feed)) (feedless (u ++ x)) h in
+    rw p.0 (feedless_front u x p.1)
 
 pub feedless_back : (u x : List ℕ) → feedless (u ++ x) ≡ true → feedless x ≡ true
 feedless_back [] x h = h
-feedless_back (b ∷ u) x h = feedless_back u x (and_parts (not (b == 10)) (feedless (u ++ x)) h).1
+feedless_back (b ∷ u) x h = feedless_back u x
+    (and_parts (not (b == line_feed)) (feedless (u ++ x)) h).1
 
 -- in a line that has more than blanks
 line_stays : (qs : List (List ℕ)) → AllPlain qs → feedless (concat qs) ≡ true
@@ -363,12 +379,12 @@ blanks_stay (u ∷ qs) a f =
     rw (blank_not_solid u a.0, no_feed_unit u (feedless_front u (concat qs) f))
     (blanks_stay qs a.1 (feedless_back u (concat qs) f))
 
-pub feed_not_solid : is_solid (10 ∷ []) ≡ false
-feed_not_solid = blank_not_solid (10 ∷ []) feed_blank
+pub feed_not_solid : is_solid (line_feed ∷ []) ≡ false
+feed_not_solid = blank_not_solid (line_feed ∷ []) feed_blank
 
 lined_feed : (ps qs : List (List ℕ)) → lined false ps ≡ Some false
-    → lined false (ps ++ ((10 ∷ []) ∷ qs)) ≡ lined true qs
-lined_feed ps qs w = lined_append ps ((10 ∷ []) ∷ qs) false false w ∙ rw feed_not_solid refl
+    → lined false (ps ++ ((line_feed ∷ []) ∷ qs)) ≡ lined true qs
+lined_feed ps qs w = lined_append ps ((line_feed ∷ []) ∷ qs) false false w ∙ rw feed_not_solid refl
 
 -- ---- units without some blanks
 
@@ -402,7 +418,7 @@ thinned_blanks bs {vs = vs} a t e = subst (λ z. Thinned z vs) e (each bs a t)
 pub record Instead (us ss : List (List ℕ)) (y : List ℕ) : Type 0 where
   pub units : List (List ℕ)
   pub is : concat units ≡ y
-  pub parted : Parted (units ++ ss)
+  pub are_units : AreUnits (units ++ ss)
   pub list : listing (units ++ ss) ≡ listing (us ++ ss)
   pub thinned : Thinned us units
   pub ended : Bool
@@ -413,7 +429,7 @@ instead_as : (us vs ss : List (List ℕ)) (x y : List ℕ) → us ≡ vs → x �
 instead_as us vs ss x y e f i = record {
   units = i.units;
   is = i.is ∙ f;
-  parted = i.parted;
+  are_units = i.are_units;
   list = i.list ∙ ap (λ z. listing (z ++ ss)) e;
   thinned = subst (λ z. Thinned z i.units) e i.thinned;
   ended = i.ended;
@@ -439,7 +455,8 @@ in_line_end qs a f =
 
 feedless_no_blank : (l : List ℕ) → feedless l ≡ true → is_blank_line l ≡ false
 feedless_no_blank l h =
-    rw (not-true (last_byte_or 32 l == 10) (last_passes (λ b. not (b == 10)) 32 l refl h)) refl
+    rw (not-true (last_byte_or space_character l == line_feed)
+    (last_passes (λ b. not (b == line_feed)) space_character l refl h)) refl
 
 onto_onto : (u v : List ℕ) (ls : List (List ℕ)) → onto u (onto v ls) ≡ onto (u ++ v) ls
 onto_onto u v [] = refl
@@ -453,29 +470,30 @@ kept_line : (l : List ℕ) (ls : List (List ℕ)) → is_blank_line l ≡ false
     → without_blank_lines (l ∷ ls) ≡ l ++ without_blank_lines ls
 kept_line l ls h = rw h refl
 
-regroup : (ps qs ms ss : List (List ℕ)) → (ps ++ ((10 ∷ []) ∷ (qs ++ ((10 ∷ []) ∷ ms)))) ++ ss
-    ≡ ps ++ ((10 ∷ []) ∷ (qs ++ ((10 ∷ []) ∷ (ms ++ ss))))
+regroup : (ps qs ms ss : List (List ℕ))
+    → (ps ++ ((line_feed ∷ []) ∷ (qs ++ ((line_feed ∷ []) ∷ ms)))) ++ ss
+    ≡ ps ++ ((line_feed ∷ []) ∷ (qs ++ ((line_feed ∷ []) ∷ (ms ++ ss))))
 regroup ps qs ms ss = simp append_assoc
 
-kept_text : (x y w z : List ℕ) → z ≡ x ++ (10 ∷ y)
-    → z ++ (10 ∷ w) ≡ x ++ (10 ∷ ((y ++ (10 ∷ [])) ++ w))
+kept_text : (x y w z : List ℕ) → z ≡ x ++ (line_feed ∷ y)
+    → z ++ (line_feed ∷ w) ≡ x ++ (line_feed ∷ ((y ++ (line_feed ∷ [])) ++ w))
 kept_text x y w z e = rw e (simp append_assoc)
 
 -- after a line feed, where qs is what was read of the line
 in_lines : (ms ps qs ss : List (List ℕ)) → AllPlain ms → AllPlain qs → feedless (concat qs) ≡ true
-    → lined false ps ≡ Some false → Parted ((ps ++ ((10 ∷ []) ∷ (qs ++ ms))) ++ ss)
-    → Instead (ps ++ ((10 ∷ []) ∷ (qs ++ ms))) ss
-    (concat ps ++ (10 ∷ without_blank_lines (onto (concat qs) (piece_lines (concat ms)))))
+    → lined false ps ≡ Some false → AreUnits ((ps ++ ((line_feed ∷ []) ∷ (qs ++ ms))) ++ ss)
+    → Instead (ps ++ ((line_feed ∷ []) ∷ (qs ++ ms))) ss
+    (concat ps ++ (line_feed ∷ without_blank_lines (onto (concat qs) (piece_lines (concat ms)))))
 in_lines [] ps qs ss a b f w p =
     let k : is_blank_line (concat qs ++ []) ≡ false =
     rw (append-nil (concat qs)) (feedless_no_blank (concat qs) f) in
     let e = in_line_end qs b f in
     record {
-      units = ps ++ ((10 ∷ []) ∷ (qs ++ []));
+      units = ps ++ ((line_feed ∷ []) ∷ (qs ++ []));
       is = rw k (simp (concat-append, append-nil));
-      parted = p;
+      are_units = p;
       list = refl;
-      thinned = thinned_same (ps ++ ((10 ∷ []) ∷ (qs ++ [])));
+      thinned = thinned_same (ps ++ ((line_feed ∷ []) ∷ (qs ++ [])));
       ended = e.0;
       lined = lined_feed ps (qs ++ []) w ∙ (ap (lined true) (append-nil qs) ∙ e.1);
     }
@@ -484,68 +502,82 @@ in_lines (u ∷ ms) ps qs ss a b f w p = elim a.0.feed [
       more (in_lines ms ps (qs ++ (u ∷ [])) ss a.1 (All-append Plain qs (u ∷ []) b (a.0, tt))
       (rw (concat-append qs (u ∷ []), append-nil u) (feedless_append (concat qs) u f free)) w
       (rw (append_assoc qs (u ∷ []) ms) p)) free
-  | inl e ↦ at_feed e (is_blank_line (concat qs ++ (10 ∷ []))) refl
+  | inl e ↦ at_feed e (is_blank_line (concat qs ++ (line_feed ∷ []))) refl
       (λ q. in_lines ms ps [] ss a.1 tt refl w q)
-      (λ v q. in_lines ms (ps ++ ((10 ∷ []) ∷ qs)) [] ss a.1 tt refl v q)
+      (λ v q. in_lines ms (ps ++ ((line_feed ∷ []) ∷ qs)) [] ss a.1 tt refl v q)
 ]
   where
-    more : Instead (ps ++ ((10 ∷ []) ∷ ((qs ++ (u ∷ [])) ++ ms))) ss (concat ps
-        ++ (10 ∷ without_blank_lines (onto (concat (qs ++ (u ∷ []))) (piece_lines (concat ms)))))
+    more : Instead (ps ++ ((line_feed ∷ []) ∷ ((qs ++ (u ∷ [])) ++ ms))) ss (concat ps
+        ++ (line_feed ∷ without_blank_lines
+        (onto (concat (qs ++ (u ∷ []))) (piece_lines (concat ms)))))
         → feedless u ≡ true
-        → Instead (ps ++ ((10 ∷ []) ∷ (qs ++ (u ∷ ms)))) ss
-        (concat ps ++ (10 ∷ without_blank_lines (onto (concat qs) (piece_lines (u ++ concat ms)))))
+        → Instead (ps ++ ((line_feed ∷ []) ∷ (qs ++ (u ∷ ms)))) ss
+        (concat ps ++ (line_feed ∷ without_blank_lines
+        (onto (concat qs) (piece_lines (u ++ concat ms)))))
     more i free =
-        instead_as _ _ ss _ _ (ap (λ z. ps ++ ((10 ∷ []) ∷ z)) (append_assoc qs (u ∷ []) ms))
-        (ap (λ z. concat ps ++ (10 ∷ without_blank_lines z))
+        instead_as _ _ ss _ _ (ap (λ z. ps ++ ((line_feed ∷ []) ∷ z)) (append_assoc qs (u ∷ []) ms))
+        (ap (λ z. concat ps ++ (line_feed ∷ without_blank_lines z))
         (ap (λ z. onto z (piece_lines (concat ms))) (concat-append qs (u ∷ []) ∙ ap (λ z.
         concat qs ++ z) (append-nil u)) ∙ (sym (onto_onto (concat qs) u (piece_lines (concat ms)))
         ∙ ap (onto (concat qs)) (sym (lines_onto u (concat ms) free))))) i
 
-    at_feed : u ≡ 10 ∷ [] → (t : Bool) → is_blank_line (concat qs ++ (10 ∷ [])) ≡ t
-        → (Parted ((ps ++ ((10 ∷ []) ∷ ms)) ++ ss) → Instead (ps ++ ((10 ∷ []) ∷ ms)) ss
-        (concat ps ++ (10 ∷ without_blank_lines (onto [] (piece_lines (concat ms))))))
-        → (lined false (ps ++ ((10 ∷ []) ∷ qs)) ≡ Some false
-        → Parted (((ps ++ ((10 ∷ []) ∷ qs)) ++ ((10 ∷ []) ∷ ms)) ++ ss)
-        → Instead ((ps ++ ((10 ∷ []) ∷ qs)) ++ ((10 ∷ []) ∷ ms)) ss (concat (ps ++ ((10 ∷ []) ∷ qs))
-        ++ (10 ∷ without_blank_lines (onto [] (piece_lines (concat ms))))))
-        → Instead (ps ++ ((10 ∷ []) ∷ (qs ++ (u ∷ ms)))) ss
-        (concat ps ++ (10 ∷ without_blank_lines (onto (concat qs) (piece_lines (u ++ concat ms)))))
+    at_feed : u ≡ line_feed ∷ [] → (t : Bool) → is_blank_line (concat qs ++ (line_feed ∷ [])) ≡ t
+        → (AreUnits ((ps ++ ((line_feed ∷ []) ∷ ms)) ++ ss)
+        → Instead (ps ++ ((line_feed ∷ []) ∷ ms)) ss
+        (concat ps ++ (line_feed ∷ without_blank_lines (onto [] (piece_lines (concat ms))))))
+        → (lined false (ps ++ ((line_feed ∷ []) ∷ qs)) ≡ Some false
+        → AreUnits (((ps ++ ((line_feed ∷ []) ∷ qs)) ++ ((line_feed ∷ []) ∷ ms)) ++ ss)
+        → Instead ((ps ++ ((line_feed ∷ []) ∷ qs)) ++ ((line_feed ∷ []) ∷ ms)) ss
+        (concat (ps ++ ((line_feed ∷ []) ∷ qs))
+        ++ (line_feed ∷ without_blank_lines (onto [] (piece_lines (concat ms))))))
+        → Instead (ps ++ ((line_feed ∷ []) ∷ (qs ++ (u ∷ ms)))) ss
+        (concat ps ++ (line_feed ∷ without_blank_lines
+        (onto (concat qs) (piece_lines (u ++ concat ms)))))
     at_feed e true h gone stays =
-        let p0 : Parted ((ps ++ ((10 ∷ []) ∷ (qs ++ ((10 ∷ []) ∷ ms)))) ++ ss) = rw e at p in
+        let p0 : AreUnits ((ps ++ ((line_feed ∷ []) ∷ (qs ++ ((line_feed ∷ []) ∷ ms)))) ++ ss) =
+        rw e at p in
         let E = regroup ps qs ms ss in
-        let k = all_blank qs (10 ∷ []) b (and_parts (last_byte_or 32 (concat qs ++ (10 ∷ [])) == 10)
-        (list_all is_whitespace (chars (concat qs ++ (10 ∷ [])))) h).1 in
-        let g = line_goes ps qs (ms ++ ss) (blanks_silent qs k) (subst (λ z. Parted z) E p0) in
-        let i = gone (rw (append_assoc ps ((10 ∷ []) ∷ ms) ss) g.0) in
+        let k = all_blank qs (line_feed ∷ []) b
+        (and_parts (last_byte_or space_character (concat qs ++ (line_feed ∷ [])) == line_feed)
+        (list_all is_whitespace (chars (concat qs ++ (line_feed ∷ [])))) h).1 in
+        let g = line_goes ps qs (ms ++ ss) (blanks_silent qs k) (subst (λ z. AreUnits z) E p0) in
+        let i = gone (rw (append_assoc ps ((line_feed ∷ []) ∷ ms) ss) g.0) in
         rw e (record {
           units = i.units;
           is = i.is
-              ∙ ap (λ z. concat ps ++ (10 ∷ z)) (ap without_blank_lines (onto_nothing (concat ms))
-              ∙ sym (gone_line (concat qs ++ (10 ∷ [])) (piece_lines (concat ms)) h));
-          parted = i.parted;
+              ∙ ap (λ z. concat ps ++ (line_feed ∷ z))
+              (ap without_blank_lines (onto_nothing (concat ms))
+              ∙ sym (gone_line (concat qs ++ (line_feed ∷ [])) (piece_lines (concat ms)) h));
+          are_units = i.are_units;
           list = i.list
-              ∙ (ap listing (append_assoc ps ((10 ∷ []) ∷ ms) ss) ∙ (g.1 ∙ ap listing (sym E)));
+              ∙ (ap listing (append_assoc ps ((line_feed ∷ []) ∷ ms) ss)
+              ∙ (g.1 ∙ ap listing (sym E)));
           thinned =
-              thinned_twice (thinned_append (thinned_same ps) (unit_stays (10 ∷ []) (thinned_blanks
-              (qs ++ ((10 ∷ []) ∷ [])) (All-append IsBlank qs ((10 ∷ []) ∷ []) k (feed_blank, tt))
-              (thinned_same ms) (append_assoc qs ((10 ∷ []) ∷ []) ms)))) i.thinned;
+              thinned_twice (thinned_append (thinned_same ps)
+              (unit_stays (line_feed ∷ []) (thinned_blanks
+              (qs ++ ((line_feed ∷ []) ∷ [])) (All-append IsBlank qs ((line_feed ∷ []) ∷ []) k
+              (feed_blank, tt))
+              (thinned_same ms) (append_assoc qs ((line_feed ∷ []) ∷ []) ms)))) i.thinned;
           ended = i.ended;
           lined = i.lined;
         })
     at_feed e false h gone stays =
-        let p0 : Parted ((ps ++ ((10 ∷ []) ∷ (qs ++ ((10 ∷ []) ∷ ms)))) ++ ss) = rw e at p in
-        let E = append_assoc ps ((10 ∷ []) ∷ qs) ((10 ∷ []) ∷ ms) in
+        let p0 : AreUnits ((ps ++ ((line_feed ∷ []) ∷ (qs ++ ((line_feed ∷ []) ∷ ms)))) ++ ss) =
+        rw e at p in
+        let E = append_assoc ps ((line_feed ∷ []) ∷ qs) ((line_feed ∷ []) ∷ ms) in
         let n : lined true qs ≡ Some false =
         elim (line_kind qs b f) [ inr k ↦ k | inl k ↦ absurd (let m = blank_line qs k in cc) ] in
-        let i = stays (lined_feed ps qs w ∙ n) (subst (λ z. Parted (z ++ ss)) (sym E) p0) in
+        let i = stays (lined_feed ps qs w ∙ n) (subst (λ z. AreUnits (z ++ ss)) (sym E) p0) in
         rw e (record {
           units = i.units;
-          is = i.is ∙ (ap (λ z. concat (ps ++ ((10 ∷ []) ∷ qs)) ++ (10 ∷ without_blank_lines z))
+          is = i.is ∙ (ap (λ z. concat (ps ++ ((line_feed ∷ []) ∷ qs)) ++
+              (line_feed ∷ without_blank_lines z))
               (onto_nothing (concat ms)) ∙ (kept_text (concat ps) (concat qs)
-              (without_blank_lines (piece_lines (concat ms))) (concat (ps ++ ((10 ∷ []) ∷ qs)))
-              (concat-append ps ((10 ∷ []) ∷ qs)) ∙ ap (λ z. concat ps ++ (10 ∷ z))
-              (sym (kept_line (concat qs ++ (10 ∷ [])) (piece_lines (concat ms)) h))));
-          parted = i.parted;
+              (without_blank_lines (piece_lines (concat ms)))
+              (concat (ps ++ ((line_feed ∷ []) ∷ qs)))
+              (concat-append ps ((line_feed ∷ []) ∷ qs)) ∙ ap (λ z. concat ps ++ (line_feed ∷ z))
+              (sym (kept_line (concat qs ++ (line_feed ∷ [])) (piece_lines (concat ms)) h))));
+          are_units = i.are_units;
           list = i.list ∙ ap (λ z. listing (z ++ ss)) E;
           thinned = subst (λ z. Thinned z i.units) E i.thinned;
           ended = i.ended;
@@ -554,11 +586,11 @@ in_lines (u ∷ ms) ps qs ss a b f w p = elim a.0.feed [
 
 -- in a line that stays
 pub in_line : (ms ps ss : List (List ℕ)) → AllPlain ms → lined false ps ≡ Some false
-    → Parted ((ps ++ ms) ++ ss) → Instead (ps ++ ms) ss (concat ps ++ clean_piece (concat ms))
+    → AreUnits ((ps ++ ms) ++ ss) → Instead (ps ++ ms) ss (concat ps ++ clean_piece (concat ms))
 in_line [] ps ss a w p = record {
   units = ps;
   is = sym (append-nil (concat ps));
-  parted = rw (append-nil ps) at p;
+  are_units = rw (append-nil ps) at p;
   list = ap (λ z. listing (z ++ ss)) (sym (append-nil ps));
   thinned = rw (append-nil ps) (thinned_same ps);
   ended = false;
@@ -575,8 +607,9 @@ in_line (u ∷ ms) ps ss a w p = elim a.0.feed [
   | inl e ↦ feed e (in_lines ms ps [] ss a.1 tt refl w (rw e at p))
 ]
   where
-    feed : u ≡ 10 ∷ [] → Instead (ps ++ ((10 ∷ []) ∷ ms)) ss (concat ps
-        ++ (10 ∷ without_blank_lines (onto [] (piece_lines (concat ms)))))
+    feed : u ≡ line_feed ∷ [] → Instead (ps ++ ((line_feed ∷ []) ∷ ms)) ss (concat ps
+        ++ (line_feed ∷ without_blank_lines (onto [] (piece_lines (concat ms)))))
         → Instead (ps ++ (u ∷ ms)) ss (concat ps ++ clean_piece (u ++ concat ms))
-    feed e i = rw e (instead_as (ps ++ ((10 ∷ []) ∷ ms)) (ps ++ ((10 ∷ []) ∷ ms)) ss _ _ refl
-        (ap (λ z. concat ps ++ (10 ∷ without_blank_lines z)) (onto_nothing (concat ms))) i)
+    feed e i = rw e (instead_as (ps ++ ((line_feed ∷ []) ∷ ms)) (ps ++ ((line_feed ∷ []) ∷ ms)) ss _
+        _ refl
+        (ap (λ z. concat ps ++ (line_feed ∷ without_blank_lines z)) (onto_nothing (concat ms))) i)

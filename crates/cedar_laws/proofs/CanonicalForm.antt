@@ -4,6 +4,7 @@ use Rattle.std.specs.List.{AllByRecursion}
 use Rattle.std.specs.Str.{IsUtf8}
 use Rattle.cedar_layout.specs.Layout.{Doc, text_of_choice, IsTheLayoutAt}
 use Rattle.cedar_layout.proofs.Rule.{laid_is_the_layout}
+use Rattle.cedar_tokens.specs.Bytes.{line_feed, space_character}
 use Rattle.cedar_tokens.specs.Listing.{Decorated, Listing, IsListing, listing, EqualByValue, by_value}
 use Rattle.cedar_tokens.specs.PlainList.{plain_list}
 use Rattle.cedar_tokens.proofs.Scanning.{listing_unique}
@@ -46,7 +47,7 @@ texts_exist w i (p ∷ ps) =
 
 pub output_exists : OutputExists
 output_exists w i ps cs = let t = texts_exist w i ps in (
-  paragraphs t.0 ++ (10 ∷ closing_text cs),
+  paragraphs t.0 ++ (line_feed ∷ closing_text cs),
   record { texts = t.0; cleaned = t.1; written = refl },
 )
 
@@ -76,26 +77,30 @@ texts_once w i (p ∷ ps) (q ∷ qs) (t ∷ ts) (u ∷ us) e a b =
 
 pub outputs_by_value : OutputsGoByValue
 outputs_by_value w i ps qs cs x y e a b =
-    a.written ∙ (ap (λ z. paragraphs z ++ (10 ∷ closing_text cs))
+    a.written ∙ (ap (λ z. paragraphs z ++ (line_feed ∷ closing_text cs))
     (texts_once w i ps qs a.texts b.texts e a.cleaned b.cleaned) ∙ sym b.written)
 
-ends_in_feed : (cs : List (List ℕ)) → (front : List ℕ) × (10 ∷ closing_text cs ≡ front ++ (10 ∷ []))
+ends_in_feed : (cs : List (List ℕ)) → (front : List ℕ)
+    × (line_feed ∷ closing_text cs ≡ front ++ (line_feed ∷ []))
 ends_in_feed [] = ([], refl)
 ends_in_feed (c ∷ cs) =
-    let r = ends_in_feed cs in
-    (10 ∷ (c ++ r.0), ap (λ z. 10 ∷ z) (ap (λ z. c ++ z) r.1 ∙ sym (append_assoc c r.0 (10 ∷ []))))
+    let r = ends_in_feed cs in (
+      line_feed ∷ (c ++ r.0),
+      ap (λ z. line_feed ∷ z) (ap (λ z. c ++ z) r.1
+          ∙ sym (append_assoc c r.0 (line_feed ∷ []))),
+    )
 
 pub output_ends : OutputEndsInLineFeed
 output_ends w i ps cs y o = let r = ends_in_feed cs in (
   paragraphs o.texts ++ r.0,
   o.written ∙ (ap (λ z. paragraphs o.texts ++ z) r.1
-      ∙ sym (append_assoc (paragraphs o.texts) r.0 (10 ∷ []))),
+      ∙ sym (append_assoc (paragraphs o.texts) r.0 (line_feed ∷ []))),
 )
 
 pub policy_lines : PolicyHasNoBlankLine
 policy_lines i p c t f g k =
     let s = law_of_gaps i p c f in
-    let l = spelled_reads 32 (part_yield p) (text_of_choice (part_table i p) c) s g in
+    let l = spelled_reads space_character (part_yield p) (text_of_choice (part_table i p) c) s g in
     let u = spelled_utf8 s g in
     let m = clean_units (text_of_choice (part_table i p) c) t l.units u l.split k in
     let n = clean_has_no_blank_line (text_of_choice (part_table i p) c) t m.units u

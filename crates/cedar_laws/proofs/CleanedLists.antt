@@ -8,6 +8,7 @@ use Rattle.std.proofs.lemmas.Str.{encode_ascii}
 use Rattle.std.proofs.lemmas.Bool.Decides.{nat_tests, Decides-eqb}
 use Rattle.std.proofs.lemmas.Bool.{or_cases, and_parts}
 use Rattle.std.proofs.lemmas.List.Folds.{concat-append}
+use Rattle.cedar_tokens.specs.Bytes.{line_feed, quote, slash}
 use Rattle.cedar_tokens.specs.Units.{BeginsWith, IsLongest, IsToken, IsUnit, blank, comment, token, is_string, is_comment, is_string_rest, is_word_byte, slots, punctuators, IsFirstUnit}
 use Rattle.cedar_tokens.specs.Split.{Scans, SplitsInto}
 use Rattle.cedar_tokens.specs.Listing.{listing}
@@ -20,10 +21,10 @@ use Rattle.cedar_laws.specs.CleaningLaws.{is_solid, Thinned}
 use Rattle.cedar_layout.specs.Cleaning.{IsKept, NoneBegins, Cut, last_piece, more_pieces, clean_piece}
 use Rattle.cedar_laws.proofs.Units.{Past, past, next_passes, no_slashes, punctuators_no_slashes}
 use Rattle.cedar_laws.proofs.Scanned.{begins_within, token_no_feed, string_class}
-use Rattle.cedar_laws.proofs.BlankLines.{Parted, parted_parts, lacks, blank_is_byte, Plain, AllPlain, in_line, lined, lined_append, token_solid, comment_solid, thinned_same, thinned_append, thinned_twice, feed_other, blank_feed}
+use Rattle.cedar_laws.proofs.BlankLines.{AreUnits, units_parts, lacks, blank_is_byte, Plain, AllPlain, in_line, lined, lined_append, token_solid, comment_solid, thinned_same, thinned_append, thinned_twice, feed_other, blank_feed}
 use Rattle.cedar_layout.proofs.Seeking.{comment_kept}
 
-quote_of_class : (b : ℕ) → class b ≡ 3 → (b == 34) ≡ true
+quote_of_class : (b : ℕ) → class b ≡ 3 → (b == quote) ≡ true
 quote_of_class b c = grind (arith, nat_tests)
 
 kept_by : (b : ℕ) (x : List ℕ) → class b ≡ 3 → is_string_rest x ≡ true → IsKept (b ∷ x)
@@ -36,24 +37,24 @@ plain_unit u k none = elim k [
   | comment e ↦ absurd (none (comment_kept u e))
   | token t ↦ record {
     kind = inr t;
-    feed = inr (all_more (λ x. not (10 == x)) (λ x. not (x == 10)) feed_other u
-        (lacks 10 u (λ w v e. token_feed w v e t)));
+    feed = inr (all_more (λ x. not (line_feed == x)) (λ x. not (x == line_feed)) feed_other u
+        (lacks line_feed u (λ w v e. token_feed w v e t)));
   }
 ]
   where
-    token_feed : (w v : List ℕ) → u ≡ w ++ (10 ∷ v) → IsToken u → ⊥
+    token_feed : (w v : List ℕ) → u ≡ w ++ (line_feed ∷ v) → IsToken u → ⊥
     token_feed [] v e t =
-        let r : IsToken (10 ∷ v) = rw e at t in
-        let z = token_class 10 v (token_of 10 v r) in
+        let r : IsToken (line_feed ∷ v) = rw e at t in
+        let z = token_class line_feed v (token_of line_feed v r) in
         omega (arith, z)
     token_feed (b ∷ w) v e t =
-        let r : IsToken (b ∷ (w ++ (10 ∷ v))) = rw e at t in
+        let r : IsToken (b ∷ (w ++ (line_feed ∷ v))) = rw e at t in
         let h = token_no_feed b w v r in
-        none (rw e (kept_by b (w ++ (10 ∷ v)) h.0 h.1))
+        none (rw e (kept_by b (w ++ (line_feed ∷ v)) h.0 h.1))
 
 -- the first byte of a string or a comment
 abbrev is_mark : ℕ → Bool
-is_mark d = d == 34 || d == 47
+is_mark d = d == quote || d == slash
 
 abbrev StartsKept : List ℕ → Type 0
 StartsKept [] = ⊤
@@ -75,15 +76,15 @@ unfolding punctuators
 punctuators_markless = refl
 
 mark_no_word : (d : ℕ) → is_mark d ≡ true → is_word_byte d ≡ true → ⊥
-mark_no_word d h k = elim (or_cases (d == 34) (d == 47) h) [
-  | inl e ↦ absurd (let f : is_word_byte 34 ≡ true = rw ((Decides-eqb d 34).0 e) at k in cc)
-  | inr e ↦ absurd (let f : is_word_byte 47 ≡ true = rw ((Decides-eqb d 47).0 e) at k in cc)
+mark_no_word d h k = elim (or_cases (d == quote) (d == slash) h) [
+  | inl e ↦ absurd (let f : is_word_byte quote ≡ true = rw ((Decides-eqb d quote).0 e) at k in cc)
+  | inr e ↦ absurd (let f : is_word_byte slash ≡ true = rw ((Decides-eqb d slash).0 e) at k in cc)
 ]
 
 mark_no_digit : (d : ℕ) → is_mark d ≡ true → is_ascii_digit d ≡ true → ⊥
-mark_no_digit d h k = elim (or_cases (d == 34) (d == 47) h) [
-  | inl e ↦ absurd (let f : is_ascii_digit 34 ≡ true = rw ((Decides-eqb d 34).0 e) at k in cc)
-  | inr e ↦ absurd (let f : is_ascii_digit 47 ≡ true = rw ((Decides-eqb d 47).0 e) at k in cc)
+mark_no_digit d h k = elim (or_cases (d == quote) (d == slash) h) [
+  | inl e ↦ absurd (let f : is_ascii_digit quote ≡ true = rw ((Decides-eqb d quote).0 e) at k in cc)
+  | inr e ↦ absurd (let f : is_ascii_digit slash ≡ true = rw ((Decides-eqb d slash).0 e) at k in cc)
 ]
 
 mark_low : (d : ℕ) → is_mark d ≡ true → d < 128
@@ -165,7 +166,7 @@ piece_units (u ∷ rs) (b ∷ m) t n k s = elim (past (b ∷ m) t u s.0.begins) 
 first_mark : (s r : List ℕ) → IsKept s → StartsKept (s ++ r)
 first_mark [] r k = absurd cc
 first_mark (b ∷ s) r k = elim (or_cases (is_string (b ∷ s)) (is_comment (b ∷ s)) k) [
-  | inl e ↦ rw (and_parts (b == 34) (is_string_rest s) e).0 refl
+  | inl e ↦ rw (and_parts (b == quote) (is_string_rest s) e).0 refl
   | inr e ↦ by_comment s e
 ]
   where
@@ -177,12 +178,12 @@ pub kept_unit : (s : List ℕ) → IsKept s → IsUnit s
 kept_unit s k = elim (or_cases (is_string s)
     (is_comment s) k) [ inl e ↦ token (is_token-string s e) | inr e ↦ comment e ]
 
-slashes_no_token : (v : List ℕ) → IsToken (47 ∷ (47 ∷ v)) → ⊥
+slashes_no_token : (v : List ℕ) → IsToken (slash ∷ (slash ∷ v)) → ⊥
 slashes_no_token v t =
-    let five : class 47 ≡ 5 = refl in
-    elim (token_of 47 (47 ∷ v) t) [
+    let five : class slash ≡ 5 = refl in
+    elim (token_of slash (slash ∷ v) t) [
       | punctuator _ _ a ↦ (let e : false ≡ true =
-          one_of no_slashes punctuators (47 ∷ (47 ∷ v)) punctuators_no_slashes a in absurd cc)
+          one_of no_slashes punctuators (slash ∷ (slash ∷ v)) punctuators_no_slashes a in absurd cc)
       | word c2 _ ↦ clash five c2 refl
       | number c2 _ ↦ clash five c2 refl
       | string c2 _ ↦ clash five c2 refl
@@ -196,16 +197,16 @@ kept_too text [] u k g n h l = absurd cc
 kept_too text (b ∷ s) [] k g n h l = absurd (omega (arith, l))
 kept_too text (b ∷ s) (c ∷ u) k g n h l =
     elim (or_cases (is_string (b ∷ s)) (is_comment (b ∷ s)) k) [
-      | inl e ↦ by_string ((Decides-eqb b 34).0 (and_parts (b == 34) (is_string_rest s) e).0)
+      | inl e ↦ by_string ((Decides-eqb b quote).0 (and_parts (b == quote) (is_string_rest s) e).0)
       | inr e ↦ by_comment s e g l
     ]
   where
     same : b ≡ c
     same = let e = sym g.1 ∙ h.1 in cc
 
-    by_string : b ≡ 34 → IsKept (c ∷ u)
+    by_string : b ≡ quote → IsKept (c ∷ u)
     by_string e =
-        let f : c ≡ 34 = sym same ∙ e in
+        let f : c ≡ quote = sym same ∙ e in
         let q : class c ≡ 3 = rw f refl in
         kept_by c u q (string_class u c n q)
 
@@ -222,10 +223,10 @@ kept_too text (b ∷ s) (c ∷ u) k g n h l =
             let f : b ∷ (d ∷ (s ++ g.0)) ≡ c ∷ (x ∷ (u ++ h.0)) = sym g.1 ∙ h.1 in
             let fc : b ≡ c = cc in
             let fx : d ≡ x = cc in
-            let ec : c ≡ 47 = sym fc ∙ p.0 in
-            let ex : x ≡ 47 = sym fx ∙ p.1 in
+            let ec : c ≡ slash = sym fc ∙ p.0 in
+            let ex : x ≡ slash = sym fx ∙ p.1 in
             elim n [
-              | blank q ↦ absurd (let z = class-blank c (x ∷ u) q in let y : class 47 ≡ 0 =
+              | blank q ↦ absurd (let z = class-blank c (x ∷ u) q in let y : class slash ≡ 0 =
                   rw ec at z in omega (arith, y))
               | comment q ↦ comment_kept (c ∷ (x ∷ u)) q
               | token q ↦ absurd (slashes_no_token u (rw (ec, ex) at q))
@@ -244,7 +245,7 @@ kept_is_first s r u k f =
 pub record Cleans (us : List (List ℕ)) (y : List ℕ) : Type 0 where
   pub units : List (List ℕ)
   pub is : concat units ≡ y
-  pub parted : Parted units
+  pub are_units : AreUnits units
   pub list : listing units ≡ listing us
   pub thinned : Thinned us units
   pub ended : Bool
@@ -260,20 +261,20 @@ kept_solid s k = elim (or_cases (is_string s)
     (is_comment s) k) [ inl e ↦ token_solid s (is_token-string s e) | inr e ↦ comment_solid s e ]
 
 pub cut_units : {r z : List ℕ} → Cut r z → (ps rs : List (List ℕ)) → lined false ps ≡ Some false
-    → Parted (ps ++ rs) → concat rs ≡ r → Cleans (ps ++ rs) (concat ps ++ z)
+    → AreUnits (ps ++ rs) → concat rs ≡ r → Cleans (ps ++ rs) (concat ps ++ z)
 cut_units (last_piece m n) ps rs w p e =
     let s : Scans rs (m ++ []) [] =
-    rw (append-nil m) (subst (λ z. Scans rs z []) e (parted_parts ps rs p).1) in
+    rw (append-nil m) (subst (λ z. Scans rs z []) e (units_parts ps rs p).1) in
     let q = piece_units rs m [] n tt s in
     let none = nothing_left q.rest q.scan in
     let a : ps ++ rs ≡ ps ++ q.piece =
     ap (λ z. ps ++ z) (q.are ∙ (ap (λ z. q.piece ++ z) none ∙ append-nil q.piece)) in
     let i = in_line q.piece ps [] q.plain w
-    (subst (λ z. Parted z) (a ∙ sym (append-nil (ps ++ q.piece))) p) in
+    (subst (λ z. AreUnits z) (a ∙ sym (append-nil (ps ++ q.piece))) p) in
     record {
       units = i.units;
       is = i.is ∙ ap (λ z. concat ps ++ clean_piece z) q.text;
-      parted = rw (append-nil i.units) at i.parted;
+      are_units = rw (append-nil i.units) at i.are_units;
       list = ap listing (sym (append-nil i.units))
           ∙ (i.list ∙ ap listing (append-nil (ps ++ q.piece) ∙ sym a));
       thinned = subst (λ z. Thinned z i.units) (sym a) i.thinned;
@@ -281,30 +282,32 @@ cut_units (last_piece m n) ps rs w p e =
       lined = i.lined;
     }
 cut_units (more_pieces m s r y n k c) ps rs w p e =
-    let t : Scans rs (m ++ (s ++ r)) [] = subst (λ z. Scans rs z []) e (parted_parts ps rs p).1 in
+    let t : Scans rs (m ++ (s ++ r)) [] = subst (λ z. Scans rs z []) e (units_parts ps rs p).1 in
     let q = piece_units rs m (s ++ r) n (first_mark s r k.kind) t in
-    behind q.piece q.rest q.are q.text q.plain q.scan (λ us vs w p e. cut_units c us vs w p e)
+    following q.piece q.rest q.are q.text q.plain q.scan (λ us vs w p e. cut_units c us vs w p e)
   where
-    behind : (piece rest : List (List ℕ)) → rs ≡ piece ++ rest → concat piece ≡ m → AllPlain piece
+    following : (piece rest : List (List ℕ)) → rs ≡ piece ++ rest → concat piece ≡ m
+        → AllPlain piece
         → Scans rest (s ++ r) []
-        → ((us vs : List (List ℕ)) → lined false us ≡ Some false → Parted (us ++ vs) → concat vs ≡ r
+        → ((us vs : List (List ℕ)) → lined false us ≡ Some false → AreUnits (us ++ vs) → concat vs
+        ≡ r
         → Cleans (us ++ vs) (concat us ++ y))
         → Cleans (ps ++ rs) (concat ps ++ (clean_piece m ++ (s ++ y)))
-    behind piece [] a t l g go = absurd (let f = unit_nonempty s (kept_unit s k.kind) in let n =
+    following piece [] a t l g go = absurd (let f = unit_nonempty s (kept_unit s k.kind) in let n =
         ap length g in omega (arith, f, n, length-append s r))
-    behind piece (u ∷ rest) a t l g go =
+    following piece (u ∷ rest) a t l g go =
         let same : u ≡ s = kept_is_first s r u k g.0 in
         let after : Scans rest r [] = subst (λ z. Scans rest z [])
         (ap (λ z. drop (length z) (s ++ r)) same ∙ drop-append_seam s r) g.1 in
         let b : ps ++ rs ≡ (ps ++ piece) ++ (u ∷ rest) =
         ap (λ z. ps ++ z) a ∙ sym (append_assoc ps piece (u ∷ rest)) in
-        let i = in_line piece ps (u ∷ rest) l w (subst (λ z. Parted z) b p) in
+        let i = in_line piece ps (u ∷ rest) l w (subst (λ z. AreUnits z) b p) in
         let d : i.units ++ (u ∷ rest) ≡ (i.units ++ (u ∷ [])) ++ rest =
         sym (append_assoc i.units (u ∷ []) rest) in
         let solid : is_solid u ≡ true = kept_solid u (rw same k.kind) in
         let v : lined false (i.units ++ (u ∷ [])) ≡ Some false =
         lined_append i.units (u ∷ []) false i.ended i.lined ∙ rw solid refl in
-        let j = go (i.units ++ (u ∷ [])) rest v (subst (λ z. Parted z) d i.parted)
+        let j = go (i.units ++ (u ∷ [])) rest v (subst (λ z. AreUnits z) d i.are_units)
         (sym (scans_concat rest r [] after ∙ append-nil (concat rest))) in
         let front : concat (i.units ++ (u ∷ [])) ≡ (concat ps ++ clean_piece m) ++ s =
         concat-append i.units (u ∷ []) ∙ (ap (λ z. concat i.units ++ z) (append-nil u ∙ same)
@@ -314,7 +317,7 @@ cut_units (more_pieces m s r y n k c) ps rs w p e =
         record {
           units = j.units;
           is = j.is ∙ text;
-          parted = j.parted;
+          are_units = j.are_units;
           list = j.list ∙ (ap listing (sym d) ∙ (i.list ∙ ap listing (sym b)));
           thinned = thinned_twice (subst (λ z. Thinned z (i.units ++ (u ∷ rest))) (sym b)
               (thinned_append i.thinned (thinned_same (u ∷ rest))))

@@ -2,6 +2,7 @@
 use Rattle.std.proofs.Common.{◌≡◌, ℕ, Bool, true, false, cond, List, [], ◌∷◌, ◌++◌, Some, None, refl, ap, sym, ◌∙◌, subst}
 use Rattle.std.specs.List.{AllByRecursion, concat}
 use Rattle.std.specs.Str.{trim, IsUtf8}
+use Rattle.cedar_tokens.specs.Bytes.{line_feed}
 use Rattle.cedar_tokens.specs.Split.{SplitsInto}
 use Rattle.cedar_tokens.specs.Listing.{listing}
 use Rattle.cedar_tokens.proofs.Scanning.{split_unique}
@@ -35,7 +36,7 @@ pub clean_units : (x y : List ℕ) (us : List (List ℕ)) → IsUtf8 x → Split
     → CleanUnits us y
 clean_units x y us u s c =
     let k = cut_cleans x c.joined us c.cut s in
-    let t = trims k.units k.parted (thinned_all k.thinned (units_utf8 us x u s)) in
+    let t = trims k.units k.are_units (thinned_all k.thinned (units_utf8 us x u s)) in
     let e : concat t.units ≡ y = t.is ∙ (ap trim k.is ∙ sym c.trimmed) in
     let l = t.stays_lined k.ended k.lined in
     record {
@@ -43,7 +44,7 @@ clean_units x y us u s c =
       units = t.units;
       last = t.last;
       thinned = thinned_twice k.thinned t.thinned;
-      split = subst (λ z. SplitsInto z t.units) e t.parted;
+      split = subst (λ z. SplitsInto z t.units) e t.are_units;
       list = t.list ∙ k.list;
       once = ap trim (sym e) ∙ (t.once ∙ e);
       ended = l.0;
@@ -62,29 +63,29 @@ clean_takes_blanks x y us u s c =
 
 -- a blank line stops `lined`
 blank_line_stops : (bs vs : List (List ℕ)) → AllBlank bs
-    → lined true (bs ++ ((10 ∷ []) ∷ vs)) ≡ None
+    → lined true (bs ++ ((line_feed ∷ []) ∷ vs)) ≡ None
 blank_line_stops [] vs a = rw feed_not_solid refl
 blank_line_stops (u ∷ bs) vs a =
     rw (blank_not_solid u a.0) (go (is_feed u) (blank_line_stops bs vs a.1))
   where
-    go : (f : Bool) → lined true (bs ++ ((10 ∷ []) ∷ vs)) ≡ None
-        → cond f None (lined true (bs ++ ((10 ∷ []) ∷ vs))) ≡ None
+    go : (f : Bool) → lined true (bs ++ ((line_feed ∷ []) ∷ vs)) ≡ None
+        → cond f None (lined true (bs ++ ((line_feed ∷ []) ∷ vs))) ≡ None
     go true ih = refl
     go false ih = ih
 
 lined_no_blank_line : (us : List (List ℕ)) (e : Bool) → lined false us ≡ Some e → NoBlankLine us
 lined_no_blank_line us e h fs bs vs q a =
-    let g : lined false (fs ++ ((10 ∷ []) ∷ (bs ++ ((10 ∷ []) ∷ vs)))) ≡ Some e =
+    let g : lined false (fs ++ ((line_feed ∷ []) ∷ (bs ++ ((line_feed ∷ []) ∷ vs)))) ≡ Some e =
     ap (lined false) (sym q) ∙ h in
-    let f = lined_front fs ((10 ∷ []) ∷ (bs ++ ((10 ∷ []) ∷ vs))) false e g in
-    let r : lined f.0 ((10 ∷ []) ∷ (bs ++ ((10 ∷ []) ∷ vs))) ≡ Some e =
-    sym (lined_append fs ((10 ∷ []) ∷ (bs ++ ((10 ∷ []) ∷ vs))) false f.0 f.1) ∙ g in
+    let f = lined_front fs ((line_feed ∷ []) ∷ (bs ++ ((line_feed ∷ []) ∷ vs))) false e g in
+    let r : lined f.0 ((line_feed ∷ []) ∷ (bs ++ ((line_feed ∷ []) ∷ vs))) ≡ Some e =
+    sym (lined_append fs ((line_feed ∷ []) ∷ (bs ++ ((line_feed ∷ []) ∷ vs))) false f.0 f.1) ∙ g in
     go f.0 r
   where
-    go : (o : Bool) → lined o ((10 ∷ []) ∷ (bs ++ ((10 ∷ []) ∷ vs))) ≡ Some e → ⊥
+    go : (o : Bool) → lined o ((line_feed ∷ []) ∷ (bs ++ ((line_feed ∷ []) ∷ vs))) ≡ Some e → ⊥
     go true r = let n : None ≡ Some e = rw feed_not_solid at r in absurd cc
     go false r =
-        let n : lined true (bs ++ ((10 ∷ []) ∷ vs)) ≡ Some e = rw feed_not_solid at r in
+        let n : lined true (bs ++ ((line_feed ∷ []) ∷ vs)) ≡ Some e = rw feed_not_solid at r in
         let m = blank_line_stops bs vs a in
         absurd cc
 

@@ -6,6 +6,7 @@ use Rattle.std.specs.Str.{trim}
 use Rattle.std.proofs.lemmas.List.{append_cancel_left, take-append-drop, length-drop}
 use Rattle.std.proofs.lemmas.Bool.Decides.{Decides-eqb}
 use Rattle.std.proofs.lemmas.Bool.{or_cases, and_parts}
+use Rattle.cedar_tokens.specs.Bytes.{quote}
 use Rattle.cedar_tokens.specs.Units.{BeginsWith, BeginsNone, IsLongest, IsComment, is_string, is_comment, is_string_rest, is_comment_byte}
 use Rattle.cedar_tokens.proofs.Prefixes.{same_head, longest_unique}
 use Rattle.cedar_tokens.proofs.Strings.{string_end, finds}
@@ -63,50 +64,52 @@ cleaned_once x y z a b = a.trimmed ∙ (ap trim (cut_once a.cut b.cut refl) ∙ 
 -- ---- at least one way, computed
 
 -- no comment begins at a quote
-only_strings : (t v : List ℕ) → IsKept v → BeginsWith (34 ∷ t) v
-    → (w : List ℕ) × (v ≡ 34 ∷ w) × (is_string_rest w ≡ true)
+only_strings : (t v : List ℕ) → IsKept v → BeginsWith (quote ∷ t) v
+    → (w : List ℕ) × (v ≡ quote ∷ w) × (is_string_rest w ≡ true)
 only_strings t [] k g = absurd cc
 only_strings t (b ∷ w) k g =
-    let h = same_head 34 b t w g in
-    let e : b ≡ 34 = sym h.0 in
+    let h = same_head quote b t w g in
+    let e : b ≡ quote = sym h.0 in
     elim (or_cases (is_string (b ∷ w)) (is_comment (b ∷ w)) k) [
-      | inl s ↦ (w, ap (λ z. z ∷ w) e, (and_parts (b == 34) (is_string_rest w) s).1)
+      | inl s ↦ (w, ap (λ z. z ∷ w) e, (and_parts (b == quote) (is_string_rest w) s).1)
       | inr c ↦ absurd (no_comment w e c)
     ]
   where
-    no_comment : (w : List ℕ) → b ≡ 34 → is_comment (b ∷ w) ≡ true → ⊥
+    no_comment : (w : List ℕ) → b ≡ quote → is_comment (b ∷ w) ≡ true → ⊥
     no_comment [] e c = absurd cc
     no_comment (d ∷ w) e c = let p = comment_parts b d w c in omega (arith, p.0, e)
 
-quote_none : (t : List ℕ) → string_end t false 0 ≡ None → BeginsNone IsKept (34 ∷ t)
+quote_none : (t : List ℕ) → string_end t false 0 ≡ None → BeginsNone IsKept (quote ∷ t)
 quote_none t e v k g =
     let w = only_strings t v k g in
-    finds t None e w.0 w.2 (same_head 34 34 t w.0 (subst (λ z. BeginsWith (34 ∷ t) z) w.1 g)).1
+    finds t None e w.0 w.2 (same_head quote quote t w.0
+    (subst (λ z. BeginsWith (quote ∷ t) z) w.1 g)).1
 
 quote_some : (t : List ℕ) (n : ℕ) → string_end t false 0 ≡ Some n
-    → IsLongest IsKept (34 ∷ t) (take (suc n) (34 ∷ t))
+    → IsLongest IsKept (quote ∷ t) (take (suc n) (quote ∷ t))
 quote_some t n e =
     let f = finds t (Some n) e in
     record {
-      kind = string_kept (34 ∷ take n t) f.1.kind;
-      begins = (drop n t, ap (λ z. 34 ∷ z) (sym (take-append-drop n t)));
+      kind = string_kept (quote ∷ take n t) f.1.kind;
+      begins = (drop n t, ap (λ z. quote ∷ z) (sym (take-append-drop n t)));
       longest = λ v k g. let w = only_strings t v k g in
           let l = f.1.longest w.0 w.2
-          (same_head 34 34 t w.0 (subst (λ z. BeginsWith (34 ∷ t) z) w.1 g)).1 in
+          (same_head quote quote t w.0 (subst (λ z. BeginsWith (quote ∷ t) z) w.1 g)).1 in
           omega (arith, l, ap length w.1);
     }
 
 -- no string begins elsewhere
-only_comments : (b : ℕ) (t v : List ℕ) → (b == 34) ≡ false → IsKept v → BeginsWith (b ∷ t) v
+only_comments : (b : ℕ) (t v : List ℕ) → (b == quote) ≡ false → IsKept v → BeginsWith (b ∷ t) v
     → IsComment v
 only_comments b t [] q k g = absurd cc
 only_comments b t (c ∷ v) q k g = elim (or_cases (is_string (c ∷ v)) (is_comment (c ∷ v)) k) [
-  | inl s ↦ absurd (let h = (same_head b c t v g).0 in let e : (c == 34) ≡ false = subst
-      (λ z. (z == 34) ≡ false) h q in let f = (and_parts (c == 34) (is_string_rest v) s).0 in cc)
+  | inl s ↦ absurd (let h = (same_head b c t v g).0 in let e : (c == quote) ≡ false = subst
+      (λ z. (z == quote) ≡ false) h q in let f = (and_parts (c == quote) (is_string_rest v) s).0 in
+      cc)
   | inr e ↦ e
 ]
 
-other_some : (b : ℕ) (t : List ℕ) → (b == 34) ≡ false
+other_some : (b : ℕ) (t : List ℕ) → (b == quote) ≡ false
     → starts_with nat_eq (b ∷ t) (codes "//") ≡ true
     → IsLongest IsKept (b ∷ t) (take (prefix_len is_comment_byte (drop 2 (b ∷ t)) + 2) (b ∷ t))
 other_some b t q e =
@@ -118,14 +121,14 @@ other_some b t q e =
       longest = λ v k g. f.1.longest v (only_comments b t v q k g) g;
     }
 
-other_none : (b : ℕ) (t : List ℕ) → (b == 34) ≡ false
+other_none : (b : ℕ) (t : List ℕ) → (b == quote) ≡ false
     → starts_with nat_eq (b ∷ t) (codes "//") ≡ false → BeginsNone IsKept (b ∷ t)
 other_none b t q e v k g = no_comment_finds (b ∷ t) e v (only_comments b t v q k g) g
 
 -- the length of the string or comment at the start of a text
 abbrev pub kept_len : List ℕ → Option ℕ
 kept_len [] = None
-kept_len (b ∷ t) = elim (b == 34) as (λ z. Option ℕ) [
+kept_len (b ∷ t) = elim (b == quote) as (λ z. Option ℕ) [
   | true ↦ option_map suc (string_end t false 0)
   | false ↦ elim (starts_with nat_eq (b ∷ t) (codes "//")) as (λ z.
       Option ℕ) [ true ↦ Some (prefix_len is_comment_byte (drop 2 (b ∷ t)) + 2) | false ↦ None ]
@@ -137,25 +140,25 @@ Found text None = BeginsNone IsKept text
 Found text (Some n) = IsLongest IsKept text (take n text)
 
 found : (b : ℕ) (t : List ℕ) → Found (b ∷ t) (kept_len (b ∷ t))
-found b t = at_quote (b == 34) refl
+found b t = at_quote (b == quote) refl
   where
-    strings : (r : Option ℕ) → string_end t false 0 ≡ r → Found (34 ∷ t) (option_map suc r)
+    strings : (r : Option ℕ) → string_end t false 0 ≡ r → Found (quote ∷ t) (option_map suc r)
     strings None e = quote_none t e
     strings (Some n) e = quote_some t n e
 
-    comments : (x : Bool) → (b == 34) ≡ false → starts_with nat_eq (b ∷ t) (codes "//") ≡ x
+    comments : (x : Bool) → (b == quote) ≡ false → starts_with nat_eq (b ∷ t) (codes "//") ≡ x
         → Found (b ∷ t) (elim x as (λ z.
         Option ℕ) [ true ↦ Some (prefix_len is_comment_byte (drop 2 (b ∷ t)) + 2) | false ↦ None ])
     comments true q e = other_some b t q e
     comments false q e = other_none b t q e
 
-    at_quote : (x : Bool) → (b == 34) ≡ x → Found (b ∷ t) (elim x as (λ z. Option ℕ) [
+    at_quote : (x : Bool) → (b == quote) ≡ x → Found (b ∷ t) (elim x as (λ z. Option ℕ) [
       | true ↦ option_map suc (string_end t false 0)
       | false ↦ elim (starts_with nat_eq (b ∷ t) (codes "//")) as (λ z.
           Option ℕ) [ true ↦ Some (prefix_len is_comment_byte (drop 2 (b ∷ t)) + 2) | false ↦ None ]
     ])
     at_quote true e = subst (λ z. Found (z ∷ t) (option_map suc (string_end t false 0)))
-        (sym ((Decides-eqb b 34).0 e)) (strings (string_end t false 0) refl)
+        (sym ((Decides-eqb b quote).0 e)) (strings (string_end t false 0) refl)
     at_quote false e = comments (starts_with nat_eq (b ∷ t) (codes "//")) e refl
 
 -- the first piece of a text, and the result for the rest; the fuel is as long as the text

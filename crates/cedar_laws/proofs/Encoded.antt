@@ -6,6 +6,7 @@ use Rattle.std.specs.Str.{IsUtf8}
 use Rattle.std.proofs.lemmas.Bool.Decides.{nat_tests}
 use Rattle.std.proofs.lemmas.Str.{IsUtf8-append, IsUtf8-nil, IsUtf8-encode, encode_ascii}
 use Rattle.std.proofs.lemmas.Bool.{and_parts}
+use Rattle.cedar_tokens.specs.Bytes.{line_feed, space_character}
 use Rattle.cedar_tokens.specs.Units.{is_number}
 use Rattle.cedar_tokens.specs.Listing.{Decorated, token_value, without_zeros}
 use Rattle.cedar_laws.specs.Gaps.{Blanks, no_blank, a_space, a_feed, Lines, no_line, a_comment, Front, bare, led, back, Spelled, the_end, a_token}
@@ -23,23 +24,25 @@ byte_then b x l u = IsUtf8-append (b ∷ []) x (byte_utf8 b l) u
 
 blanks_utf8 : {b : List ℕ} → Blanks b → IsUtf8 b
 blanks_utf8 no_blank = IsUtf8-nil
-blanks_utf8 (a_space {s} p) = byte_then 32 s (omega arith) (blanks_utf8 p)
-blanks_utf8 (a_feed {s} p) = byte_then 10 s (omega arith) (blanks_utf8 p)
+blanks_utf8 (a_space {s} p) = byte_then space_character s (omega arith) (blanks_utf8 p)
+blanks_utf8 (a_feed {s} p) = byte_then line_feed s (omega arith) (blanks_utf8 p)
 
 lines_utf8 : {ls : List (List ℕ)} {g : List ℕ} → Lines ls g → AllByRecursion IsLine ls → IsUtf8 g
 lines_utf8 (no_line p) a = blanks_utf8 p
-lines_utf8 (a_comment {b} {g} l p q) a = IsUtf8-append b (l ++ (10 ∷ g)) (blanks_utf8 p)
-    (IsUtf8-append l (10 ∷ g) a.0.utf8 (byte_then 10 g (omega arith) (lines_utf8 q a.1)))
+lines_utf8 (a_comment {b} {g} l p q) a = IsUtf8-append b (l ++ (line_feed ∷ g)) (blanks_utf8 p)
+    (IsUtf8-append l (line_feed ∷ g) a.0.utf8 (byte_then line_feed g (omega arith)
+    (lines_utf8 q a.1)))
 
 front_utf8 : {ls : List (List ℕ)} {g : List ℕ} → Front ls g → AllByRecursion IsLine ls → IsUtf8 g
 front_utf8 (bare p) a = blanks_utf8 p
 front_utf8 (led {b} {g} p q) a =
-    IsUtf8-append b (10 ∷ g) (blanks_utf8 p) (byte_then 10 g (omega arith) (lines_utf8 q a))
+    IsUtf8-append b (line_feed ∷ g) (blanks_utf8 p) (byte_then line_feed g (omega arith)
+    (lines_utf8 q a))
 
 back_utf8 : (tr : List ℕ) → IsUtf8 tr → IsUtf8 (back tr)
 back_utf8 [] u = IsUtf8-nil
-back_utf8 (c ∷ cs) u = byte_then 32 ((c ∷ cs) ++ (10 ∷ [])) (omega arith)
-    (IsUtf8-append (c ∷ cs) (10 ∷ []) u (byte_utf8 10 (omega arith)))
+back_utf8 (c ∷ cs) u = byte_then space_character ((c ∷ cs) ++ (line_feed ∷ [])) (omega arith)
+    (IsUtf8-append (c ∷ cs) (line_feed ∷ []) u (byte_utf8 line_feed (omega arith)))
 
 digits_utf8 : (u : List ℕ) → list_all is_ascii_digit u ≡ true → IsUtf8 u
 digits_utf8 [] h = IsUtf8-nil

@@ -8,6 +8,7 @@ use Rattle.std.proofs.lemmas.Slice.Eq.{bytes_eq-Decides}
 use Rattle.std.proofs.lemmas.Bool.Decides.{nat_tests, Decides-eqb}
 use Rattle.std.proofs.lemmas.Bool.{or_cases, or_right, and_parts, both_ways, not-true}
 use Rattle.std.proofs.lemmas.List.{nil_from_length}
+use Rattle.cedar_tokens.specs.Bytes.{backslash, colon, line_feed, quote, space_character}
 use Rattle.cedar_tokens.specs.Units.{IsToken, is_token, is_number, is_one_of, is_word_byte, is_string_rest, punctuators}
 use Rattle.cedar_tokens.specs.Listing.{Decorated, token_value, without_zeros}
 use Rattle.cedar_tokens.proofs.Heads.{class, word, number, string, slot as slot_token, punctuator, token_of, no_empty_token, one_of}
@@ -60,7 +61,7 @@ among k (f ∷ fs) u h = go (bytes_eq f.0 u) refl h (among k fs u)
 other_is : (k : Kind) → is k K.Str ≡ false → is k K.Number ≡ false → is k K.Identifier ≡ false
     → (u : List ℕ) → IsTrue (is k (other_kind u)) → ⊥
 other_is k s n i [] h = absurd cc
-other_is k s n i (x ∷ u) h = go (x == 34) (is_ascii_digit x) h
+other_is k s n i (x ∷ u) h = go (x == quote) (is_ascii_digit x) h
   where
     go : (b c : Bool) → IsTrue (is k (cond b K.Str (cond c K.Number K.Identifier))) → ⊥
     go true c h = absurd cc
@@ -98,52 +99,53 @@ word_start_byte b h = grind (arith, nat_tests)
 word_no_digit : (b : ℕ) → class b ≡ 1 → is_ascii_digit b ≡ false
 word_no_digit b h = grind (arith, nat_tests)
 
-word_ends : (c : ℕ) → is_word_byte c ≡ true → glues c 58 ≡ false
+word_ends : (c : ℕ) → is_word_byte c ≡ true → glues c colon ≡ false
 word_ends c h = grind (arith, nat_tests)
 
 digit_starts : (b : ℕ) → is_ascii_digit b ≡ true → is_start b ≡ true
 digit_starts b h = grind (arith, nat_tests)
 
-digit_ends : (c : ℕ) → is_ascii_digit c ≡ true → glues c 58 ≡ false
+digit_ends : (c : ℕ) → is_ascii_digit c ≡ true → glues c colon ≡ false
 digit_ends c h = grind (arith, nat_tests)
 
-quote_is : (b : ℕ) → class b ≡ 3 → b ≡ 34
+quote_is : (b : ℕ) → class b ≡ 3 → b ≡ quote
 quote_is b h = grind (arith, nat_tests)
 
 digits_fit : (w : List ℕ) → is_number w ≡ true
-    → (is_start (first_or 32 w) ≡ true) × Ends (last_byte_or 32 w)
+    → (is_start (first_or space_character w) ≡ true) × Ends (last_byte_or space_character w)
 digits_fit [] h = absurd cc
 digits_fit (b ∷ w) h =
     let p = and_parts (is_ascii_digit b) (list_all is_ascii_digit w) h in
     (digit_starts b p.0, digit_ends (last_byte_or b w) (last_passes is_ascii_digit b w p.0 p.1))
 
 string_last : (v : List ℕ) (escaped : Bool) (c : ℕ) → rest_test escaped v ≡ true
-    → last_byte_or c v ≡ 34
+    → last_byte_or c v ≡ quote
 string_last [] true c h = absurd cc
 string_last [] false c h = absurd cc
 string_last (b ∷ v) true c h =
-    string_last v false b (and_parts (not (b == 10)) (is_string_rest v) h).1
-string_last (b ∷ v) false c h = go (b == 34) refl (λ y k. string_last v y b k)
+    string_last v false b (and_parts (not (b == line_feed)) (is_string_rest v) h).1
+string_last (b ∷ v) false c h = go (b == quote) refl (λ y k. string_last v y b k)
   where
-    go : (x : Bool) → (b == 34) ≡ x → ((y : Bool) → rest_test y v ≡ true → last_byte_or b v ≡ 34)
-        → last_byte_or b v ≡ 34
+    go : (x : Bool) → (b == quote) ≡ x → ((y : Bool) → rest_test y v ≡ true → last_byte_or b v
+        ≡ quote)
+        → last_byte_or b v ≡ quote
     go true e ih =
         let z = nil_from_length v ((Decides-eqb (length v) 0).0 (rw e at h)) in
-        ap (last_byte_or b) z ∙ (Decides-eqb b 34).0 e
-    go false e ih = ih (b == 92) (sym (rest_of b v e) ∙ h)
+        ap (last_byte_or b) z ∙ (Decides-eqb b quote).0 e
+    go false e ih = ih (b == backslash) (sym (rest_of b v e) ∙ h)
 
 no_atoms : list_all (λ p. not (is_atom (kind_of p))) punctuators ≡ true
 unfolding punctuators
 no_atoms = refl
 
 abbrev Fine : List ℕ → Type 0
-Fine w = (is_start (first_or 32 w) ≡ true) × Ends (last_byte_or 32 w)
+Fine w = (is_start (first_or space_character w) ≡ true) × Ends (last_byte_or space_character w)
 
 no_number : (u : List ℕ) → is_number u ≡ false → Fine u → Fine (token_value u)
 no_number u e f = rw e f
 
-string_fine : (v : List ℕ) → is_string_rest v ≡ true → Fine (34 ∷ v)
-string_fine v h = (refl, rw (string_last v false 34 h) refl)
+string_fine : (v : List ℕ) → is_string_rest v ≡ true → Fine (quote ∷ v)
+string_fine v h = (refl, rw (string_last v false quote h) refl)
 
 token_fine : (b : ℕ) (v : List ℕ) → IsToken (b ∷ v) → IsTrue (is_atom (kind_of (b ∷ v)))
     → Fine (token_value (b ∷ v))

@@ -1,5 +1,6 @@
 -- What the atoms of tokens print meets the law of gaps.
 use Rattle.std.proofs.Common.{◌≡◌, ℕ, zero, suc, List, [], ◌∷◌, ◌++◌, false, refl, sym, ap, ◌∙◌, append_assoc, replicate}
+use Rattle.cedar_tokens.specs.Bytes.{line_feed, space_character}
 use Rattle.cedar_tokens.specs.Listing.{Decorated, token_value}
 use Rattle.cedar_layout.specs.Layout.{Atom, word, space_or_break, nothing_or_break, must_break, Piece, written, flat_space, flat_nothing, broken, print, AreMadeOf}
 use Rattle.std.specs.List.{flat_map}
@@ -14,7 +15,7 @@ blanks_append no_blank q = q
 blanks_append (a_space p) q = a_space (blanks_append p q)
 blanks_append (a_feed p) q = a_feed (blanks_append p q)
 
-spaces : (n : ℕ) → Blanks (replicate n 32)
+spaces : (n : ℕ) → Blanks (replicate n space_character)
 spaces zero = no_blank
 spaces (suc n) = a_space (spaces n)
 
@@ -23,7 +24,8 @@ breaks n = a_feed (spaces n)
 
 front_blank : {a g : List ℕ} {ls : List (List ℕ)} → Blanks a → Front ls g → Front ls (a ++ g)
 front_blank p (bare q) = bare (blanks_append p q)
-front_blank {a} p (led {b} {g} q r) = rw (← append_assoc a b (10 ∷ g)) (led (blanks_append p q) r)
+front_blank {a} p (led {b} {g} q r) = rw (← append_assoc a b (line_feed ∷ g))
+    (led (blanks_append p q) r)
 
 -- blanks may come first
 pub spelled_blank : {c d x : ℕ} {a s : List ℕ} {ts : List Decorated} → Blanks (x ∷ a)
@@ -31,10 +33,10 @@ pub spelled_blank : {c d x : ℕ} {a s : List ℕ} {ts : List Decorated} → Bla
 spelled_blank p (the_end q) = the_end (blanks_append p q)
 spelled_blank {x = x} {a = a} p (a_token {g = g} {s = s} t f n r) =
     rw (← append_assoc (x ∷ a) g (token_value t.text ++ (back t.trailing ++ s)))
-    (a_token t (front_blank p f) (blank_apart (first_or 32 (token_value t.text))) r)
+    (a_token t (front_blank p f) (blank_apart (first_or space_character (token_value t.text))) r)
 
-pub spelled_spaces : (n : ℕ) {s : List ℕ} {ts : List Decorated} → Spelled 32 ts s
-    → Spelled 32 ts (replicate n 32 ++ s)
+pub spelled_spaces : (n : ℕ) {s : List ℕ} {ts : List Decorated} → Spelled space_character ts s
+    → Spelled space_character ts (replicate n space_character ++ s)
 spelled_spaces zero p = p
 spelled_spaces (suc n) p = spelled_blank (spaces (suc n)) p
 
@@ -58,9 +60,9 @@ prints_split (word w ∷ xs) (p_word p) = let q = prints_split xs p in record {
   prints_second = q.prints_second;
 }
 prints_split (space_or_break ∷ xs) (p_line p) = let q = prints_split xs p in record {
-  first = 32 ∷ q.first;
+  first = space_character ∷ q.first;
   second = q.second;
-  is = ap (λ r. 32 ∷ r) q.is;
+  is = ap (λ r. space_character ∷ r) q.is;
   prints_first = p_line q.prints_first;
   prints_second = q.prints_second;
 }
@@ -95,7 +97,7 @@ prints_split (must_break ∷ xs) (p_hard n p) = let q = prints_split xs p in rec
 
 -- the text of a token's leading lines, with the spaces n before the first
 lines_print : (n : ℕ) (ls : List (List ℕ)) (s : List ℕ) → Prints (line_atoms ls) s
-    → Lines ls (replicate n 32 ++ s)
+    → Lines ls (replicate n space_character ++ s)
 lines_print n [] s p_nil = no_line (blanks_append (spaces n) no_blank)
 lines_print n (l ∷ ls) s (p_word (p_hard {s = t} m p)) =
     a_comment l (spaces n) (lines_print m ls t p)
@@ -120,8 +122,9 @@ trail_print : (w tr : List ℕ) {ts : List Decorated} {xs : List Atom} {r : List
 trail_print w [] {r = r} f p = record { rest = r; is = refl; spells = f r p }
 trail_print w (c ∷ cs) f (p_word (p_word (p_hard {s = s} n p))) =
     record {
-      rest = replicate n 32 ++ s;
-      is = ap (λ r. 32 ∷ (c ∷ r)) (sym (append_assoc cs (10 ∷ []) (replicate n 32 ++ s)));
+      rest = replicate n space_character ++ s;
+      is = ap (λ r. space_character ∷ (c ∷ r))
+          (sym (append_assoc cs (line_feed ∷ []) (replicate n space_character ++ s)));
       spells = spelled_spaces n (f s p);
     }
 
@@ -134,7 +137,7 @@ word_print : {w : List ℕ} {xs : List Atom} {r : List ℕ} → Prints (word w �
 word_print (p_word {s = s} p) = record { rest = s; is = refl; prints = p }
 
 token_print : (c : ℕ) (t : Decorated) (ts : List Decorated) (xs : List Atom) (s : List ℕ)
-    → glues (before_of c t.leading) (first_or 32 (token_value t.text)) ≡ false
+    → glues (before_of c t.leading) (first_or space_character (token_value t.text)) ≡ false
     → ((s : List ℕ) → Prints xs s → Spelled (after_of (token_value t.text) t.trailing) ts s)
     → Prints (lead_atoms t.leading
     ++ (word (token_value t.text) ∷ (trail_atoms t.trailing ++ xs))) s → Spelled c (t ∷ ts) s
@@ -145,7 +148,8 @@ token_print c t ts xs s apart f p =
     let e : s ≡ q.first ++ (token_value t.text ++ (back t.trailing ++ b.rest)) =
     q.is ∙ ap (λ r. q.first ++ r) (w.is ∙ ap (λ r. token_value t.text ++ r) b.is) in
     rw e (a_token t (front_print t.leading q.first q.prints_first) (front_apart c
-    (first_or 32 (token_value t.text)) t.leading q.first q.prints_first apart) b.spells)
+    (first_or space_character (token_value t.text)) t.leading q.first q.prints_first apart)
+    b.spells)
 
 -- Under every choice of groups, a woven document's text meets the law of gaps.
 pub spelled : {c d : ℕ} {ts : List Decorated} {xs : List Atom} {s : List ℕ} → Weave c ts xs d

@@ -4,6 +4,7 @@ use Rattle.std.specs.List.{list_all, AllByRecursion, concat, filter}
 use Rattle.std.specs.Str.{trim, IsUtf8}
 use Rattle.std.proofs.lemmas.Bool.{and_parts, not-true}
 use Rattle.std.proofs.lemmas.List.Folds.{concat-append}
+use Rattle.cedar_tokens.specs.Bytes.{line_feed}
 use Rattle.cedar_tokens.specs.Units.{is_token, is_comment}
 use Rattle.cedar_tokens.specs.Split.{SplitsInto}
 use Rattle.cedar_tokens.specs.Listing.{Decorated, gaps, decorate, listing, comments}
@@ -13,7 +14,7 @@ use Rattle.cedar_laws.specs.Good.{IsGood, IsLine, IsTrailing}
 use Rattle.cedar_laws.specs.GoodLaws.{EveryListIsGood, PlainListStaysGood}
 use Rattle.cedar_laws.proofs.Listed.{comment_no_token}
 use Rattle.cedar_laws.proofs.Joined.{after_cons, before_join}
-use Rattle.cedar_laws.proofs.BlankLines.{Parted, parted_parts, feedless, feedless_append, feedless_front, feedless_back}
+use Rattle.cedar_laws.proofs.BlankLines.{AreUnits, units_parts, feedless, feedless_append, feedless_front, feedless_back}
 use Rattle.cedar_laws.proofs.TrimmedUnits.{after_free}
 use Rattle.cedar_laws.proofs.Ends.{trim_utf8}
 use Rattle.cedar_laws.proofs.Spaces.{units_utf8, concat_utf8, units_comments, comment_feedless, AtFeed, no_feed, at_feed, find_feed}
@@ -26,7 +27,7 @@ use Rattle.cedar_tokens.proofs.Gaps.{NoTokens}
 record GoodGap (g : List ℕ) : Type 0 where
   units : List (List ℕ)
   is : concat units ≡ g
-  parted : Parted units
+  are_units : AreUnits units
   utf8 : AllByRecursion IsUtf8 units
   none : NoTokens units
 
@@ -47,27 +48,28 @@ lines_good (u ∷ us) a = go (is_comment u) refl (lines_good us a.1)
 
 comments_good : {g : List ℕ} → GoodGap g → AllByRecursion IsLine (comments g)
 comments_good {g} k = subst (λ z. AllByRecursion IsLine z)
-    (sym (units_comments k.units k.parted k.none) ∙ ap comments k.is) (lines_good k.units k.utf8)
+    (sym (units_comments k.units k.are_units k.none) ∙ ap comments k.is) (lines_good k.units k.utf8)
 
 after_good : {g : List ℕ} → GoodGap g → AllByRecursion IsLine (comments (after_newline g))
 after_good {g} k = subst (λ z. AllByRecursion IsLine (comments (after_newline z))) k.is
-    (go (find_feed k.units k.parted k.none))
+    (go (find_feed k.units k.are_units k.none))
   where
     go : AtFeed k.units → AllByRecursion IsLine (comments (after_newline (concat k.units)))
     go (no_feed f) = subst (λ z. AllByRecursion IsLine z) (sym (after_none (concat k.units) f)) tt
     go (at_feed fs bs e f) =
-        let text : concat k.units ≡ concat fs ++ (10 ∷ concat bs) =
-        ap concat e ∙ concat-append fs ((10 ∷ []) ∷ bs) in
+        let text : concat k.units ≡ concat fs ++ (line_feed ∷ concat bs) =
+        ap concat e ∙ concat-append fs ((line_feed ∷ []) ∷ bs) in
         let after : after_newline (concat k.units) ≡ concat bs = ap after_newline text
-        ∙ (after_free (concat fs) (10 ∷ concat bs) f ∙ after_cons 10 (concat bs)) in
-        let p = parted_parts ((10 ∷ []) ∷ []) bs
-        (parted_parts fs ((10 ∷ []) ∷ bs) (subst (λ z. Parted z) e k.parted)).1 in
+        ∙ (after_free (concat fs) (line_feed ∷ concat bs) f ∙ after_cons line_feed (concat bs)) in
+        let p = units_parts ((line_feed ∷ []) ∷ []) bs
+        (units_parts fs ((line_feed ∷ []) ∷ bs) (subst (λ z. AreUnits z) e k.are_units)).1 in
         let u =
-        All-parts IsUtf8 fs ((10 ∷ []) ∷ bs) (subst (λ z. AllByRecursion IsUtf8 z) e k.utf8) in
-        let n = All-parts (λ u. is_token u ≡ false) fs ((10 ∷ []) ∷ bs)
+        All-parts IsUtf8 fs ((line_feed ∷ []) ∷ bs)
+        (subst (λ z. AllByRecursion IsUtf8 z) e k.utf8) in
+        let n = All-parts (λ u. is_token u ≡ false) fs ((line_feed ∷ []) ∷ bs)
         (subst (λ z. NoTokens z) e k.none) in
         let b : GoodGap (concat bs) =
-        record { units = bs; is = refl; parted = p.1; utf8 = u.1.1; none = n.1.1 } in
+        record { units = bs; is = refl; are_units = p.1; utf8 = u.1.1; none = n.1.1 } in
         subst (λ z. AllByRecursion IsLine (comments z)) (sym after) (comments_good b)
 
 -- tests of all units
@@ -95,7 +97,7 @@ tokenless_all (u ∷ us) h =
     let p = and_parts (tokenless u) (list_all tokenless us) h in
     (not-true (is_token u) p.0, tokenless_all us p.1)
 
-one_line_good : (us : List (List ℕ)) → Parted us → AllByRecursion IsUtf8 us → NoTokens us
+one_line_good : (us : List (List ℕ)) → AreUnits us → AllByRecursion IsUtf8 us → NoTokens us
     → feedless (concat us) ≡ true → IsTrailing (trim (concat us))
 one_line_good us p u n f =
     let t = trims us p u in
@@ -108,26 +110,28 @@ one_line_good us p u n f =
       one_line = subst (λ z. before_newline z ≡ z) t.is (before_all (concat t.units) free);
       utf8 = trim_utf8 (concat us) (concat_utf8 us u);
       units = t.units;
-      split = subst (λ z. SplitsInto z t.units) t.is t.parted;
+      split = subst (λ z. SplitsInto z t.units) t.is t.are_units;
       no_token = none;
     }
 
 before_good : {g : List ℕ} → GoodGap g → IsTrailing (trim (before_newline g))
 before_good {g} k =
-    subst (λ z. IsTrailing (trim (before_newline z))) k.is (go (find_feed k.units k.parted k.none))
+    subst (λ z. IsTrailing (trim (before_newline z))) k.is
+    (go (find_feed k.units k.are_units k.none))
   where
     go : AtFeed k.units → IsTrailing (trim (before_newline (concat k.units)))
     go (no_feed f) = subst (λ z. IsTrailing (trim z)) (sym (before_all (concat k.units) f))
-        (one_line_good k.units k.parted k.utf8 k.none f)
+        (one_line_good k.units k.are_units k.utf8 k.none f)
     go (at_feed fs bs e f) =
-        let text : concat k.units ≡ concat fs ++ (10 ∷ concat bs) =
-        ap concat e ∙ concat-append fs ((10 ∷ []) ∷ bs) in
+        let text : concat k.units ≡ concat fs ++ (line_feed ∷ concat bs) =
+        ap concat e ∙ concat-append fs ((line_feed ∷ []) ∷ bs) in
         let before : before_newline (concat k.units) ≡ concat fs =
         ap before_newline text ∙ (before_join (concat fs) (concat bs) ∙ before_all (concat fs) f) in
-        let p = parted_parts fs ((10 ∷ []) ∷ bs) (subst (λ z. Parted z) e k.parted) in
+        let p = units_parts fs ((line_feed ∷ []) ∷ bs) (subst (λ z. AreUnits z) e k.are_units) in
         let u =
-        All-parts IsUtf8 fs ((10 ∷ []) ∷ bs) (subst (λ z. AllByRecursion IsUtf8 z) e k.utf8) in
-        let n = All-parts (λ u. is_token u ≡ false) fs ((10 ∷ []) ∷ bs)
+        All-parts IsUtf8 fs ((line_feed ∷ []) ∷ bs)
+        (subst (λ z. AllByRecursion IsUtf8 z) e k.utf8) in
+        let n = All-parts (λ u. is_token u ≡ false) fs ((line_feed ∷ []) ∷ bs)
         (subst (λ z. NoTokens z) e k.none) in
         subst (λ z. IsTrailing (trim z)) (sym before) (one_line_good fs p.0 u.0 n.0 f)
 
@@ -155,13 +159,13 @@ first_gap (u ∷ us) = go (is_token u) refl (first_gap us)
       none = (e, r.none);
     }
 
-gap_of : (us : List (List ℕ)) → Parted us → AllByRecursion IsUtf8 us → GoodGap (gaps us).first
+gap_of : (us : List (List ℕ)) → AreUnits us → AllByRecursion IsUtf8 us → GoodGap (gaps us).first
 gap_of us p u =
     let r = first_gap us in
     record {
       units = r.units;
       is = r.is;
-      parted = (parted_parts r.units r.rest (subst (λ z. Parted z) r.are p)).0;
+      are_units = (units_parts r.units r.rest (subst (λ z. AreUnits z) r.are p)).0;
       utf8 = (All-parts IsUtf8 r.units r.rest (subst (λ z. AllByRecursion IsUtf8 z) r.are u)).0;
       none = r.none;
     }
@@ -172,12 +176,12 @@ record GoodToken (t : List ℕ × List ℕ) : Type 0 where
   utf8 : IsUtf8 t.0
   gap : GoodGap t.1
 
-gaps_of : (us : List (List ℕ)) → Parted us → AllByRecursion IsUtf8 us
+gaps_of : (us : List (List ℕ)) → AreUnits us → AllByRecursion IsUtf8 us
     → AllByRecursion GoodToken (gaps us).tokens
 unfolding gaps
 gaps_of [] p a = tt
-gaps_of (u ∷ us) p a = go (is_token u) refl (gap_of us (parted_parts (u ∷ []) us p).1 a.1)
-    (gaps_of us (parted_parts (u ∷ []) us p).1 a.1)
+gaps_of (u ∷ us) p a = go (is_token u) refl (gap_of us (units_parts (u ∷ []) us p).1 a.1)
+    (gaps_of us (units_parts (u ∷ []) us p).1 a.1)
   where
     go : (t : Bool) → is_token u ≡ t → GoodGap (gaps us).first
         → AllByRecursion GoodToken (gaps us).tokens
@@ -219,7 +223,7 @@ trailing_lines tr h =
     let g : GoodGap tr = record {
       units = h.units;
       is = e;
-      parted = subst (λ y. SplitsInto y h.units) (sym e) h.split;
+      are_units = subst (λ y. SplitsInto y h.units) (sym e) h.split;
       utf8 = units_utf8 h.units tr h.utf8 h.split;
       none = h.no_token;
     } in

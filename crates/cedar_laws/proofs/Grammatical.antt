@@ -25,7 +25,7 @@ use Rattle.cedar_grammar.proofs.Rules.Maps.{each, relabel, answer_of, set_agrees
 use Rattle.cedar_grammar.proofs.WholeLaws.{set_sound, set_complete}
 use Rattle.cedar_grammar.proofs.Trees.Laws.{list_has_one_tree, leaves_are_plain, every_tree_is_typed, typed_tree_is_unique, typed_leaves_agree}
 use Rattle.cedar_grammar.proofs.Texts.Kinds.{number_kind, trailing_agrees, plain_texts_agree}
-use Rattle.cedar_grammar.proofs.Trees.Relabelling.{relabelled, plain_each, each_map}
+use Rattle.cedar_grammar.proofs.Trees.Relabelling.{relabelled, plain_each, each_map, without_relabel}
 use Rattle.cedar_grammar.proofs.Texts.Listings.{listing_texts}
 use Rattle.cedar_laws.specs.Leaves.{part_map}
 use Rattle.cedar_laws.specs.Table.{literal_kind}
@@ -41,7 +41,7 @@ use Rattle.cedar_laws.specs.Good.{IsGood}
 use Rattle.std.specs.List.{AllByRecursion}
 use Rattle.cedar_grammar.proofs.Plain.Grammar.{plain_is_in_the_grammar}
 use Rattle.cedar_grammar.proofs.Plain.CommaPairs.{plain_is_plain}
-use Rattle.cedar_laws.proofs.Relabelled.{set_tree_map, without_map}
+use Rattle.cedar_laws.proofs.Relabelled.{set_tree_map}
 
 -- ---- kinds of values
 
@@ -87,7 +87,7 @@ value_tree ps a =
           (subst (λ z. G kind_of_decorated greatest_depth (relabel with_value (set_tree
           kind_of_decorated ps)) z) (each_map with_value (tokens_of ps) ∙ sym (tokens_map ps)) g);
       plain = ap (without_trailing kind_of_decorated) (sym t)
-          ∙ (without_map with_value kind_of_decorated kind_of_decorated same
+          ∙ (without_relabel with_value kind_of_decorated kind_of_decorated same
           (set_tree kind_of_decorated ps) ∙ (ap (relabel with_value) a.plain ∙ t));
     }
 

@@ -6,6 +6,7 @@ use Rattle.std.specs.Str.{trim, trim_start, trim_end, chars}
 use Rattle.std.proofs.lemmas.List.{take_all, drop_all}
 use Rattle.std.proofs.lemmas.List.Sums.{prefix_len-le-length}
 use Rattle.std.proofs.lemmas.Bool.{and_parts, false_from_ne_true}
+use Rattle.cedar_tokens.specs.Bytes.{digit_zero, line_feed, slash}
 use Rattle.cedar_tokens.specs.Units.{is_token, is_comment, is_number, is_comment_byte, slots, punctuators}
 use Rattle.cedar_tokens.specs.Listing.{gaps, decorate, comments, token_value, without_zeros}
 use Rattle.cedar_tokens.proofs.CommentLines.{comments_nil, comments_here}
@@ -25,16 +26,16 @@ comment_alone (a ∷ (b ∷ x)) h =
     let p = comment_parts a b x h in
     let n : prefix_len is_comment_byte x ≡ length x =
     omega (arith, prefix_len-le-length is_comment_byte x, whole x p.2) in
-    let e : comments (47 ∷ (47 ∷ x)) ≡ trim (47 ∷ (47 ∷ x)) ∷ [] = comments_here x
+    let e : comments (slash ∷ (slash ∷ x)) ≡ trim (slash ∷ (slash ∷ x)) ∷ [] = comments_here x
     ∙ rw (n, take_all (length x) x (omega arith), drop_all (length x) x (omega arith))
-    (ap (λ z. trim (47 ∷ (47 ∷ x)) ∷ z) comments_nil) in
+    (ap (λ z. trim (slash ∷ (slash ∷ x)) ∷ z) comments_nil) in
     rw (p.0, p.1) e
   where
     whole : (x : List ℕ) → list_all is_comment_byte x ≡ true
         → length x ≤ prefix_len is_comment_byte x
     whole x h = rw (append-nil x) at (all_within is_comment_byte x [] h)
 
-pub feed_no_token : is_token (10 ∷ []) ≡ false
+pub feed_no_token : is_token (line_feed ∷ []) ≡ false
 unfolding slots punctuators
 feed_no_token = refl
 
@@ -59,12 +60,12 @@ decorate_same a b (t ∷ ts) e = rw e refl
 pub number_value : (b : ℕ) (bs : List ℕ) → is_number (b ∷ bs) ≡ true
     → is_number (without_zeros (b ∷ bs)) ≡ true
 unfolding without_zeros
-number_value b [] h = go (b == 48)
+number_value b [] h = go (b == digit_zero)
   where
     go : (x : Bool) → is_number (cond (x && false) [] (b ∷ [])) ≡ true
     go true = h
     go false = h
-number_value b (c ∷ cs) h = go (b == 48 && not (length (c ∷ cs) == 0))
+number_value b (c ∷ cs) h = go (b == digit_zero && not (length (c ∷ cs) == 0))
     (number_value c cs (and_parts (is_ascii_digit b) (is_number (c ∷ cs)) h).1)
   where
     go : (x : Bool) → is_number (without_zeros (c ∷ cs)) ≡ true

@@ -9,6 +9,7 @@ use Rattle.std.proofs.lemmas.Bool.{cases_lt, or_cases, and_parts}
 use Rattle.std.proofs.lemmas.Bool.Decides.{Decides-eqb}
 use Rattle.std.proofs.lemmas.Str.{chars-append, chars-encodes, chars-nil, encodes-chars, encodes-append, scalars-chars, encode_ascii, inside_one, IsUtf8-append, IsUtf8-encode, IsUtf8-nil, IsUtf8-take, IsUtf8-drop, IsCharBoundary-before_ascii}
 use lib.Utf8.{scalars}
+use Rattle.cedar_tokens.specs.Bytes.{line_feed, quote, slash}
 use Rattle.cedar_tokens.specs.Units.{IsLongest, IsFirstUnit, is_string, is_comment, is_string_rest}
 use Rattle.cedar_tokens.proofs.Longest.{is_token-string}
 use Rattle.cedar_tokens.proofs.FirstUnit.{comment_parts, unit_boundary, all_more}
@@ -161,18 +162,19 @@ less_end a b l = less_chars a (drop_trailing_whitespace (chars b)) l.before
 -- ---- a piece
 
 -- the bytes of a character other than a line feed contain none
-char_feedless : (c : ℕ) → (c == 10) ≡ false → feedless (encode_utf8 c) ≡ true
-char_feedless c h = all_more (λ x. not (10 == x)) (λ x. not (x == 10)) feed_other (encode_utf8 c)
-    (lacks 10 (encode_utf8 c) within)
+char_feedless : (c : ℕ) → (c == line_feed) ≡ false → feedless (encode_utf8 c) ≡ true
+char_feedless c h = all_more (λ x. not (line_feed == x)) (λ x. not (x == line_feed)) feed_other
+    (encode_utf8 c)
+    (lacks line_feed (encode_utf8 c) within)
   where
-    within : (w v : List ℕ) → encode_utf8 c ≡ w ++ (10 ∷ v) → ⊥
+    within : (w v : List ℕ) → encode_utf8 c ≡ w ++ (line_feed ∷ v) → ⊥
     within w v e =
-        let at : get_or (encode_utf8 c) (length w) 0 ≡ 10 =
-        ap (λ z. get_or z (length w) 0) e ∙ get_or-append_seam w 10 v 0 in
-        let f : c ≡ 10 =
+        let at : get_or (encode_utf8 c) (length w) 0 ≡ line_feed =
+        ap (λ z. get_or z (length w) 0) e ∙ get_or-append_seam w line_feed v 0 in
+        let f : c ≡ line_feed =
         inside_one c [] (encode_utf8 c) (length w) (sym (append-nil (encode_utf8 c)))
-        (omega (arith, ap length e, length-append w (10 ∷ v))) (omega (arith, at)) ∙ at in
-        let t = (Decides-eqb c 10).1 f in
+        (omega (arith, ap length e, length-append w (line_feed ∷ v))) (omega (arith, at)) ∙ at in
+        let t = (Decides-eqb c line_feed).1 f in
         cc
 
 abbrev AllUtf8 : List (List ℕ) → Type 0
@@ -187,17 +189,18 @@ chars_lines : (cs : List ℕ) → scalars cs ≡ true → AllUtf8 (piece_lines (
     × (concat (piece_lines (encode_utf8_all cs)) ≡ encode_utf8_all cs)
 chars_lines [] h = ((IsUtf8-nil, tt), refl)
 chars_lines (c ∷ cs) h =
-    go (c == 10) refl (and_parts _ (scalars cs) h).0 (chars_lines cs (and_parts _ (scalars cs) h).1)
+    go (c == line_feed) refl (and_parts _ (scalars cs) h).0
+    (chars_lines cs (and_parts _ (scalars cs) h).1)
   where
-    go : (t : Bool) → (c == 10) ≡ t → IsScalar c → AllUtf8 (piece_lines (encode_utf8_all cs))
+    go : (t : Bool) → (c == line_feed) ≡ t → IsScalar c → AllUtf8 (piece_lines (encode_utf8_all cs))
         × (concat (piece_lines (encode_utf8_all cs)) ≡ encode_utf8_all cs)
         → AllUtf8 (piece_lines (encode_utf8 c ++ encode_utf8_all cs)) × (concat (piece_lines
         (encode_utf8 c ++ encode_utf8_all cs)) ≡ encode_utf8 c ++ encode_utf8_all cs)
     go true e s r =
-        let f : encode_utf8 c ≡ 10 ∷ [] =
-        ap encode_utf8 ((Decides-eqb c 10).0 e) ∙ encode_ascii 10 (omega arith) in
-        let g : IsUtf8 (10 ∷ []) = subst (λ z. IsUtf8 z) f (IsUtf8-encode c s) in
-        rw f ((g, r.0), ap (λ z. 10 ∷ z) r.1)
+        let f : encode_utf8 c ≡ line_feed ∷ [] =
+        ap encode_utf8 ((Decides-eqb c line_feed).0 e) ∙ encode_ascii line_feed (omega arith) in
+        let g : IsUtf8 (line_feed ∷ []) = subst (λ z. IsUtf8 z) f (IsUtf8-encode c s) in
+        rw f ((g, r.0), ap (λ z. line_feed ∷ z) r.1)
     go false e s r =
         let q =
         onto_utf8 (encode_utf8 c) (piece_lines (encode_utf8_all cs)) (IsUtf8-encode c s) r.0 in
@@ -247,8 +250,8 @@ record Marked (s : List ℕ) : Type 0 where
 marked : (s : List ℕ) → IsKept s → Marked s
 marked [] k = absurd cc
 marked (b ∷ s) k = elim (or_cases (is_string (b ∷ s)) (is_comment (b ∷ s)) k) [
-  | inl e ↦ at (b ∷ s) s 34 (ap (λ z. z ∷ s)
-      ((Decides-eqb b 34).0 (and_parts (b == 34) (is_string_rest s) e).0)) (omega arith) refl
+  | inl e ↦ at (b ∷ s) s quote (ap (λ z. z ∷ s)
+      ((Decides-eqb b quote).0 (and_parts (b == quote) (is_string_rest s) e).0)) (omega arith) refl
   | inr e ↦ slashes s e
 ]
   where
@@ -258,7 +261,7 @@ marked (b ∷ s) k = elim (or_cases (is_string (b ∷ s)) (is_comment (b ∷ s))
 
     slashes : (s : List ℕ) → is_comment (b ∷ s) ≡ true → Marked (b ∷ s)
     slashes [] e = absurd cc
-    slashes (c ∷ s) e = at (b ∷ (c ∷ s)) (c ∷ s) 47
+    slashes (c ∷ s) e = at (b ∷ (c ∷ s)) (c ∷ s) slash
         (ap (λ z. z ∷ (c ∷ s)) (comment_parts b c s e).0) (omega arith) refl
 
 -- the text may be cut before and after it

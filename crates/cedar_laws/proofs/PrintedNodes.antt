@@ -1,6 +1,7 @@
 -- The documents of nodes print their tokens in order:
 -- what may come first and last, leaf by leaf and node by node.
 use Rattle.std.proofs.Common.{◌≡◌, ℕ, ℤ, List, [], ◌∷◌, ◌++◌, false, ◌||◌, ◌⊎◌, inl, inr, refl, sym, ap, append_assoc, append-nil}
+use Rattle.cedar_tokens.specs.Bytes.{colon, equals, exclamation_mark, slash, space_character}
 use Rattle.cedar_tokens.specs.Listing.{Decorated, token_value}
 use Rattle.cedar_layout.specs.Layout.{Doc, nil, text_then, line_then as d_line_then, line_or_nil_then as d_line_or_nil_then, nest_then, group_then, line, ◌·◌, Atom, word, must_break, atoms}
 use Rattle.cedar_layout.proofs.Values.{atoms-dot}
@@ -25,10 +26,10 @@ weave_append (w_token {xs = xs} t apart p) q =
     simp append_assoc (w_token t apart (weave_append p q))
 
 -- nothing glues to a blank
-pub blank_apart : (d : ℕ) → glues 32 d ≡ false
+pub blank_apart : (d : ℕ) → glues space_character d ≡ false
 blank_apart d = simp and-false
 
-pub blank_opens : Opens 32
+pub blank_opens : Opens space_character
 blank_opens d s = blank_apart d
 
 pub before_apart : (c d : ℕ) (ls : List (List ℕ)) → glues c d ≡ false
@@ -37,7 +38,8 @@ before_apart c d [] e = e
 before_apart c d (l ∷ ls) e = blank_apart d
 
 -- what holds of a blank and of the last character of the text holds after the token
-pub after_is : (P : ℕ → Type 0) (w tr : List ℕ) → P 32 → P (last_byte_or 32 w) → P (after_of w tr)
+pub after_is : (P : ℕ → Type 0) (w tr : List ℕ) → P space_character
+    → P (last_byte_or space_character w) → P (after_of w tr)
 after_is P w [] b e = e
 after_is P w (c ∷ cs) b e = b
 
@@ -53,10 +55,12 @@ trail_of_atoms : (tr : List ℕ) → atoms (trail_of tr nil) ≡ trail_atoms tr
 trail_of_atoms [] = refl
 trail_of_atoms (c ∷ cs) = refl
 
-pub weave_leaf : (c : ℕ) (t : Decorated) → glues c (first_or 32 (token_value t.text)) ≡ false
+pub weave_leaf : (c : ℕ) (t : Decorated) → glues c (first_or space_character (token_value t.text))
+    ≡ false
     → Weave c (t ∷ []) (atoms (printed t)) (after_of (token_value t.text) t.trailing)
 weave_leaf c t apart = simp (atoms-dot, lead_of_atoms, trail_of_atoms) (simp append-nil at
-    (w_token {c = c} t (before_apart c (first_or 32 (token_value t.text)) t.leading apart) done))
+    (w_token {c = c} t (before_apart c (first_or space_character (token_value t.text)) t.leading
+    apart) done))
 
 -- the document a prints the tokens ts after c, and what comes last then meets P
 pub record Run (P : ℕ → Type 0) (c : ℕ) (ts : List Decorated) (a : Doc) : Type 0 where
@@ -107,11 +111,13 @@ pub run_as : {P : ℕ → Type 0} {c : ℕ} {ts : List Decorated} {a b : Doc} �
     → Run P c ts a → Run P c ts b
 run_as e p = record { last = p.last; weave = rw (sym e) p.weave; meets = p.meets }
 
-pub space_then : {Q : ℕ → Type 0} {c : ℕ} {ts : List Decorated} {a : Doc} → Run Q 32 ts a
-    → Run Q c ts (text_then (32 ∷ []) a)
+pub space_then : {Q : ℕ → Type 0} {c : ℕ} {ts : List Decorated} {a : Doc}
+    → Run Q space_character ts a
+    → Run Q c ts (text_then (space_character ∷ []) a)
 space_then q = record { last = q.last; weave = w_space q.weave; meets = q.meets }
 
-pub line_then : {Q : ℕ → Type 0} {c : ℕ} {ts : List Decorated} {a : Doc} → Run Q 32 ts a
+pub line_then : {Q : ℕ → Type 0} {c : ℕ} {ts : List Decorated} {a : Doc}
+    → Run Q space_character ts a
     → Run Q c ts (d_line_then a)
 line_then q = record { last = q.last; weave = w_line q.weave; meets = q.meets }
 
@@ -124,8 +130,8 @@ just c m = record { last = c; weave = done; meets = m }
 
 -- a token whose first and last characters are known
 pub token : (P : ℕ → Type 0) (c : ℕ) (t : Decorated)
-    → glues c (first_or 32 (token_value t.text)) ≡ false → P 32
-    → P (last_byte_or 32 (token_value t.text)) → Run P c (t ∷ []) (printed t)
+    → glues c (first_or space_character (token_value t.text)) ≡ false → P space_character
+    → P (last_byte_or space_character (token_value t.text)) → Run P c (t ∷ []) (printed t)
 token P c t apart b e = record {
   last = after_of (token_value t.text) t.trailing;
   weave = weave_leaf c t apart;
@@ -133,20 +139,23 @@ token P c t apart b e = record {
 }
 
 pub mark : (P : ℕ → Type 0) (s : List ℕ) (c : ℕ) (t : Decorated) → IsMark s t
-    → glues c (first_or 32 s) ≡ false → P 32 → P (last_byte_or 32 s) → Run P c (t ∷ []) (printed t)
+    → glues c (first_or space_character s) ≡ false → P space_character
+    → P (last_byte_or space_character s) → Run P c (t ∷ []) (printed t)
 mark P s c t f apart b e = token P c t (rw f apart) b (rw f e)
 
 abbrev pub Any : ℕ → Type 0
 Any c = Unit {0}
 
 -- an operator between blanks
-pub operator : (c : ℕ) (t : Decorated) → glues c (first_or 32 (token_value t.text)) ≡ false
+pub operator : (c : ℕ) (t : Decorated) → glues c (first_or space_character (token_value t.text))
+    ≡ false
     → Run Any c (t ∷ []) (printed t)
 operator c t apart = token Any c t apart tt tt
 
-opens_at_bang : Opens 33
+opens_at_bang : Opens exclamation_mark
 opens_at_bang d s =
-    let e = (or_parts (d == 58 || d == 47) (d == 61) (not-true _ s)).1 in rw e (simp and-false)
+    let e = (or_parts (d == colon || d == slash) (d == equals) (not-true _ s)).1 in
+    rw e (simp and-false)
 
 opens_at_dash : Opens 45
 opens_at_dash d s = simp and-false
@@ -161,14 +170,15 @@ opens_at_dot : Opens 46
 opens_at_dot d s = simp and-false
 
 -- after `::`
-opens_at_colon : Opens 58
+opens_at_colon : Opens colon
 opens_at_colon d s =
     let e =
-    (or_parts (d == 58) (d == 47) (or_parts (d == 58 || d == 47) (d == 61) (not-true _ s)).0).0 in
+    (or_parts (d == colon) (d == slash) (or_parts (d == colon || d == slash) (d == equals)
+    (not-true _ s)).0).0 in
     rw e (simp and-false)
 
 pub word_token : (c : ℕ) (t : Decorated) → Opens c → IsWord t → Run Ends c (t ∷ []) (printed t)
-word_token c t o w = token Ends c t (o (first_or 32 (token_value t.text)) w.0) refl w.1
+word_token c t o w = token Ends c t (o (first_or space_character (token_value t.text)) w.0) refl w.1
 
 after_field : {Q : ℕ → Type 0} {c : ℕ} {ts : List Decorated} {a : Doc} (m : Tree Decorated accesses)
     → Run Q c ts a → Run Q c ts (break_after_field m · a)
@@ -190,21 +200,28 @@ after_other (index l x r m) q = maybe_then q
 record RightAfter (n : Doc) (w tr : List ℕ) : Type 0 where
   rest : List Atom
   is : atoms (trail_of tr n) ≡ trail_atoms tr ++ rest
-  blank : Weave (after_of w tr) [] rest 32
+  blank : Weave (after_of w tr) [] rest space_character
 
-behind : (n : Doc) (w tr : List ℕ) → ((c : ℕ) → Weave c [] (atoms n) 32) → RightAfter n w tr
-behind n w [] b = record { rest = atoms n; is = refl; blank = b (last_byte_or 32 w) }
-behind n w (c ∷ cs) b =
+following : (n : Doc) (w tr : List ℕ) → ((c : ℕ) → Weave c [] (atoms n) space_character)
+    → RightAfter n w tr
+following n w [] b = record {
+  rest = atoms n;
+  is = refl;
+  blank =
+      b (last_byte_or space_character w);
+}
+following n w (c ∷ cs) b =
     record { rest = []; is = sym (append-nil (trail_atoms (c ∷ cs))); blank = done }
 
-pub token_then_blank : (n : Doc) (c : ℕ) (t : Decorated) → ((c : ℕ) → Weave c [] (atoms n) 32)
-    → glues c (first_or 32 (token_value t.text)) ≡ false → Run Opens c (t ∷ []) (C t n)
+pub token_then_blank : (n : Doc) (c : ℕ) (t : Decorated)
+    → ((c : ℕ) → Weave c [] (atoms n) space_character)
+    → glues c (first_or space_character (token_value t.text)) ≡ false → Run Opens c (t ∷ []) (C t n)
 token_then_blank n c t b apart =
-    let r = behind n (token_value t.text) t.trailing b in
+    let r = following n (token_value t.text) t.trailing b in
     record {
       last = 32;
       weave = simp (atoms-dot, lead_of_atoms, r.is) (w_token {c = c} t
-          (before_apart c (first_or 32 (token_value t.text)) t.leading apart) r.blank);
+          (before_apart c (first_or space_character (token_value t.text)) t.leading apart) r.blank);
       meets = blank_opens;
     }
 
@@ -234,7 +251,8 @@ closing_brace c t f = mark Ends (codes "}") c t f refl refl refl
 
 sign : (c : ℕ) (t : Decorated) → Opens c → IsMark (codes "!") t ⊎ IsMark (codes "-") t
     → Run Opens c (t ∷ []) (printed t)
-sign c t o (inl f) = mark Opens (codes "!") c t f (o 33 refl) blank_opens opens_at_bang
+sign c t o (inl f) = mark Opens (codes "!") c t f (o exclamation_mark refl) blank_opens
+    opens_at_bang
 sign c t o (inr f) = mark Opens (codes "-") c t f (o 45 refl) blank_opens opens_at_dash
 
 -- what may come before a node:
@@ -253,12 +271,13 @@ weave i (ref_of n s x) c o f = run_then (weave i n c o f.0) (λ d e. run_then
     (mark Opens (codes "::") d s f.1 e blank_opens opens_at_colon) (λ d o. word_token d x o f.2))
 weave i (args_one e) c o f = weave i e c o f
 weave i (args_more e s r) c o f = run_then (weave i e c o f.0)
-    (λ d e. run_then (comma d s f.1) (λ d _. line_then (weave i r 32 blank_opens f.2)))
+    (λ d e. run_then (comma d s f.1) (λ d _. line_then (weave i r space_character blank_opens f.2)))
 weave i (init_of k s v) c o f = run_then (weave i k c o f.0) (λ d e. run_then
-    (mark Any (codes ":") d s f.1 e tt tt) (λ d _. space_then (weave i v 32 blank_opens f.2)))
+    (mark Any (codes ":") d s f.1 e tt tt)
+    (λ d _. space_then (weave i v space_character blank_opens f.2)))
 weave i (inits_one e) c o f = weave i e c o f
 weave i (inits_more e s r) c o f = run_then (weave i e c o f.0)
-    (λ d e. run_then (comma d s f.1) (λ d _. line_then (weave i r 32 blank_opens f.2)))
+    (λ d e. run_then (comma d s f.1) (λ d _. line_then (weave i r space_character blank_opens f.2)))
 weave i (literal x) c o f = word_token c x o f
 weave i (slot x) c o f = word_token c x o f
 weave i (reference r) c o f = weave i r c o f
@@ -272,8 +291,8 @@ weave i (list_of l a r) c o f = run_then (opening_bracket c l (o 91 refl) f.0)
 weave i (record_empty l r) c o f =
     run_then (opening_brace c l (o 123 refl) f.0) (λ d _. closing_brace d r f.1)
 weave i (record_of l a r) c o f = run_then (opening_brace c l (o 123 refl) f.0)
-    (λ d _. nest_run (grouped (line_then (run_last (weave i a 32 blank_opens f.1)
-    (λ d e. line_then (just {Q = Any} 32 tt))))) (λ d e. closing_brace d r f.2))
+    (λ d _. nest_run (grouped (line_then (run_last (weave i a space_character blank_opens f.1)
+    (λ d e. line_then (just {Q = Any} space_character tt))))) (λ d e. closing_brace d r f.2))
 weave i no_access c o f = just c o
 weave i (field s x m) c e f =
     run_then (mark Opens (codes ".") c s f.0 refl blank_opens opens_at_dot)
@@ -294,41 +313,51 @@ weave i (unsigned m) c o f = weave i m c o f
 weave i (signed s u) c o f = run_then (sign c s o f.0) (λ d o. weave i u d o f.1)
 weave i (products_one u) c o f = weave i u c o f
 weave i (products_more u s r) c o f = run_then (weave i u c o f.0)
-    (λ d e. space_then (run_then (operator 32 s (blank_apart (first_or 32 (token_value s.text))))
-    (λ d _. line_then (weave i r 32 blank_opens f.1))))
+    (λ d e. space_then (run_then (operator space_character s
+    (blank_apart (first_or space_character (token_value s.text))))
+    (λ d _. line_then (weave i r space_character blank_opens f.1))))
 weave i (mult_of p) c o f = grouped (weave i p c o f)
 weave i (sums_one m) c o f = weave i m c o f
 weave i (sums_more m s r) c o f = run_then (weave i m c o f.0)
-    (λ d e. space_then (run_then (operator 32 s (blank_apart (first_or 32 (token_value s.text))))
-    (λ d _. line_then (weave i r 32 blank_opens f.1))))
+    (λ d e. space_then (run_then (operator space_character s
+    (blank_apart (first_or space_character (token_value s.text))))
+    (λ d _. line_then (weave i r space_character blank_opens f.1))))
 weave i (add_of s) c o f = grouped (weave i s c o f)
 weave i (single a) c o f = weave i a c o f
 weave i (compare a s b) c o f = run_then (weave i a c o f.0)
-    (λ d e. space_then (run_then (operator 32 s (blank_apart (first_or 32 (token_value s.text))))
-    (λ d _. space_then (weave i b 32 blank_opens f.1))))
+    (λ d e. space_then (run_then (operator space_character s
+    (blank_apart (first_or space_character (token_value s.text))))
+    (λ d _. space_then (weave i b space_character blank_opens f.1))))
 weave i (has_or_like a s b) c o f = grouped (run_then (weave i a c o f.0)
-    (λ d e. line_then (run_then (operator 32 s (blank_apart (first_or 32 (token_value s.text))))
-    (λ d _. line_then (nested (weave i b 32 blank_opens f.1))))))
+    (λ d e. line_then (run_then (operator space_character s
+    (blank_apart (first_or space_character (token_value s.text))))
+    (λ d _. line_then (nested (weave i b space_character blank_opens f.1))))))
 weave i (is_type a s n) c o f = grouped (run_then (weave i a c o f.0)
-    (λ d e. space_then (run_then (operator 32 s (blank_apart (first_or 32 (token_value s.text))))
-    (λ d _. space_then (nested (weave i n 32 blank_opens f.1))))))
+    (λ d e. space_then (run_then (operator space_character s
+    (blank_apart (first_or space_character (token_value s.text))))
+    (λ d _. space_then (nested (weave i n space_character blank_opens f.1))))))
 weave i (is_in a s n p b) c o f = grouped (run_then (weave i a c o f.0)
-    (λ d e. space_then (run_then (operator 32 s (blank_apart (first_or 32 (token_value s.text))))
-    (λ d _. space_then (nest_run (weave i n 32 blank_opens f.1)
-    (λ d e. line_then (run_then (operator 32 p (blank_apart (first_or 32 (token_value p.text))))
-    (λ d _. space_then (nested (weave i b 32 blank_opens f.2))))))))))
+    (λ d e. space_then (run_then (operator space_character s
+    (blank_apart (first_or space_character (token_value s.text))))
+    (λ d _. space_then (nest_run (weave i n space_character blank_opens f.1)
+    (λ d e. line_then (run_then (operator space_character p
+    (blank_apart (first_or space_character (token_value p.text))))
+    (λ d _. space_then (nested (weave i b space_character blank_opens f.2))))))))))
 weave i (ands_one r) c o f = weave i r c o f
 weave i (ands_more r s m) c o f = run_then (weave i r c o f.0)
-    (λ d e. space_then (run_then (token_then_blank line 32 s (λ c. w_line done)
-    (blank_apart (first_or 32 (token_value s.text)))) (λ d o. weave i m d o f.1)))
+    (λ d e. space_then (run_then (token_then_blank line space_character s (λ c. w_line done)
+    (blank_apart (first_or space_character (token_value s.text)))) (λ d o. weave i m d o f.1)))
 weave i (ors_one a) c o f = weave i a c o f
 weave i (ors_more a s m) c o f = run_then (weave i a c o f.0)
-    (λ d e. space_then (run_then (token_then_blank line 32 s (λ c. w_line done)
-    (blank_apart (first_or 32 (token_value s.text)))) (λ d o. weave i m d o f.1)))
+    (λ d e. space_then (run_then (token_then_blank line space_character s (λ c. w_line done)
+    (blank_apart (first_or space_character (token_value s.text)))) (λ d o. weave i m d o f.1)))
 weave i (ors_expr e) c o f = weave i e c o f
 weave i (if_expr x g t a e b) c o f = grouped
-    (run_then (word_token c x o f.0) (λ d _. nest_run (line_then (weave i g 32 blank_opens f.1))
-    (λ d _. line_then (run_then (operator 32 t (blank_apart (first_or 32 (token_value t.text))))
-    (λ d _. nest_run (line_then (weave i a 32 blank_opens f.2))
-    (λ d _. line_then (run_then (operator 32 e (blank_apart (first_or 32 (token_value e.text))))
-    (λ d _. nested (line_then (weave i b 32 blank_opens f.3))))))))))
+    (run_then (word_token c x o f.0)
+    (λ d _. nest_run (line_then (weave i g space_character blank_opens f.1))
+    (λ d _. line_then (run_then (operator space_character t
+    (blank_apart (first_or space_character (token_value t.text))))
+    (λ d _. nest_run (line_then (weave i a space_character blank_opens f.2))
+    (λ d _. line_then (run_then (operator space_character e
+    (blank_apart (first_or space_character (token_value e.text))))
+    (λ d _. nested (line_then (weave i b space_character blank_opens f.3))))))))))

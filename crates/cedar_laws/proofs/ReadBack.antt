@@ -3,6 +3,7 @@ use Rattle.std.proofs.Common.{◌≡◌, ℕ, Bool, true, false, cond, ◌==◌,
 use Rattle.std.specs.List.{AllByRecursion, concat, filter}
 use Rattle.std.proofs.lemmas.List.Elements.{filter-append}
 use Rattle.std.specs.Str.{trim, trim_start, chars}
+use Rattle.cedar_tokens.specs.Bytes.{line_feed, space_character}
 use Rattle.cedar_tokens.specs.Units.{IsToken, is_token, is_comment, slots, punctuators}
 use Rattle.cedar_tokens.specs.Split.{Scans, SplitsInto}
 use Rattle.cedar_tokens.specs.Listing.{Decorated, IsListing, gaps, decorate, listing, comments, token_value}
@@ -27,19 +28,20 @@ use Rattle.cedar_laws.proofs.Joined.{before_cons, after_cons, before_join, comme
 
 -- ---- blanks, lines and comments
 
-chars_space : (t : List ℕ) → chars (32 ∷ t) ≡ 32 ∷ chars t
+chars_space : (t : List ℕ) → chars (space_character ∷ t) ≡ space_character ∷ chars t
 unfolding chars
 chars_space [] = refl
 chars_space (b ∷ t) = refl
 
-pub trim_space : (t : List ℕ) → trim (32 ∷ t) ≡ trim t
+pub trim_space : (t : List ℕ) → trim (space_character ∷ t) ≡ trim t
 unfolding trim_start
 trim_space t = rw (chars_space t) refl
 
 pub comments_blanks : {b : List ℕ} (x : List ℕ) → Blanks b → comments (b ++ x) ≡ comments x
 comments_blanks x no_blank = refl
-comments_blanks x (a_space {s} p) = comments_skip 32 (s ++ x) refl ∙ comments_blanks x p
-comments_blanks x (a_feed {s} p) = comments_skip 10 (s ++ x) refl ∙ comments_blanks x p
+comments_blanks x (a_space {s} p) = comments_skip space_character (s ++ x) refl
+    ∙ comments_blanks x p
+comments_blanks x (a_feed {s} p) = comments_skip line_feed (s ++ x) refl ∙ comments_blanks x p
 
 no_comments : {b : List ℕ} → Blanks b → comments b ≡ []
 no_comments {b} p = ap comments (sym (append-nil b)) ∙ (comments_blanks [] p ∙ comments_nil)
@@ -47,13 +49,13 @@ no_comments {b} p = ap comments (sym (append-nil b)) ∙ (comments_blanks [] p �
 before_blanks : {b : List ℕ} → Blanks b → trim (before_newline b) ≡ []
 before_blanks no_blank = trim_nil
 before_blanks (a_space {s} p) =
-    rw (before_cons 32 s) (trim_space (before_newline s) ∙ before_blanks p)
-before_blanks (a_feed {s} p) = rw (before_cons 10 s) trim_nil
+    rw (before_cons space_character s) (trim_space (before_newline s) ∙ before_blanks p)
+before_blanks (a_feed {s} p) = rw (before_cons line_feed s) trim_nil
 
 after_blanks : {b : List ℕ} (x : List ℕ) → Blanks b → comments (after_newline b) ≡ []
 after_blanks x no_blank = comments_nil
-after_blanks x (a_space {s} p) = rw (after_cons 32 s) (after_blanks x p)
-after_blanks x (a_feed {s} p) = rw (after_cons 10 s) (no_comments p)
+after_blanks x (a_space {s} p) = rw (after_cons space_character s) (after_blanks x p)
+after_blanks x (a_feed {s} p) = rw (after_cons line_feed s) (no_comments p)
 
 pub line_alone : (l : List ℕ) → IsLine l → comments l ≡ l ∷ []
 line_alone l h = comment_alone l h.comment ∙ ap (λ z. z ∷ []) h.trimmed
@@ -62,7 +64,7 @@ pub lines_comments : {ls : List (List ℕ)} {g : List ℕ} → Lines ls g → Al
     → comments g ≡ ls
 lines_comments (no_line p) a = no_comments p
 lines_comments (a_comment {g = g} {ls = ls} l p q) a =
-    comments_blanks (l ++ (10 ∷ g)) p
+    comments_blanks (l ++ (line_feed ∷ g)) p
     ∙ (comments_join l g ∙ rw (line_alone l a.0, lines_comments q a.1) refl)
 
 -- what the text before a token says
@@ -70,7 +72,7 @@ pub front_comments : {ls : List (List ℕ)} {g : List ℕ} → Front ls g → Al
     → comments g ≡ ls
 front_comments (bare p) a = no_comments p
 front_comments (led {b} {g} p q) a =
-    comments_blanks (10 ∷ g) p ∙ (comments_skip 10 g refl ∙ lines_comments q a)
+    comments_blanks (line_feed ∷ g) p ∙ (comments_skip line_feed g refl ∙ lines_comments q a)
 
 front_before : {ls : List (List ℕ)} {g : List ℕ} → Front ls g → trim (before_newline g) ≡ []
 front_before (bare p) = before_blanks p
@@ -91,7 +93,7 @@ pub record Gap (g : List ℕ) (said : List (List ℕ)) : Type 0 where
   pub scan : (r : List ℕ) → Scans units (g ++ r) r
   pub no_token : AllByRecursion (λ u. is_token u ≡ false) units
 
-space_no_token : is_token (32 ∷ []) ≡ false
+space_no_token : is_token (space_character ∷ []) ≡ false
 unfolding slots punctuators
 space_no_token = refl
 
@@ -104,20 +106,22 @@ gap_append g h p q = record {
   no_token = All-append (λ u. is_token u ≡ false) p.units q.units p.no_token q.no_token;
 }
 
-gap_space : (g : List ℕ) {x : List (List ℕ)} → Gap g x → Gap (32 ∷ g) x
+gap_space : (g : List ℕ) {x : List (List ℕ)} → Gap g x → Gap (space_character ∷ g) x
 gap_space g p = record {
-  solid = rw (blank_not_solid (32 ∷ []) space_blank) p.solid;
-  units = (32 ∷ []) ∷ p.units;
-  scan = λ r. scans_unit (32 ∷ []) p.units (g ++ r) r (blank_first (32 ∷ []) (g ++ r) space_blank)
+  solid = rw (blank_not_solid (space_character ∷ []) space_blank) p.solid;
+  units = (space_character ∷ []) ∷ p.units;
+  scan = λ r. scans_unit (space_character ∷ []) p.units (g ++ r) r
+      (blank_first (space_character ∷ []) (g ++ r) space_blank)
       (p.scan r);
   no_token = (space_no_token, p.no_token);
 }
 
-gap_feed : (g : List ℕ) {x : List (List ℕ)} → Gap g x → Gap (10 ∷ g) x
+gap_feed : (g : List ℕ) {x : List (List ℕ)} → Gap g x → Gap (line_feed ∷ g) x
 gap_feed g p = record {
   solid = rw feed_not_solid p.solid;
-  units = (10 ∷ []) ∷ p.units;
-  scan = λ r. scans_unit (10 ∷ []) p.units (g ++ r) r (blank_first (10 ∷ []) (g ++ r) feed_blank)
+  units = (line_feed ∷ []) ∷ p.units;
+  scan = λ r. scans_unit (line_feed ∷ []) p.units (g ++ r) r
+      (blank_first (line_feed ∷ []) (g ++ r) feed_blank)
       (p.scan r);
   no_token = (feed_no_token, p.no_token);
 }
@@ -131,40 +135,48 @@ gap_blanks (a_space {s} p) = gap_space s (gap_blanks p)
 gap_blanks (a_feed {s} p) = gap_feed s (gap_blanks p)
 
 gap_line : (l g : List ℕ) {x : List (List ℕ)} → is_comment l ≡ true → Gap g x
-    → Gap (l ++ (10 ∷ g)) (l ∷ x)
+    → Gap (l ++ (line_feed ∷ g)) (l ∷ x)
 gap_line l g h p = record {
   solid = rw (comment_solid l h, feed_not_solid, p.solid) refl;
-  units = l ∷ ((10 ∷ []) ∷ p.units);
-  scan = λ r. rw (append_assoc l (10 ∷ g) r) (scans_unit l ((10 ∷ []) ∷ p.units) (10 ∷ (g ++ r)) r
-      (comment_first l (10 ∷ (g ++ r)) h refl) (scans_unit (10 ∷ []) p.units (g ++ r) r
-      (blank_first (10 ∷ []) (g ++ r) feed_blank) (p.scan r)));
+  units = l ∷ ((line_feed ∷ []) ∷ p.units);
+  scan = λ r. rw (append_assoc l (line_feed ∷ g) r) (scans_unit l ((line_feed ∷ []) ∷ p.units)
+      (line_feed ∷ (g ++ r)) r
+      (comment_first l (line_feed ∷ (g ++ r)) h refl) (scans_unit (line_feed ∷ []) p.units
+      (g ++ r) r
+      (blank_first (line_feed ∷ []) (g ++ r) feed_blank) (p.scan r)));
   no_token = (comment_no_token l h, (feed_no_token, p.no_token));
 }
 
 gap_lines : {ls : List (List ℕ)} {g : List ℕ} → Lines ls g → AllByRecursion IsLine ls → Gap g ls
 gap_lines (no_line p) a = gap_blanks p
 gap_lines (a_comment {b} {g} l p q) a =
-    gap_append b (l ++ (10 ∷ g)) (gap_blanks p) (gap_line l g a.0.comment (gap_lines q a.1))
+    gap_append b (l ++ (line_feed ∷ g)) (gap_blanks p) (gap_line l g a.0.comment (gap_lines q a.1))
 
 pub gap_front : {ls : List (List ℕ)} {g : List ℕ} → Front ls g → AllByRecursion IsLine ls → Gap g ls
 gap_front (bare p) a = gap_blanks p
-gap_front (led {b} {g} p q) a = gap_append b (10 ∷ g) (gap_blanks p) (gap_feed g (gap_lines q a))
+gap_front (led {b} {g} p q) a = gap_append b (line_feed ∷ g) (gap_blanks p)
+    (gap_feed g (gap_lines q a))
 
 gap_back : (tr : List ℕ) (h : IsTrailing tr) → Gap (back tr) (filter is_solid h.units)
 gap_back [] h = rw (nothing_left h.units h.split) gap_nil
 gap_back (c ∷ cs) h = record {
-  solid = rw (blank_not_solid (32 ∷ []) space_blank) (filter-append is_solid h.units
-      ((10 ∷ []) ∷ []) ∙ rw feed_not_solid (append-nil (filter is_solid h.units)));
-  units = (32 ∷ []) ∷ (h.units ++ ((10 ∷ []) ∷ []));
+  solid = rw (blank_not_solid (space_character ∷ []) space_blank) (filter-append is_solid h.units
+      ((line_feed ∷ []) ∷ []) ∙ rw feed_not_solid (append-nil (filter is_solid h.units)));
+  units = (space_character ∷ []) ∷ (h.units ++ ((line_feed ∷ []) ∷ []));
   scan = λ r.
-      rw (append_assoc (c ∷ cs) (10 ∷ []) r) (scans_unit (32 ∷ []) (h.units ++ ((10 ∷ []) ∷ []))
-      ((c ∷ cs) ++ (10 ∷ r)) r (blank_first (32 ∷ []) ((c ∷ cs) ++ (10 ∷ r)) space_blank)
-      (scans_append h.units ((10 ∷ []) ∷ []) ((c ∷ cs) ++ (10 ∷ r)) (10 ∷ r) r
+      rw (append_assoc (c ∷ cs) (line_feed ∷ []) r) (scans_unit (space_character ∷ [])
+      (h.units ++ ((line_feed ∷ []) ∷ []))
+      ((c ∷ cs) ++ (line_feed ∷ r)) r (blank_first (space_character ∷ [])
+      ((c ∷ cs) ++ (line_feed ∷ r)) space_blank)
+      (scans_append h.units ((line_feed ∷ []) ∷ []) ((c ∷ cs) ++ (line_feed ∷ r)) (line_feed ∷ r) r
       (scans_before_feed h.units (c ∷ cs) r h.split)
-      (scans_unit (10 ∷ []) [] r r (blank_first (10 ∷ []) r feed_blank) refl)));
+      (scans_unit (line_feed ∷ []) [] r r (blank_first (line_feed ∷ []) r feed_blank) refl)));
   no_token = (
     space_no_token,
-    All-append (λ u. is_token u ≡ false) h.units ((10 ∷ []) ∷ []) h.no_token (feed_no_token, tt),
+    All-append (λ u. is_token u ≡ false) h.units ((line_feed ∷ []) ∷ []) h.no_token (
+      feed_no_token,
+      tt,
+    ),
   );
 }
 
@@ -201,14 +213,17 @@ back_before : (tr f : List ℕ) → IsTrailing tr → trim (before_newline f) �
     → trim (before_newline (back tr ++ f)) ≡ tr
 back_before [] f h e = e
 back_before (c ∷ cs) f h e =
-    let g : before_newline (32 ∷ (((c ∷ cs) ++ (10 ∷ [])) ++ f)) ≡ 32 ∷ before_newline (c ∷ cs) =
-    before_cons 32 (((c ∷ cs) ++ (10 ∷ [])) ++ f) ∙ ap (λ z. 32 ∷ z)
-    (ap before_newline (append_assoc (c ∷ cs) (10 ∷ []) f) ∙ before_join (c ∷ cs) f) in
-    ap trim (g ∙ ap (λ z. 32 ∷ z) h.one_line) ∙ (trim_space (c ∷ cs) ∙ h.trimmed)
+    let g : before_newline (space_character ∷ (((c ∷ cs) ++ (line_feed ∷ [])) ++ f))
+    ≡ space_character ∷ before_newline (c ∷ cs) =
+    before_cons space_character (((c ∷ cs) ++ (line_feed ∷ [])) ++ f)
+    ∙ ap (λ z. space_character ∷ z)
+    (ap before_newline (append_assoc (c ∷ cs) (line_feed ∷ []) f) ∙ before_join (c ∷ cs) f) in
+    ap trim (g ∙ ap (λ z. space_character ∷ z) h.one_line) ∙ (trim_space (c ∷ cs) ∙ h.trimmed)
 
 after_all : (g : List ℕ) → before_newline g ≡ g → after_newline g ≡ []
 after_all [] e = refl
-after_all (b ∷ g) e = rw (after_cons b g) (go (b == 10) (rw (before_cons b g) at e) (after_all g))
+after_all (b ∷ g) e = rw (after_cons b g) (go (b == line_feed) (rw (before_cons b g) at e)
+    (after_all g))
   where
     go : (t : Bool) → cond t [] (b ∷ before_newline g) ≡ b ∷ g
         → (before_newline g ≡ g → after_newline g ≡ []) → cond t g (after_newline g) ≡ []
@@ -219,9 +234,10 @@ back_after : (tr f : List ℕ) → IsTrailing tr → comments (after_newline f) 
     → comments (after_newline (back tr ++ f)) ≡ comments f
 back_after [] f h e = e
 back_after (c ∷ cs) f h e =
-    let g : after_newline (32 ∷ (((c ∷ cs) ++ (10 ∷ [])) ++ f))
-    ≡ after_newline ((c ∷ cs) ++ (10 ∷ f)) = after_cons 32 (((c ∷ cs) ++ (10 ∷ [])) ++ f)
-    ∙ ap after_newline (append_assoc (c ∷ cs) (10 ∷ []) f) in
+    let g : after_newline (space_character ∷ (((c ∷ cs) ++ (line_feed ∷ [])) ++ f))
+    ≡ after_newline ((c ∷ cs) ++ (line_feed ∷ f)) = after_cons space_character
+    (((c ∷ cs) ++ (line_feed ∷ [])) ++ f)
+    ∙ ap after_newline (append_assoc (c ∷ cs) (line_feed ∷ []) f) in
     ap comments g ∙ (comments_after_join (c ∷ cs) f
     ∙ ap (λ z. z ++ comments f) (ap comments (after_all (c ∷ cs) h.one_line) ∙ comments_nil))
 
@@ -263,7 +279,8 @@ front_cases c (led no_blank q) = inr (λ x. refl)
 front_cases c (led (a_space p) q) = inr (λ x. refl)
 front_cases c (led (a_feed p) q) = inr (λ x. refl)
 
-apart_text : (c : ℕ) (w r : List ℕ) → IsToken w → glues c (first_or 32 w) ≡ false → Apart c (w ++ r)
+apart_text : (c : ℕ) (w r : List ℕ) → IsToken w → glues c (first_or space_character w) ≡ false
+    → Apart c (w ++ r)
 apart_text c [] r h n = absurd (no_empty_token h)
 apart_text c (d ∷ w) r h n = n
 
@@ -277,13 +294,15 @@ apart_spelled {c} (a_token {g = g} {s = s} t f n r) a = elim (front_cases c f) [
 ]
 
 -- after a token's text: a space, or what comes next
-apart_back : (w tr s : List ℕ) → Apart (after_of w tr) s → Apart (last_byte_or 32 w) (back tr ++ s)
+apart_back : (w tr s : List ℕ) → Apart (after_of w tr) s
+    → Apart (last_byte_or space_character w) (back tr ++ s)
 apart_back w [] s h = h
 apart_back w (c ∷ cs) s h = refl
 
 reading_token : (t : Decorated) (ts : List Decorated) (g s : List ℕ) {x : List (List ℕ)}
     (good : IsGood t) → Front t.leading g
-    → Apart (last_byte_or 32 (token_value t.text)) (back t.trailing ++ s) → Reading ts s x
+    → Apart (last_byte_or space_character (token_value t.text)) (back t.trailing ++ s)
+    → Reading ts s x
     → Reading (t ∷ ts) (g ++ (token_value t.text ++ (back t.trailing ++ s)))
     (t.leading ++ (token_value t.text ∷ (filter is_solid good.trailing.units ++ x)))
 unfolding listing decorate
@@ -291,33 +310,35 @@ reading_token t ts g s good f apart r =
     let w = token_value t.text in
     let k : is_token w ≡ true = value_token t.text good.token in
     let front = gap_front f good.leading in
-    let behind = gap_back t.trailing good.trailing in
-    let e : gaps (front.units ++ (w ∷ (behind.units ++ r.units))) ≡ record {
+    let following = gap_back t.trailing good.trailing in
+    let e : gaps (front.units ++ (w ∷ (following.units ++ r.units))) ≡ record {
       first = g ++ [];
       tokens = (w, back t.trailing ++ (gaps r.units).first) ∷ (gaps r.units).tokens;
     } =
-    gaps_gap g front (w ∷ (behind.units ++ r.units)) ∙ rw
-    (one_token w (behind.units ++ r.units) k, gaps_gap (back t.trailing) behind r.units) refl in
+    gaps_gap g front (w ∷ (following.units ++ r.units)) ∙ rw
+    (one_token w (following.units ++ r.units) k, gaps_gap (back t.trailing) following r.units)
+    refl in
     let same : decorate (after_newline (back t.trailing ++ (gaps r.units).first))
     (gaps r.units).tokens ≡ record { tokens = map with_value ts; closing = [] } =
     decorate_same (after_newline (back t.trailing ++ (gaps r.units).first)) (gaps r.units).first
     (gaps r.units).tokens (back_after t.trailing (gaps r.units).first good.trailing r.after)
     ∙ r.value in
     record {
-      units = front.units ++ (w ∷ (behind.units ++ r.units));
-      solid = filter-append is_solid front.units (w ∷ (behind.units ++ r.units)) ∙ rw (
+      units = front.units ++ (w ∷ (following.units ++ r.units));
+      solid = filter-append is_solid front.units (w ∷ (following.units ++ r.units)) ∙ rw (
         front.solid,
         token_solid w k,
-        filter-append is_solid behind.units r.units,
-        behind.solid,
+        filter-append is_solid following.units r.units,
+        following.solid,
         r.solid,
       ) refl;
-      split = scans_append front.units (w ∷ (behind.units ++ r.units))
+      split = scans_append front.units (w ∷ (following.units ++ r.units))
           (g ++ (w ++ (back t.trailing ++ s))) (w ++ (back t.trailing ++ s)) []
           (front.scan (w ++ (back t.trailing ++ s)))
-          (scans_unit w (behind.units ++ r.units) (back t.trailing ++ s) []
+          (scans_unit w (following.units ++ r.units) (back t.trailing ++ s) []
           (token_first w (back t.trailing ++ s) k apart)
-          (scans_append behind.units r.units (back t.trailing ++ s) s [] (behind.scan s) r.split));
+          (scans_append following.units r.units (back t.trailing ++ s) s []
+          (following.scan s) r.split));
       before = rw (e, append-nil g) (front_before f);
       after =
           rw (e, append-nil g) (front_after f good.leading ∙ sym (front_comments f good.leading));

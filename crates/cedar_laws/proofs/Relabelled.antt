@@ -1,12 +1,9 @@
 -- Typed trees with other leaves of the same kinds.
-use Rattle.std.proofs.Common.{◌≡◌, Bool, true, false, List, [], ◌∷◌, map, refl, ap, sym, ◌∙◌}
-use Rattle.std.specs.Prelude.{◌&&◌}
+use Rattle.std.proofs.Common.{◌≡◌, List, [], ◌∷◌, map, refl, ap, sym}
 use Rattle.cedar_tokens.specs.declared.kind.Kind.{Kind}
 use Rattle.cedar_tokens.specs.declared.kind.Kind.TheVariants as K
-use Rattle.cedar_tokens.specs.Kinds.{is, is_closing}
-use Rattle.cedar_grammar.specs.Trees.{Label, Forest, none, leaf, branch, join}
+use Rattle.cedar_grammar.specs.Trees.{none, leaf, branch}
 use Rattle.cedar_grammar.specs.Trees as L
-use Rattle.cedar_grammar.specs.TrailingCommas.{drop_if, closes_next, without_trailing}
 use Rattle.cedar_grammar.specs.TypedTrees.{Tree, NodeKind, PartKind, Clause, policy, name_one, name_more, ref_of, args_one, args_more, init_of, inits_one, inits_more, literal, slot, reference, named, parens, list_empty, list_of, record_empty, record_of, no_access, field, call_empty, call, index, member_of, unsigned, signed, products_one, products_more, mult_of, sums_one, sums_more, add_of, single, compare, has_or_like, is_type, is_in, ands_one, ands_more, ors_one, ors_more, ors_expr, if_expr, variable_bare, variable_is, variable_op, variable_is_op, cond_of, no_cond, conds_more, annotation_bare, annotation_value, no_annotation, annotations_more, policy_of, tree_map, parts, part_parts, policy_trees, set_tree, literal_label}
 use Rattle.cedar_grammar.proofs.Rules.Maps.{relabel, relabel_join}
 use Rattle.cedar_laws.specs.Leaves.{part_map}
@@ -88,29 +85,3 @@ module _ {A B : Type 0} (h : A → B) (kind : A → Kind) (kind' : B → Kind)
   pub set_tree_map : (ps : List (Clause A policy))
       → relabel h (set_tree kind ps) ≡ set_tree kind' (map (part_map h) ps)
   set_tree_map ps = ap (λ z. branch L.policies z none) (policy_trees_map ps)
-
-  closes_same : (f : Forest Label A) → closes_next kind' (relabel h f) ≡ closes_next kind f
-  closes_same none = refl
-  closes_same (leaf a f) = ap is_closing (same a)
-  closes_same (branch l f g) = refl
-
-  -- trailing commas remain trailing commas
-  pub without_map : (f : Forest Label A)
-      → without_trailing kind' (relabel h f) ≡ relabel h (without_trailing kind f)
-  without_map none = refl
-  without_map (leaf a f) =
-      ap (λ k. drop_if (is K.Comma k && closes_next kind' (relabel h f)) (leaf (h a)
-      (without_trailing kind' (relabel h f))) (without_trailing kind' (relabel h f))) (same a)
-      ∙ (ap (λ c. drop_if (is K.Comma (kind a) && c) (leaf (h a) (without_trailing kind'
-      (relabel h f))) (without_trailing kind' (relabel h f))) (closes_same f)
-      ∙ (ap (λ z. drop_if (is K.Comma (kind a) && closes_next kind f) (leaf (h a) z) z)
-      (without_map f) ∙ moved (is K.Comma (kind a) && closes_next kind f)))
-    where
-      moved : (b : Bool) → drop_if b (leaf (h a) (relabel h (without_trailing kind f))) (relabel h
-          (without_trailing kind f))
-          ≡ relabel h (drop_if b (leaf a (without_trailing kind f)) (without_trailing kind f))
-      moved true = refl
-      moved false = refl
-  without_map (branch l f g) =
-      ap (λ z. branch l z (without_trailing kind' (relabel h g))) (without_map f)
-      ∙ ap (branch l (relabel h (without_trailing kind f))) (without_map g)

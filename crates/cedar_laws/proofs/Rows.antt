@@ -9,6 +9,7 @@ use Rattle.unicode_width.proofs.Computing.{unicode_width}
 use Rattle.cedar_layout.specs.Layout.{Doc, columns, print, IsTheLayoutAt}
 use Rattle.cedar_layout.specs.Inside.Computed.{laid}
 use Rattle.cedar_layout.proofs.Rule.{laid_is_the_layout}
+use Rattle.cedar_tokens.specs.Bytes.{quote, line_feed}
 use Rattle.cedar_tokens.specs.Units.{slots, punctuators}
 use Rattle.cedar_tokens.specs.Listing.{Decorated, with_first, listing, gaps, decorate, comments, lines, comment_of_line, without_zeros}
 use Rattle.cedar_tokens.specs.PlainList.{plain_list}
@@ -24,7 +25,8 @@ laid_text w d = flat_map print (laid w d false 0 0 0)
 
 abbrev output_text : ℕ → ℤ → List (Clause Decorated policy) → List (List ℕ) → List ℕ
 output_text w i ps cs =
-    paragraphs (map (λ p. cleaned_text (laid_text w (part_table i p))) ps) ++ (10 ∷ closing_text cs)
+    paragraphs (map (λ p. cleaned_text (laid_text w (part_table i p))) ps) ++
+    (line_feed ∷ closing_text cs)
 
 texts_are : (w : ℕ) (i : ℤ) (ps : List (Clause Decorated policy))
     → PolicyTexts (IsTheLayoutAt w) i ps (map (λ p. cleaned_text (laid_text w (part_table i p))) ps)
@@ -60,10 +62,10 @@ abbrev with : List ℕ → List ℕ → Decorated
 with s tr = record { text = s; leading = []; trailing = tr }
 
 abbrev quoted : List ℕ → List ℕ
-quoted s = 34 ∷ (s ++ (34 ∷ []))
+quoted s = quote ∷ (s ++ (quote ∷ []))
 
 abbrev nl : List ℕ
-nl = 10 ∷ []
+nl = codes "\n"
 
 abbrev lit : Decorated → Tree Decorated add
 lit x = add_of (sums_one (mult_of (products_one (unsigned (member_of (literal x) no_access)))))
@@ -103,9 +105,9 @@ semicolon = t (codes ";")
 -- ---- rows
 
 -- the pieces of a text between its `~`
-abbrev parted : List ℕ → List (List ℕ)
-parted [] = [] ∷ []
-parted (b ∷ bs) = if b == 126 then [] ∷ parted bs else with_first b (parted bs)
+abbrev pieces : List ℕ → List (List ℕ)
+pieces [] = [] ∷ []
+pieces (b ∷ bs) = if b == 126 then [] ∷ pieces bs else with_first b (pieces bs)
 
 -- units of a text, the trees of its plain list, its closing comments,
 -- and its output at a width and indentation 2
@@ -123,222 +125,179 @@ abbrev Body : ℕ → List (List ℕ) → Tree Decorated expr → List ℕ → T
 Body w units e out = ((listing units).tokens ≡ tree_yield e) × (laid_text w (table (pos 2) e) ≡ out)
 
 -- `permit(principal, // p`, and on the next line `action,resource);`
-comment_in_scope : Row ((codes "permit") ∷ (codes "(") ∷ (codes "principal") ∷ (codes ",")
-    ∷ (codes " ") ∷ (codes "// p") ∷ (10 ∷ []) ∷ (codes "action") ∷ (codes ",") ∷ (codes "resource")
-    ∷ (codes ")") ∷ (codes ";") ∷ [])
+comment_in_scope : Row (pieces (codes "permit~(~principal~,~ ~// p~\n~action~,~resource~)~;"))
     ((bare closed (with (codes ",") (codes "// p")) no_cond semicolon) ∷ []) ([])
-    (codes "permit (principal, // p" ++ (10 ∷ (codes "  action, resource);" ++ (10 ∷ []))))
+    (codes "permit (principal, // p\n  action, resource);\n")
 unfolding columns unicode_width listing gaps decorate comments lines comment_of_line trim_start
     trim_end chars encode_utf8 slots punctuators without_zeros string_end
 comment_in_scope = (refl, refl, refl)
 
 -- a line of its own before an operator:
 -- the blank after "a" stays, and so does the first line of its piece
-comment_before_operator : Row ((codes "permit") ∷ (codes "(") ∷ (codes "principal") ∷ (codes ",")
-    ∷ (codes "action") ∷ (codes ",") ∷ (codes "resource") ∷ (codes ")") ∷ (codes "when")
-    ∷ (codes "{") ∷ (34 ∷ (codes "a" ++ (34 ∷ []))) ∷ (10 ∷ []) ∷ (codes "// c") ∷ (10 ∷ [])
-    ∷ (codes "==") ∷ (codes " ") ∷ (34 ∷ (codes "b" ++ (34 ∷ []))) ∷ (codes "}") ∷ (codes ";") ∷ [])
-    ((bare closed comma (when (whole (compare (lit (t (34 ∷ (codes "a" ++ (34 ∷ [])))))
-    (led (codes "// c" ∷ []) (codes "==")) (lit (t (34 ∷ (codes "b" ++ (34 ∷ [])))))))) semicolon)
+comment_before_operator : Row (pieces
+    (codes "permit~(~principal~,~action~,~resource~)~when~{~\"a\"~\n~// c~\n~==~ ~\"b\"~}~;"))
+    ((bare closed comma (when (whole (compare (lit (t (codes "\"a\"")))
+    (led (codes "// c" ∷ []) (codes "==")) (lit (t (codes "\"b\"")))))) semicolon)
     ∷ []) ([])
-    (codes "permit (principal, action, resource)" ++ (10 ∷ (codes "when" ++ (10 ∷ (codes "{"
-    ++ (10 ∷ (codes "  " ++ (34 ∷ (codes "a" ++ (34 ∷ (codes " " ++ (10 ∷ (codes "  // c" ++ (10
-    ∷ (codes "  == " ++ (34 ∷ (codes "b" ++ (34 ∷ (10 ∷ (codes "};" ++ (10 ∷ [])))))))))))))))))))))
+    (codes "permit (principal, action, resource)\nwhen\n{\n  \"a\" \n  // c\n  == \"b\"\n};\n")
 unfolding columns unicode_width listing gaps decorate comments lines comment_of_line trim_start
     trim_end chars encode_utf8 slots punctuators without_zeros string_end
 comment_before_operator = (refl, refl, refl)
 
 -- a lone `\r` ends a comment but not a line
-two_comments_in_one_line : Row ((codes "permit") ∷ (codes "(") ∷ (codes "principal") ∷ (codes ",")
-    ∷ (codes "action") ∷ (codes ",") ∷ (codes "resource") ∷ (codes ")") ∷ (codes ";")
-    ∷ (codes "// a") ∷ (13 ∷ []) ∷ (codes "// b") ∷ [])
-    ((bare closed comma no_cond (with (codes ";") (codes "// a" ++ (13 ∷ (codes "// b"))))) ∷ [])
+two_comments_in_one_line : Row (pieces
+    (codes "permit~(~principal~,~action~,~resource~)~;~// a~\r~// b"))
+    ((bare closed comma no_cond (with (codes ";") (codes "// a\r// b"))) ∷ [])
     ([])
-    (codes "permit (principal, action, resource); // a" ++ (13 ∷ (codes "// b" ++ (10 ∷ []))))
+    (codes "permit (principal, action, resource); // a\r// b\n")
 unfolding columns unicode_width listing gaps decorate comments lines comment_of_line trim_start
     trim_end chars encode_utf8 slots punctuators without_zeros string_end
 two_comments_in_one_line = (refl, refl, refl)
 
 -- a string keeps its blank line
-string_of_lines : Row ((codes "permit") ∷ (codes "(") ∷ (codes "principal") ∷ (codes ",")
-    ∷ (codes "action") ∷ (codes ",") ∷ (codes "resource") ∷ (codes ")") ∷ (codes "when")
-    ∷ (codes "{") ∷ (34 ∷ (codes "a" ++ (10 ∷ (10 ∷ (codes "// b" ++ (34 ∷ [])))))) ∷ (codes "}")
-    ∷ (codes ";") ∷ [])
+string_of_lines : Row (pieces (codes
+    "permit~(~principal~,~action~,~resource~)~when~{~\"a\n\n// b\"~}~;"))
     ((bare closed comma (when (whole (single (lit
-    (t (34 ∷ (codes "a" ++ (10 ∷ (10 ∷ (codes "// b" ++ (34 ∷ []))))))))))) semicolon) ∷ []) ([])
-    (codes "permit (principal, action, resource)" ++ (10 ∷ (codes "when { "
-    ++ (34 ∷ (codes "a" ++ (10 ∷ (10 ∷ (codes "// b" ++ (34 ∷ (codes " };" ++ (10 ∷ [])))))))))))
+    (t (codes "\"a\n\n// b\"")))))) semicolon) ∷ []) ([])
+    (codes "permit (principal, action, resource)\nwhen { \"a\n\n// b\" };\n")
 unfolding columns unicode_width listing gaps decorate comments lines comment_of_line trim_start
     trim_end chars encode_utf8 slots punctuators without_zeros string_end
 string_of_lines = (refl, refl, refl)
 
 -- comments in a call's brackets
-comments_of_a_call : Row ((codes "permit") ∷ (codes "(") ∷ (codes "principal") ∷ (codes ",")
-    ∷ (codes "action") ∷ (codes ",") ∷ (codes "resource") ∷ (codes ")") ∷ (codes "when")
-    ∷ (codes "{") ∷ (codes "f") ∷ (codes "(") ∷ (codes "1") ∷ (codes " ") ∷ (codes "// x")
-    ∷ (10 ∷ []) ∷ (codes "// y") ∷ (10 ∷ []) ∷ (codes ")") ∷ (codes "}") ∷ (codes ";") ∷ [])
+comments_of_a_call : Row (pieces
+    (codes "permit~(~principal~,~action~,~resource~)~when~{~f~(~1~ ~// x~\n~// y~\n~)~}~;"))
     ((bare closed comma (when (whole (single (operand (member_of (named (name_one (t (codes "f"))))
     (call (t (codes "(")) (args_one (whole (single (lit (with (codes "1") (codes "// x"))))))
     (led (codes "// y" ∷ []) (codes ")")) no_access)))))) semicolon) ∷ []) ([])
-    (codes "permit (principal, action, resource)" ++ (10
-    ∷ (codes "when" ++ (10 ∷ (codes "{" ++ (10 ∷ (codes "  f(" ++ (10 ∷ (codes "      1 // x" ++ (10
-    ∷ (codes "    // y" ++ (10 ∷ (codes "    )" ++ (10 ∷ (codes "};" ++ (10 ∷ []))))))))))))))))
+    (codes
+    "permit (principal, action, resource)\nwhen\n{\n  f(\n      1 // x\n    // y\n    )\n};\n")
 unfolding columns unicode_width listing gaps decorate comments lines comment_of_line trim_start
     trim_end chars encode_utf8 slots punctuators without_zeros string_end
 comments_of_a_call = (refl, refl, refl)
 
 -- a trailing text, a leading line and a closing comment
-two_policies : Row ((codes "permit") ∷ (codes "(") ∷ (codes "principal") ∷ (codes ",")
-    ∷ (codes "action") ∷ (codes ",") ∷ (codes "resource") ∷ (codes ")") ∷ (codes ";") ∷ (codes " ")
-    ∷ (codes "// t") ∷ (10 ∷ []) ∷ (codes "// l") ∷ (10 ∷ []) ∷ (codes "permit") ∷ (codes "(")
-    ∷ (codes "principal") ∷ (codes ",") ∷ (codes "action") ∷ (codes ",") ∷ (codes "resource")
-    ∷ (codes ")") ∷ (codes ";") ∷ (10 ∷ []) ∷ (codes "// e") ∷ [])
+two_policies : Row (pieces (codes
+    "permit~(~principal~,~action~,~resource~)~;~ ~// t~\n~// l~\n~permit~(~principal~,~action~,~resource~)~;~\n~// e"))
     ((bare closed comma no_cond (with (codes ";") (codes "// t")))
     ∷ (bare_from (led (codes "// l" ∷ []) (codes "permit")) closed comma no_cond semicolon) ∷ [])
     ((codes "// e") ∷ [])
-    (codes "permit (principal, action, resource); // t" ++ (10 ∷ (10 ∷ (codes "// l" ++ (10
-    ∷ (codes "permit (principal, action, resource);" ++ (10 ∷ (codes "// e" ++ (10 ∷ [])))))))))
+    (codes
+    "permit (principal, action, resource); // t\n\n// l\npermit (principal, action, resource);\n// e\n")
 unfolding columns unicode_width listing gaps decorate comments lines comment_of_line trim_start
     trim_end chars encode_utf8 slots punctuators without_zeros string_end
 two_policies = (refl, refl, refl)
 
 -- closing comments alone, with blanks at their ends
-only_comments : Row ((codes "// foo") ∷ (10 ∷ []) ∷ (codes "//bar   ") ∷ (10 ∷ []) ∷ (codes " ")
-    ∷ (10 ∷ []) ∷ (codes " ") ∷ (10 ∷ []) ∷ [])
+only_comments : Row (pieces (codes "// foo~\n~//bar   ~\n~ ~\n~ ~\n"))
     ([]) ((codes "// foo") ∷ (codes "//bar") ∷ [])
-    (10 ∷ (codes "// foo" ++ (10 ∷ (codes "//bar" ++ (10 ∷ [])))))
+    (codes "\n// foo\n//bar\n")
 unfolding columns unicode_width listing gaps decorate comments lines comment_of_line trim_start
     trim_end chars encode_utf8 slots punctuators without_zeros string_end
 only_comments = (refl, refl, refl)
 
-trailing_and_closing : Row ((codes "permit") ∷ (codes "(") ∷ (codes "principal") ∷ (codes ",")
-    ∷ (codes "action") ∷ (codes ",") ∷ (codes "resource") ∷ (codes ")") ∷ (codes ";") ∷ (13 ∷ [])
-    ∷ (codes "// a") ∷ (13 ∷ []) ∷ (codes "// b") ∷ (10 ∷ []) ∷ (codes "// c") ∷ [])
-    ((bare closed comma no_cond (with (codes ";") (codes "// a" ++ (13 ∷ (codes "// b"))))) ∷ [])
+trailing_and_closing : Row (pieces
+    (codes "permit~(~principal~,~action~,~resource~)~;~\r~// a~\r~// b~\n~// c"))
+    ((bare closed comma no_cond (with (codes ";") (codes "// a\r// b"))) ∷ [])
     ((codes "// c") ∷ [])
-    (codes "permit (principal, action, resource); // a"
-    ++ (13 ∷ (codes "// b" ++ (10 ∷ (codes "// c" ++ (10 ∷ []))))))
+    (codes "permit (principal, action, resource); // a\r// b\n// c\n")
 unfolding columns unicode_width listing gaps decorate comments lines comment_of_line trim_start
     trim_end chars encode_utf8 slots punctuators without_zeros string_end
 trailing_and_closing = (refl, refl, refl)
 
 -- two comments before the first token are two leading lines
-leading_lines : Row ((codes "// a") ∷ (13 ∷ []) ∷ (codes "// b") ∷ (10 ∷ []) ∷ (codes "permit")
-    ∷ (codes "(") ∷ (codes "principal") ∷ (codes ",") ∷ (codes "action") ∷ (codes ",")
-    ∷ (codes "resource") ∷ (codes ")") ∷ (codes ";") ∷ [])
+leading_lines : Row (pieces (codes "// a~\r~// b~\n~permit~(~principal~,~action~,~resource~)~;"))
     ((bare_from (led (codes "// a" ∷ (codes "// b" ∷ [])) (codes "permit")) closed comma no_cond
     semicolon) ∷ []) ([])
-    (codes "// a"
-    ++ (10 ∷ (codes "// b" ++ (10 ∷ (codes "permit (principal, action, resource);" ++ (10 ∷ []))))))
+    (codes "// a\n// b\npermit (principal, action, resource);\n")
 unfolding columns unicode_width listing gaps decorate comments lines comment_of_line trim_start
     trim_end chars encode_utf8 slots punctuators without_zeros string_end
 leading_lines = (refl, refl, refl)
 
 -- a quote within a comment begins no string
-quote_in_comment : Row ((codes "permit") ∷ (codes "(") ∷ (codes "principal") ∷ (codes ",")
-    ∷ (codes "action") ∷ (codes ",") ∷ (codes "resource") ∷ (codes ")") ∷ (codes "when")
-    ∷ (codes "{") ∷ (34 ∷ (codes "a" ++ (34 ∷ []))) ∷ (codes " ")
-    ∷ (codes "// " ++ (34 ∷ (codes "b"))) ∷ (10 ∷ []) ∷ (codes "}") ∷ (codes ";") ∷ [])
-    ((bare closed comma (when (whole (single (lit (with (34 ∷ (codes "a" ++ (34 ∷ [])))
-    (codes "// " ++ (34 ∷ (codes "b")))))))) semicolon) ∷ []) ([])
-    (codes "permit (principal, action, resource)"
-    ++ (10 ∷ (codes "when" ++ (10 ∷ (codes "{" ++ (10 ∷ (codes "  " ++ (34 ∷ (codes "a"
-    ++ (34 ∷ (codes " // " ++ (34 ∷ (codes "b" ++ (10 ∷ (codes "};" ++ (10 ∷ []))))))))))))))))
+quote_in_comment : Row (pieces (codes
+    "permit~(~principal~,~action~,~resource~)~when~{~\"a\"~ ~// \"b~\n~}~;"))
+    ((bare closed comma (when (whole (single (lit (with (codes "\"a\"")
+    (codes "// \"b")))))) semicolon) ∷ []) ([])
+    (codes "permit (principal, action, resource)\nwhen\n{\n  \"a\" // \"b\n};\n")
 unfolding columns unicode_width listing gaps decorate comments lines comment_of_line trim_start
     trim_end chars encode_utf8 slots punctuators without_zeros string_end
 quote_in_comment = (refl, refl, refl)
 
 -- slashes and brackets within strings
-slashes_in_string : Row ((codes "permit") ∷ (codes "(") ∷ (codes "principal") ∷ (codes ",")
-    ∷ (codes "action") ∷ (codes ",") ∷ (codes "resource") ∷ (codes ")") ∷ (codes "when")
-    ∷ (codes "{") ∷ (34 ∷ (10 ∷ (codes "//" ++ (34 ∷ [])))) ∷ (codes "==")
-    ∷ (34 ∷ (codes "};" ++ (34 ∷ []))) ∷ (codes "}") ∷ (codes ";") ∷ [])
-    ((bare closed comma (when (whole (compare (lit (t (34 ∷ (10 ∷ (codes "//" ++ (34 ∷ []))))))
-    (t (codes "==")) (lit (t (34 ∷ (codes "};" ++ (34 ∷ [])))))))) semicolon) ∷ []) ([])
-    (codes "permit (principal, action, resource)" ++ (10 ∷ (codes "when { " ++ (34 ∷ (10 ∷ (codes
-    "//" ++ (34 ∷ (codes " == " ++ (34 ∷ (codes "};" ++ (34 ∷ (codes " };" ++ (10 ∷ [])))))))))))))
+slashes_in_string : Row (pieces
+    (codes "permit~(~principal~,~action~,~resource~)~when~{~\"\n//\"~==~\"};\"~}~;"))
+    ((bare closed comma (when (whole (compare (lit (t (codes "\"\n//\"")))
+    (t (codes "==")) (lit (t (codes "\"};\"")))))) semicolon) ∷ []) ([])
+    (codes "permit (principal, action, resource)\nwhen { \"\n//\" == \"};\" };\n")
 unfolding columns unicode_width listing gaps decorate comments lines comment_of_line trim_start
     trim_end chars encode_utf8 slots punctuators without_zeros string_end
 slashes_in_string = (refl, refl, refl)
 
 -- the comment of a trailing comma goes after the token before it
-trailing_comma : Row ((codes "permit") ∷ (codes "(") ∷ (codes "principal") ∷ (codes ",")
-    ∷ (codes "action") ∷ (codes ",") ∷ (codes "resource") ∷ (codes ",") ∷ (codes " ")
-    ∷ (codes "// r") ∷ (10 ∷ []) ∷ (codes ")") ∷ (codes ";") ∷ [])
+trailing_comma : Row (pieces (codes "permit~(~principal~,~action~,~resource~,~ ~// r~\n~)~;"))
     ((policy_of no_annotation (t (codes "permit")) (t (codes "("))
     (variable_bare (t (codes "principal"))) comma (variable_bare (t (codes "action"))) comma
     (variable_bare (with (codes "resource") (codes "// r"))) closed no_cond semicolon) ∷ []) ([])
-    (codes "permit (principal, action, resource // r" ++ (10 ∷ (codes "  );" ++ (10 ∷ []))))
+    (codes "permit (principal, action, resource // r\n  );\n")
 unfolding columns unicode_width listing gaps decorate comments lines comment_of_line trim_start
     trim_end chars encode_utf8 slots punctuators without_zeros string_end
 trailing_comma = (refl, refl, refl)
 
 -- or before the bracket
-trailing_comma_with_lines : Row ((codes "permit") ∷ (codes "(") ∷ (codes "principal") ∷ (codes ",")
-    ∷ (codes "action") ∷ (codes ",") ∷ (codes "resource") ∷ (codes " ") ∷ (codes "// a") ∷ (10 ∷ [])
-    ∷ (codes "// b") ∷ (10 ∷ []) ∷ (codes ",") ∷ (codes " ") ∷ (codes "// c") ∷ (10 ∷ [])
-    ∷ (codes "// d") ∷ (10 ∷ []) ∷ (codes ")") ∷ (codes ";") ∷ [])
+trailing_comma_with_lines : Row
+    (pieces
+    (codes "permit~(~principal~,~action~,~resource~ ~// a~\n~// b~\n~,~ ~// c~\n~// d~\n~)~;"))
     ((policy_of no_annotation (t (codes "permit")) (t (codes "("))
     (variable_bare (t (codes "principal"))) comma (variable_bare (t (codes "action"))) comma
     (variable_bare (with (codes "resource") (codes "// a"))) (led
     (codes "// b" ∷ (codes "// c" ∷ (codes "// d" ∷ []))) (codes ")")) no_cond semicolon) ∷ []) ([])
-    (codes "permit (principal, action, resource // a" ++ (10 ∷ (codes "// b"
-    ++ (10 ∷ (codes "// c" ++ (10 ∷ (codes "// d" ++ (10 ∷ (codes ");" ++ (10 ∷ []))))))))))
+    (codes "permit (principal, action, resource // a\n// b\n// c\n// d\n);\n")
 unfolding columns unicode_width listing gaps decorate comments lines comment_of_line trim_start
     trim_end chars encode_utf8 slots punctuators without_zeros string_end
 trailing_comma_with_lines = (refl, refl, refl)
 
-trailing_comma_of_a_list : Row ((codes "permit") ∷ (codes "(") ∷ (codes "principal") ∷ (codes ",")
-    ∷ (codes "action") ∷ (codes ",") ∷ (codes "resource") ∷ (codes ")") ∷ (codes "when") ∷ (codes
-    "{") ∷ (codes "[") ∷ (codes "1") ∷ (codes " ") ∷ (codes "// a") ∷ (10 ∷ []) ∷ (codes ",")
-    ∷ (codes " ") ∷ (codes "// b") ∷ (10 ∷ []) ∷ (codes "]") ∷ (codes "}") ∷ (codes ";") ∷ [])
+trailing_comma_of_a_list : Row (pieces
+    (codes "permit~(~principal~,~action~,~resource~)~when~{~[~1~ ~// a~\n~,~ ~// b~\n~]~}~;"))
     ((bare closed comma (when (whole (single (operand (member_of
     (list_of (t (codes "[")) (args_one (whole (single (lit (with (codes "1") (codes "// a"))))))
     (led (codes "// b" ∷ []) (codes "]"))) no_access))))) semicolon) ∷ []) ([])
-    (codes "permit (principal, action, resource)"
-    ++ (10 ∷ (codes "when" ++ (10 ∷ (codes "{" ++ (10 ∷ (codes "  [1 // a"
-    ++ (10 ∷ (codes "  // b" ++ (10 ∷ (codes "  ]" ++ (10 ∷ (codes "};" ++ (10 ∷ []))))))))))))))
+    (codes "permit (principal, action, resource)\nwhen\n{\n  [1 // a\n  // b\n  ]\n};\n")
 unfolding columns unicode_width listing gaps decorate comments lines comment_of_line trim_start
     trim_end chars encode_utf8 slots punctuators without_zeros string_end
 trailing_comma_of_a_list = (refl, refl, refl)
 
 -- 39 letters: the comment ends in column 80
-last_column : Row ((codes "permit") ∷ (codes "(") ∷ (codes "principal") ∷ (codes ",")
-    ∷ (codes "action") ∷ (codes ",") ∷ (codes "resource") ∷ (codes ")") ∷ (codes ";")
-    ∷ (codes "// xxxxxxxxxxxxxxxxxxxxxxxxxxxxxxxxxxxxxxx") ∷ [])
+last_column : Row (pieces (codes
+    "permit~(~principal~,~action~,~resource~)~;~// xxxxxxxxxxxxxxxxxxxxxxxxxxxxxxxxxxxxxxx"))
     ((bare closed comma no_cond
     (with (codes ";") (codes "// xxxxxxxxxxxxxxxxxxxxxxxxxxxxxxxxxxxxxxx"))) ∷ []) ([])
-    (codes "permit (principal, action, resource); // xxxxxxxxxxxxxxxxxxxxxxxxxxxxxxxxxxxxxxx"
-    ++ (10 ∷ []))
+    (codes "permit (principal, action, resource); // xxxxxxxxxxxxxxxxxxxxxxxxxxxxxxxxxxxxxxx\n")
 unfolding columns unicode_width listing gaps decorate comments lines comment_of_line trim_start
     trim_end chars encode_utf8 slots punctuators without_zeros string_end
 last_column = (refl, refl, refl)
 
 -- 40 letters
-past_last_column : Row ((codes "permit") ∷ (codes "(") ∷ (codes "principal") ∷ (codes ",")
-    ∷ (codes "action") ∷ (codes ",") ∷ (codes "resource") ∷ (codes ")") ∷ (codes ";")
-    ∷ (codes "// xxxxxxxxxxxxxxxxxxxxxxxxxxxxxxxxxxxxxxxx") ∷ [])
+past_last_column : Row (pieces (codes
+    "permit~(~principal~,~action~,~resource~)~;~// xxxxxxxxxxxxxxxxxxxxxxxxxxxxxxxxxxxxxxxx"))
     ((bare closed comma no_cond
     (with (codes ";") (codes "// xxxxxxxxxxxxxxxxxxxxxxxxxxxxxxxxxxxxxxxx"))) ∷ []) ([])
-    (codes "permit" ++ (10 ∷ (codes
-    "(principal, action, resource); // xxxxxxxxxxxxxxxxxxxxxxxxxxxxxxxxxxxxxxxx" ++ (10 ∷ []))))
+    (codes "permit\n(principal, action, resource); // xxxxxxxxxxxxxxxxxxxxxxxxxxxxxxxxxxxxxxxx\n")
 unfolding columns unicode_width listing gaps decorate comments lines comment_of_line trim_start
     trim_end chars encode_utf8 slots punctuators without_zeros string_end
 past_last_column = (refl, refl, refl)
 
 -- leading zeros of numbers are dropped
-zeros : Row ((codes "permit") ∷ (codes "(") ∷ (codes "principal") ∷ (codes ",") ∷ (codes "action")
-    ∷ (codes ",") ∷ (codes "resource") ∷ (codes ")") ∷ (codes "when") ∷ (codes "{") ∷ (codes "007")
-    ∷ (codes "==") ∷ (codes "7") ∷ (codes "}") ∷ (codes ";") ∷ [])
+zeros : Row (pieces (codes "permit~(~principal~,~action~,~resource~)~when~{~007~==~7~}~;"))
     ((bare closed comma (when (whole
     (compare (lit (t (codes "007"))) (t (codes "==")) (lit (t (codes "7")))))) semicolon) ∷ []) ([])
-    (codes "permit (principal, action, resource)" ++ (10 ∷ (codes "when { 7 == 7 };" ++ (10 ∷ []))))
+    (codes "permit (principal, action, resource)\nwhen { 7 == 7 };\n")
 unfolding columns unicode_width listing gaps decorate comments lines comment_of_line trim_start
     trim_end chars encode_utf8 slots punctuators without_zeros string_end
 zeros = (refl, refl, refl)
 
 -- an annotation with a value
-annotation : RowAt 80 (parted (codes "@~id~(~\"x\"~)~permit~(~principal~,~action~,~resource~)~;"))
+annotation : RowAt 80 (pieces (codes "@~id~(~\"x\"~)~permit~(~principal~,~action~,~resource~)~;"))
     ((policy_of (annotations_more (annotation_value (t (codes "@")) (t (codes "id")) (t (codes "("))
     (t (codes "\"x\"")) closed) no_annotation) (t (codes "permit")) (t (codes "("))
     (variable_bare (t (codes "principal"))) comma (variable_bare (t (codes "action"))) comma
@@ -351,7 +310,7 @@ annotation = (refl, refl, refl)
 -- a variable with a type, `in` and a slot;
 -- where these are too wide, they break in the order of their groups
 type_and_slot_in_scope : RowAt 18
-    (parted (codes "permit~(~principal~ ~is~ ~A~ ~in~ ~?principal~,~action~,~resource~)~;"))
+    (pieces (codes "permit~(~principal~ ~is~ ~A~ ~in~ ~?principal~,~action~,~resource~)~;"))
     ((policy_of no_annotation (t (codes "permit")) (t (codes "(")) (variable_is_op
     (t (codes "principal")) (t (codes "is")) (name_one (t (codes "A"))) (t (codes "in"))
     (alone (slot (t (codes "?principal"))))) comma (variable_bare (t (codes "action"))) comma
@@ -363,7 +322,7 @@ type_and_slot_in_scope = (refl, refl, refl)
 
 -- a variable with an operator and a list of entities, each on its own line
 entities_in_scope : RowAt 20
-    (parted (codes "permit~(~principal~,~action~ ~in~ ~[~A~::~\"x\"~,~A~::~\"y\"~]~,~resource~)~;"))
+    (pieces (codes "permit~(~principal~,~action~ ~in~ ~[~A~::~\"x\"~,~A~::~\"y\"~]~,~resource~)~;"))
     ((policy_of no_annotation (t (codes "permit")) (t (codes "("))
     (variable_bare (t (codes "principal"))) comma (variable_op (t (codes "action")) (t (codes "in"))
     (alone (list_of (t (codes "[")) (args_more (whole (single (alone (reference (ref_of (name_one
@@ -378,7 +337,9 @@ entities_in_scope = (refl, refl, refl)
 
 -- `unless`, `has` with a path, `&&`, a field and a method call
 has_and_method : RowAt 80
-    (parted (codes "permit~(~principal~,~action~,~resource~)~unless~{~principal~ ~has~ ~a~.~b~&&~resource~.~tags~.~contains~(~\"x\"~)~}~;"))
+    (pieces
+    (codes
+    "permit~(~principal~,~action~,~resource~)~unless~{~principal~ ~has~ ~a~.~b~&&~resource~.~tags~.~contains~(~\"x\"~)~}~;"))
     ((bare closed comma (conds_more
     (cond_of (t (codes "unless")) (t (codes "{")) (ors_expr (ors_one (ands_more (has_or_like
     (alone (named (name_one (t (codes "principal"))))) (t (codes "has")) (operand (member_of
@@ -387,14 +348,17 @@ has_and_method : RowAt 80
     (field (t (codes ".")) (t (codes "tags")) (field (t (codes ".")) (t (codes "contains")) (call
     (t (codes "(")) (args_one (whole (single (lit (t (codes "\"x\"")))))) closed no_access))))))))))
     (t (codes "}"))) no_cond) semicolon) ∷ []) ([])
-    (codes "permit (principal, action, resource)\nunless { principal has a.b && resource.tags.contains(\"x\") };\n")
+    (codes
+    "permit (principal, action, resource)\nunless { principal has a.b && resource.tags.contains(\"x\") };\n")
 unfolding columns unicode_width listing gaps decorate comments lines comment_of_line trim_start
     trim_end chars encode_utf8 slots punctuators without_zeros string_end
 has_and_method = (refl, refl, refl)
 
 -- a record, a list with a negative number, `==`, `&&`, and `is` with `in` of a name of two parts
 record_and_type : RowAt 80
-    (parted (codes "permit~(~principal~,~action~,~resource~)~when~{~{~a~:~1~,~\"b\"~:~[~2~,~-~3~]~}~==~context~&&~principal~ ~is~ ~A~::~B~ ~in~ ~A~::~\"c\"~}~;"))
+    (pieces
+    (codes
+    "permit~(~principal~,~action~,~resource~)~when~{~{~a~:~1~,~\"b\"~:~[~2~,~-~3~]~}~==~context~&&~principal~ ~is~ ~A~::~B~ ~in~ ~A~::~\"c\"~}~;"))
     ((bare closed comma (conds_more (cond_of (t (codes "when")) (t (codes "{"))
     (ors_expr (ors_one (ands_more (compare (alone (record_of (t (codes "{")) (inits_more (init_of
     (named (name_one (t (codes "a")))) (t (codes ":")) (whole (single (lit (t (codes "1")))))) comma
@@ -402,32 +366,38 @@ record_and_type : RowAt 80
     (whole (single (alone (list_of (t (codes "[")) (args_more (whole (single (lit (t (codes "2")))))
     comma (args_one (whole (single (add_of (sums_one (mult_of (products_one (signed (t (codes "-"))
     (unsigned (member_of (literal (t (codes "3"))) no_access))))))))))) (t (codes "]")))))))))
-    (t (codes "}")))) (t (codes "==")) (alone (named (name_one (t (codes "context")))))) (t (codes
-    "&&")) (ands_one (is_in (alone (named (name_one (t (codes "principal"))))) (t (codes "is"))
+    (t (codes "}")))) (t (codes "==")) (alone (named (name_one (t (codes "context"))))))
+    (t (codes "&&")) (ands_one (is_in (alone (named (name_one (t (codes "principal")))))
+    (t (codes "is"))
     (name_more (t (codes "A")) (t (codes "::")) (name_one (t (codes "B")))) (t (codes "in")) (alone
     (reference (ref_of (name_one (t (codes "A"))) (t (codes "::")) (t (codes "\"c\""))))))))))
     (t (codes "}"))) no_cond) semicolon) ∷ []) ([])
-    (codes "permit (principal, action, resource)\nwhen { { a: 1, \"b\": [2, -3] } == context && principal is A::B in A::\"c\" };\n")
+    (codes
+    "permit (principal, action, resource)\nwhen { { a: 1, \"b\": [2, -3] } == context && principal is A::B in A::\"c\" };\n")
 unfolding columns unicode_width listing gaps decorate comments lines comment_of_line trim_start
     trim_end chars encode_utf8 slots punctuators without_zeros string_end
 record_and_type = (refl, refl, refl)
 
 -- `if` on its own lines, and an entity
 branches : RowAt 30
-    (parted (codes "permit~(~principal~,~action~,~resource~)~when~{~if~ ~a~::~\"x\"~==~principal~ ~then~ ~true~ ~else~ ~false~}~;"))
-    ((bare closed comma (conds_more (cond_of (t (codes "when")) (t (codes "{")) (if_expr (t (codes
-    "if")) (whole (compare (alone (reference (ref_of (name_one (t (codes "a"))) (t (codes "::"))
+    (pieces
+    (codes
+    "permit~(~principal~,~action~,~resource~)~when~{~if~ ~a~::~\"x\"~==~principal~ ~then~ ~true~ ~else~ ~false~}~;"))
+    ((bare closed comma (conds_more (cond_of (t (codes "when")) (t (codes "{"))
+    (if_expr (t (codes "if")) (whole
+    (compare (alone (reference (ref_of (name_one (t (codes "a"))) (t (codes "::"))
     (t (codes "\"x\""))))) (t (codes "==")) (alone (named (name_one (t (codes "principal")))))))
     (t (codes "then")) (whole (single (lit (t (codes "true"))))) (t (codes "else"))
     (whole (single (lit (t (codes "false")))))) (t (codes "}"))) no_cond) semicolon) ∷ []) ([])
-    (codes "permit\n(principal, action, resource)\nwhen\n{\n  if\n    a::\"x\" == principal\n  then\n    true\n  else\n    false\n};\n")
+    (codes
+    "permit\n(principal, action, resource)\nwhen\n{\n  if\n    a::\"x\" == principal\n  then\n    true\n  else\n    false\n};\n")
 unfolding columns unicode_width listing gaps decorate comments lines comment_of_line trim_start
     trim_end chars encode_utf8 slots punctuators without_zeros string_end
 branches = (refl, refl, refl)
 
 -- an empty list, and a list that loses its trailing comma
 empty_list : RowAt 80
-    (parted (codes "permit~(~principal~,~action~,~resource~)~when~{~[~1~,~2~,~]~==~[~]~}~;"))
+    (pieces (codes "permit~(~principal~,~action~,~resource~)~when~{~[~1~,~2~,~]~==~[~]~}~;"))
     ((bare closed comma (conds_more (cond_of (t (codes "when")) (t (codes "{")) (whole
     (compare (alone (list_of (t (codes "[")) (args_more (whole (single (lit (t (codes "1"))))) comma
     (args_one (whole (single (lit (t (codes "2"))))))) (t (codes "]")))) (t (codes "==")) (alone
@@ -441,7 +411,7 @@ empty_list = (refl, refl, refl)
 -- `&&`, `is` without `in`, an index, a call without arguments,
 -- accesses on lines of their own, and a leading line of a body
 three_conditions : RowAt 30
-    (parted (codes "@~a~ ~permit~(~principal~ ~is~ ~Organisation~::~Member~,~action~,~resource~)~when~{~context~[~\"k\"~]~.~f~(~)~.~first_part~.~second_part~||~principal~ ~is~ ~A~&&~true~&&~false~}~when~{~principal~==~resource~.~f~}~unless~{~\n~// c~\n~true~&&~false~}~;"))
+    (pieces (codes "@~a~ ~permit~(~principal~ ~is~ ~Organisation~::~Member~,~action~,~resource~)~when~{~context~[~\"k\"~]~.~f~(~)~.~first_part~.~second_part~||~principal~ ~is~ ~A~&&~true~&&~false~}~when~{~principal~==~resource~.~f~}~unless~{~\n~// c~\n~true~&&~false~}~;"))
     ((policy_of (annotations_more (annotation_bare (t (codes "@")) (t (codes "a"))) no_annotation)
     (t (codes "permit")) (t (codes "(")) (variable_is (t (codes "principal")) (t (codes "is"))
     (name_more (t (codes "Organisation")) (t (codes "::")) (name_one (t (codes "Member"))))) comma
@@ -467,7 +437,7 @@ unfolding columns unicode_width listing gaps decorate comments lines comment_of_
 three_conditions = (refl, refl, refl)
 
 -- a sum and a product, each broken after its operator
-sum_and_product : Body 4 (parted (codes "1~+~2~*~3")) ((whole (single (add_of (sums_more (mult_of
+sum_and_product : Body 4 (pieces (codes "1~+~2~*~3")) ((whole (single (add_of (sums_more (mult_of
     (products_one (unsigned (member_of (literal (t (codes "1"))) no_access)))) (t (codes "+"))
     (sums_one (mult_of (products_more (unsigned (member_of (literal (t (codes "2"))) no_access)) (t
     (codes "*")) (products_one (unsigned (member_of (literal (t (codes "3"))) no_access)))))))))))
@@ -477,7 +447,7 @@ unfolding columns unicode_width listing gaps decorate comments lines comment_of_
 sum_and_product = (refl, refl)
 
 -- signs, a method call that breaks, and a field after it
-signs_and_accesses : Body 15 (parted (codes "!~!~context~.~b~(~1~)~.~c"))
+signs_and_accesses : Body 15 (pieces (codes "!~!~context~.~b~(~1~)~.~c"))
     ((whole (single (add_of (sums_one (mult_of (products_one (signed (t (codes "!"))
     (signed (t (codes "!")) (unsigned (member_of (named (name_one (t (codes "context"))))
     (field (t (codes ".")) (t (codes "b")) (call (t (codes "(")) (args_one (whole (single
@@ -488,7 +458,7 @@ unfolding columns unicode_width listing gaps decorate comments lines comment_of_
 signs_and_accesses = (refl, refl)
 
 -- an empty record
-empty_record : Body 80 (parted (codes "{~}"))
+empty_record : Body 80 (pieces (codes "{~}"))
     ((whole (single (alone (record_empty (t (codes "{")) (t (codes "}")))))))
     (codes "{}")
 unfolding columns unicode_width listing gaps decorate comments lines comment_of_line trim_start
@@ -496,7 +466,7 @@ unfolding columns unicode_width listing gaps decorate comments lines comment_of_
 empty_record = (refl, refl)
 
 -- a comment in parentheses
-parentheses : Body 80 (parted (codes "(~true~ ~// c~\n~)")) ((whole (single (alone (parens
+parentheses : Body 80 (pieces (codes "(~true~ ~// c~\n~)")) ((whole (single (alone (parens
     (t (codes "(")) (whole (single (lit (with (codes "true") (codes "// c"))))) (t (codes ")")))))))
     (codes "(true // c\n )")
 unfolding columns unicode_width listing gaps decorate comments lines comment_of_line trim_start
@@ -504,23 +474,21 @@ unfolding columns unicode_width listing gaps decorate comments lines comment_of_
 parentheses = (refl, refl)
 
 blank_line_goes : cleaned_text
-    (34 ∷ (codes "x" ++ (34 ∷ (codes " " ++ (10 ∷ (codes " " ++ (10 ∷ (codes " y"))))))))
-    ≡ (34 ∷ (codes "x" ++ (34 ∷ (codes " " ++ (10 ∷ (codes " y"))))))
+    (codes "\"x\" \n \n y")
+    ≡ (codes "\"x\" \n y")
 unfolding trim_start trim_end chars encode_utf8 string_end
 blank_line_goes = refl
 
-quote_in_comment_cleaned : cleaned_text (codes "// " ++ (34
-    ∷ (codes "a" ++ (10 ∷ (10 ∷ (34 ∷ (codes "b" ++ (10 ∷ (10 ∷ (codes "c" ++ (34 ∷ [])))))))))))
-    ≡ (codes "// "
-    ++ (34 ∷ (codes "a" ++ (10 ∷ (34 ∷ (codes "b" ++ (10 ∷ (10 ∷ (codes "c" ++ (34 ∷ []))))))))))
+quote_in_comment_cleaned : cleaned_text (codes "// \"a\n\n\"b\n\nc\"")
+    ≡ (codes "// \"a\n\"b\n\nc\"")
 unfolding trim_start trim_end chars encode_utf8 string_end
 quote_in_comment_cleaned = refl
 
-first_lines_trimmed : cleaned_text (10 ∷ (10 ∷ (codes "a"))) ≡ (codes "a")
+first_lines_trimmed : cleaned_text (codes "\n\na") ≡ (codes "a")
 unfolding trim_start trim_end chars encode_utf8 string_end
 first_lines_trimmed = refl
 
-wide_blank : cleaned_text (codes "a" ++ (10 ∷ (194 ∷ (160 ∷ (10 ∷ (codes "b"))))))
-    ≡ (codes "a" ++ (10 ∷ (codes "b")))
+wide_blank : cleaned_text (codes "a" ++ (line_feed ∷ (194 ∷ (160 ∷ (codes "\nb")))))
+    ≡ (codes "a\nb")
 unfolding trim_start trim_end chars encode_utf8 string_end
 wide_blank = refl

@@ -6,6 +6,7 @@ use Rattle.std.proofs.Math.Seq.{drop-append_seam}
 use Rattle.std.proofs.lemmas.List.{drop-append-le}
 use Rattle.std.proofs.lemmas.Str.{inside_one, encode_ascii}
 use Rattle.std.proofs.lemmas.Bool.{and_parts}
+use Rattle.cedar_tokens.specs.Bytes.{line_feed, slash}
 use Rattle.cedar_tokens.specs.Units.{BeginsWith, IsUnit, blank, comment, token, IsBlank, IsComment, IsToken, IsFirstUnit, is_word_byte, is_comment_byte, is_string_rest, slots, punctuators}
 use Rattle.cedar_tokens.specs.Split.{Scans, SplitsInto}
 use Rattle.cedar_tokens.proofs.Prefixes.{same_head, begins_fits}
@@ -44,7 +45,7 @@ first_within a b u f l = record {
 
 -- no byte is a line feed
 abbrev feedless : List ℕ → Bool
-feedless u = list_all (λ b. not (b == 10)) u
+feedless u = list_all (λ b. not (b == line_feed)) u
 
 slots_feedless : list_all feedless slots ≡ true
 unfolding slots
@@ -54,42 +55,44 @@ punctuators_feedless : list_all feedless punctuators ≡ true
 unfolding punctuators
 punctuators_feedless = refl
 
-no_feed_in : (w v : List ℕ) → feedless (w ++ (10 ∷ v)) ≡ true → ⊥
-no_feed_in w v h = absurd (let e = next_passes (λ b. not (b == 10)) w 10 v h in cc)
+no_feed_in : (w v : List ℕ) → feedless (w ++ (line_feed ∷ v)) ≡ true → ⊥
+no_feed_in w v h = absurd (let e = next_passes (λ b. not (b == line_feed)) w line_feed v h in cc)
 
-pub token_no_feed : (b : ℕ) (w v : List ℕ) → IsToken (b ∷ (w ++ (10 ∷ v)))
-    → (class b ≡ 3) × (is_string_rest (w ++ (10 ∷ v)) ≡ true)
-token_no_feed b w v t = elim (token_of b (w ++ (10 ∷ v)) t) [
-  | word _ a ↦ absurd (let e = next_passes is_word_byte w 10 v a in cc)
-  | number _ a ↦ absurd (let e = next_passes is_ascii_digit w 10 v a in cc)
+pub token_no_feed : (b : ℕ) (w v : List ℕ) → IsToken (b ∷ (w ++ (line_feed ∷ v)))
+    → (class b ≡ 3) × (is_string_rest (w ++ (line_feed ∷ v)) ≡ true)
+token_no_feed b w v t = elim (token_of b (w ++ (line_feed ∷ v)) t) [
+  | word _ a ↦ absurd (let e = next_passes is_word_byte w line_feed v a in cc)
+  | number _ a ↦ absurd (let e = next_passes is_ascii_digit w line_feed v a in cc)
   | string c a ↦ (c, a)
-  | slot _ a ↦ absurd (no_feed_in w v (and_parts (not (b == 10)) _
-      (one_of feedless slots (b ∷ (w ++ (10 ∷ v))) slots_feedless a)).1)
-  | punctuator _ _ a ↦ absurd (no_feed_in w v (and_parts (not (b == 10)) _
-      (one_of feedless punctuators (b ∷ (w ++ (10 ∷ v))) punctuators_feedless a)).1)
+  | slot _ a ↦ absurd (no_feed_in w v (and_parts (not (b == line_feed)) _
+      (one_of feedless slots (b ∷ (w ++ (line_feed ∷ v))) slots_feedless a)).1)
+  | punctuator _ _ a ↦ absurd (no_feed_in w v (and_parts (not (b == line_feed)) _
+      (one_of feedless punctuators (b ∷ (w ++ (line_feed ∷ v))) punctuators_feedless a)).1)
 ]
 
-comment_no_feed : (b : ℕ) (w v : List ℕ) → IsComment (b ∷ (w ++ (10 ∷ v))) → ⊥
-comment_no_feed b [] v k = let p = comment_parts b 10 v k in omega (arith, p.1)
+comment_no_feed : (b : ℕ) (w v : List ℕ) → IsComment (b ∷ (w ++ (line_feed ∷ v))) → ⊥
+comment_no_feed b [] v k = let p = comment_parts b line_feed v k in omega (arith, p.1)
 comment_no_feed b (c ∷ w) v k = absurd
-    (let e = next_passes is_comment_byte w 10 v (comment_parts b c (w ++ (10 ∷ v)) k).2 in cc)
+    (let e = next_passes is_comment_byte w line_feed v
+    (comment_parts b c (w ++ (line_feed ∷ v)) k).2 in cc)
 
-get_feed : (b : ℕ) (w v : List ℕ) → get_or (b ∷ (w ++ (10 ∷ v))) (suc (length w)) 0 ≡ 10
+get_feed : (b : ℕ) (w v : List ℕ) → get_or (b ∷ (w ++ (line_feed ∷ v))) (suc (length w)) 0
+    ≡ line_feed
 get_feed b [] v = refl
 get_feed b (c ∷ w) v = get_feed c w v
 
-blank_no_feed : (b : ℕ) (w v : List ℕ) → IsBlank (b ∷ (w ++ (10 ∷ v))) → ⊥
+blank_no_feed : (b : ℕ) (w v : List ℕ) → IsBlank (b ∷ (w ++ (line_feed ∷ v))) → ⊥
 blank_no_feed b w v k =
     let g = get_feed b w v in
     let l : suc (length w) < length (encode_utf8 k.0) =
-    rw (sym k.2) (omega (arith, length-append w (10 ∷ v))) in
-    let e = inside_one k.0 [] (b ∷ (w ++ (10 ∷ v))) (suc (length w))
+    rw (sym k.2) (omega (arith, length-append w (line_feed ∷ v))) in
+    let e = inside_one k.0 [] (b ∷ (w ++ (line_feed ∷ v))) (suc (length w))
     (k.2 ∙ sym (append-nil (encode_utf8 k.0))) l (omega (arith, g)) in
-    let f : k.0 ≡ 10 = e ∙ g in
-    let h : b ∷ (w ++ (10 ∷ v)) ≡ 10 ∷ [] =
-    k.2 ∙ (ap encode_utf8 f ∙ encode_ascii 10 (omega arith)) in
+    let f : k.0 ≡ line_feed = e ∙ g in
+    let h : b ∷ (w ++ (line_feed ∷ v)) ≡ line_feed ∷ [] =
+    k.2 ∙ (ap encode_utf8 f ∙ encode_ascii line_feed (omega arith)) in
     let n = ap length h in
-    omega (arith, n, length-append w (10 ∷ v))
+    omega (arith, n, length-append w (line_feed ∷ v))
 
 pub string_class : (u : List ℕ) (b : ℕ) → IsUnit (b ∷ u) → class b ≡ 3 → is_string_rest u ≡ true
 string_class u b k c = elim k [
@@ -108,21 +111,21 @@ string_class u b k c = elim k [
     no_comment [] e = absurd cc
     no_comment (d ∷ u) e =
         let p = comment_parts b d u e in
-        let f : class 47 ≡ 3 = rw p.0 at c in
+        let f : class slash ≡ 3 = rw p.0 at c in
         omega (arith, f)
 
 -- a line feed after a text changes none of its units
-pub first_before_feed : (a r u : List ℕ) → IsFirstUnit a u → IsFirstUnit (a ++ (10 ∷ r)) u
+pub first_before_feed : (a r u : List ℕ) → IsFirstUnit a u → IsFirstUnit (a ++ (line_feed ∷ r)) u
 first_before_feed [] r u f =
     absurd (omega (arith, unit_nonempty u f.kind, begins_fits [] u f.begins))
 first_before_feed (b ∷ a) r u f = record {
   kind = f.kind;
   begins = (
-    f.begins.0 ++ (10 ∷ r),
-    ap (λ x. x ++ (10 ∷ r)) f.begins.1 ∙ append_assoc u f.begins.0 (10 ∷ r),
+    f.begins.0 ++ (line_feed ∷ r),
+    ap (λ x. x ++ (line_feed ∷ r)) f.begins.1 ∙ append_assoc u f.begins.0 (line_feed ∷ r),
   );
-  longest = λ v k g. elim (past (b ∷ a) (10 ∷ r) v g) [
-    | inl l ↦ f.longest v k (begins_within (b ∷ a) (10 ∷ r) v g l)
+  longest = λ v k g. elim (past (b ∷ a) (line_feed ∷ r) v g) [
+    | inl l ↦ f.longest v k (begins_within (b ∷ a) (line_feed ∷ r) v g l)
     | inr p ↦ absurd (crosses v k p)
   ];
 }
@@ -133,17 +136,17 @@ first_before_feed (b ∷ a) r u f = record {
     front (d ∷ w) k g c = let s = same_head b d a w g in (w, s.1, string_class w d k (rw s.0 at c))
 
     string_front : (w v : List ℕ) → BeginsWith a w → is_string_rest w ≡ true
-        → is_string_rest (a ++ (10 ∷ v)) ≡ true → ⊥
+        → is_string_rest (a ++ (line_feed ∷ v)) ≡ true → ⊥
     string_front w v g h k = go g.0 g.1
       where
         go : (t : List ℕ) → a ≡ w ++ t → ⊥
-        go [] e = string_then w 10 v h (rw (e, append-nil) at k)
-        go (d ∷ t) e = string_then w d (t ++ (10 ∷ v)) h (rw (e, append_assoc) at k)
+        go [] e = string_then w line_feed v h (rw (e, append-nil) at k)
+        go (d ∷ t) e = string_then w d (t ++ (line_feed ∷ v)) h (rw (e, append_assoc) at k)
 
-    crosses : (v : List ℕ) → IsUnit v → Past (b ∷ a) (10 ∷ r) v → ⊥
+    crosses : (v : List ℕ) → IsUnit v → Past (b ∷ a) (line_feed ∷ r) v → ⊥
     crosses v k p =
-        let feed : 10 ≡ p.next = let e = p.is_rest in cc in
-        let n : IsUnit (b ∷ (a ++ (10 ∷ p.more))) = rw feed (rw p.is at k) in
+        let feed : line_feed ≡ p.next = let e = p.is_rest in cc in
+        let n : IsUnit (b ∷ (a ++ (line_feed ∷ p.more))) = rw feed (rw p.is at k) in
         elim n [
           | blank e ↦ blank_no_feed b a p.more e
           | comment e ↦ comment_no_feed b a p.more e
@@ -153,17 +156,18 @@ first_before_feed (b ∷ a) r u f = record {
 
 -- so a line feed after a text that splits changes nothing
 pub scans_before_feed : (us : List (List ℕ)) (x r : List ℕ) → Scans us x []
-    → Scans us (x ++ (10 ∷ r)) (10 ∷ r)
+    → Scans us (x ++ (line_feed ∷ r)) (line_feed ∷ r)
 scans_before_feed [] x r s = rw s refl
 scans_before_feed (u ∷ us) x r s = (
   first_before_feed x r u s.0,
-  rw (drop-append-le (length u) x (10 ∷ r) (begins_fits x u s.0.begins))
+  rw (drop-append-le (length u) x (line_feed ∷ r) (begins_fits x u s.0.begins))
       (scans_before_feed us (drop (length u) x) r s.1),
 )
 
 -- two texts that split, with a line feed between
 pub splits_join : (us vs : List (List ℕ)) (x y : List ℕ) → SplitsInto x us → SplitsInto y vs
-    → SplitsInto (x ++ (10 ∷ y)) (us ++ ((10 ∷ []) ∷ vs))
+    → SplitsInto (x ++ (line_feed ∷ y)) (us ++ ((line_feed ∷ []) ∷ vs))
 splits_join us vs x y s t =
-    scans_append us ((10 ∷ []) ∷ vs) (x ++ (10 ∷ y)) (10 ∷ y) [] (scans_before_feed us x y s)
-    (scans_unit (10 ∷ []) vs y [] (blank_first (10 ∷ []) y feed_blank) t)
+    scans_append us ((line_feed ∷ []) ∷ vs) (x ++ (line_feed ∷ y)) (line_feed ∷ y) []
+    (scans_before_feed us x y s)
+    (scans_unit (line_feed ∷ []) vs y [] (blank_first (line_feed ∷ []) y feed_blank) t)

@@ -8,6 +8,7 @@ use Rattle.std.proofs.Math.Seq.{drop-append_seam, take-append_seam}
 use Rattle.std.proofs.lemmas.Bool.Decides.{nat_tests}
 use Rattle.std.proofs.lemmas.Str.{IsUtf8-take, IsUtf8-drop, IsUtf8-append, IsUtf8-nil}
 use Rattle.std.proofs.lemmas.Bool.{and_parts, false_from_ne_true}
+use Rattle.cedar_tokens.specs.Bytes.{line_feed, slash}
 use Rattle.cedar_tokens.specs.Units.{IsUnit, blank, comment, token, is_comment, is_comment_byte, IsFirstUnit}
 use Rattle.cedar_tokens.specs.Split.{Scans, SplitsInto}
 use Rattle.cedar_tokens.specs.Listing.{comments}
@@ -17,7 +18,7 @@ use Rattle.cedar_tokens.proofs.CommentLines.{comments_nil, comments_here}
 use Rattle.cedar_tokens.proofs.Gaps.{NoTokens}
 use Rattle.cedar_laws.proofs.Units.{Ended}
 use Rattle.cedar_laws.proofs.Scanned.{first_within}
-use Rattle.cedar_laws.proofs.BlankLines.{blank_no_comment, Parted, parted_parts, comments_pass, blank_no_slash, blank_feed, feedless, feedless_append}
+use Rattle.cedar_laws.proofs.BlankLines.{blank_no_comment, AreUnits, units_parts, comments_pass, blank_no_slash, blank_feed, feedless, feedless_append}
 
 -- ---- UTF-8
 
@@ -53,7 +54,7 @@ comment_then (a ∷ []) r h e = absurd cc
 comment_then (a ∷ (b ∷ v)) r h e =
     let p = comment_parts a b v h in
     let n = line_is v r p.2 e in
-    let k : comments (47 ∷ (47 ∷ (v ++ r))) ≡ trim (47 ∷ (47 ∷ v)) ∷ comments r =
+    let k : comments (slash ∷ (slash ∷ (v ++ r))) ≡ trim (slash ∷ (slash ∷ v)) ∷ comments r =
     comments_here (v ++ r) ∙ rw (n, take-append_seam v r, drop-append_seam v r) refl in
     rw (p.0, p.1) k
 
@@ -78,23 +79,23 @@ ended_after u (d ∷ r) h f = false_from_ne_true (is_comment_byte d)
     (r, sym (append_assoc u (d ∷ []) r)) in omega (arith, l, length-append u (d ∷ [])))
 
 -- units without a token say their text's comments, trimmed
-pub units_comments : (us : List (List ℕ)) → Parted us → NoTokens us
+pub units_comments : (us : List (List ℕ)) → AreUnits us → NoTokens us
     → comments (concat us) ≡ map trim (filter is_comment us)
 units_comments [] p a = comments_nil
 units_comments (u ∷ us) p a = elim p.0.kind [
   | blank k ↦ comments_pass u (concat us) (blank_no_slash u k)
-      ∙ (units_comments us (parted_parts (u ∷ []) us p).1 a.1 ∙ rw (blank_no_comment u k) refl)
+      ∙ (units_comments us (units_parts (u ∷ []) us p).1 a.1 ∙ rw (blank_no_comment u k) refl)
   | comment k ↦ comment_then u (concat us) k (ended_after u (concat us) k p.0)
-      ∙ rw (k, units_comments us (parted_parts (u ∷ []) us p).1 a.1) refl
+      ∙ rw (k, units_comments us (units_parts (u ∷ []) us p).1 a.1) refl
   | token k ↦ absurd (let e = a.0 in cc)
 ]
 
 -- ---- the first line feed
 
 line_feedless : (v : List ℕ) → list_all is_comment_byte v ≡ true → feedless v ≡ true
-line_feedless v h = all_more is_comment_byte (λ x. not (x == 10)) no_feed v h
+line_feedless v h = all_more is_comment_byte (λ x. not (x == line_feed)) no_feed v h
   where
-    no_feed : (x : ℕ) → is_comment_byte x ≡ true → not (x == 10) ≡ true
+    no_feed : (x : ℕ) → is_comment_byte x ≡ true → not (x == line_feed) ≡ true
     no_feed x h = grind (arith, nat_tests)
 
 pub comment_feedless : (u : List ℕ) → is_comment u ≡ true → feedless u ≡ true
@@ -106,21 +107,22 @@ comment_feedless (a ∷ (b ∷ v)) h =
 -- units cut at their first line feed
 pub data AtFeed (us : List (List ℕ)) : Type 0 where
   no_feed : feedless (concat us) ≡ true → AtFeed us
-  at_feed : (fs bs : List (List ℕ)) → us ≡ fs ++ ((10 ∷ []) ∷ bs) → feedless (concat fs) ≡ true
+  at_feed : (fs bs : List (List ℕ)) → us ≡ fs ++ ((line_feed ∷ []) ∷ bs) → feedless (concat fs)
+      ≡ true
       → AtFeed us
 
-pub find_feed : (us : List (List ℕ)) → Parted us → NoTokens us → AtFeed us
+pub find_feed : (us : List (List ℕ)) → AreUnits us → NoTokens us → AtFeed us
 find_feed [] p a = no_feed refl
-find_feed (u ∷ us) p a = go (u_feed p.0.kind) (find_feed us (parted_parts (u ∷ []) us p).1 a.1)
+find_feed (u ∷ us) p a = go (u_feed p.0.kind) (find_feed us (units_parts (u ∷ []) us p).1 a.1)
   where
-    u_feed : IsUnit u → (u ≡ 10 ∷ []) ⊎ (feedless u ≡ true)
+    u_feed : IsUnit u → (u ≡ line_feed ∷ []) ⊎ (feedless u ≡ true)
     u_feed k = elim k [
       | blank e ↦ blank_feed u e
       | comment e ↦ inr (comment_feedless u e)
       | token e ↦ absurd (let f = a.0 in cc)
     ]
 
-    go : (u ≡ 10 ∷ []) ⊎ (feedless u ≡ true) → AtFeed us → AtFeed (u ∷ us)
+    go : (u ≡ line_feed ∷ []) ⊎ (feedless u ≡ true) → AtFeed us → AtFeed (u ∷ us)
     go (inl e) r = at_feed [] us (ap (λ z. z ∷ us) e) refl
     go (inr f) (no_feed h) = no_feed (feedless_append u (concat us) f h)
     go (inr f) (at_feed fs bs e h) =

@@ -9,7 +9,8 @@ use Rattle.std.proofs.lemmas.List.{map-append, nil_from_length}
 use Rattle.std.proofs.lemmas.List.Elements.{filter-append}
 use Rattle.std.proofs.lemmas.Str.{IsUtf8-take, IsUtf8-append, encode_ascii, chars-append, chars-nil, IsCharBoundary-before_ascii, encodes-chars}
 use Rattle.std.proofs.lemmas.Bool.{and_parts, false_from_ne_true, not-true}
-use Rattle.std.proofs.lemmas.List.Folds.{concat-append}
+use Rattle.std.proofs.lemmas.List.Folds.{concat-append, list_all-append}
+use Rattle.cedar_tokens.specs.Bytes.{backslash, line_feed, quote, slash}
 use Rattle.cedar_tokens.specs.Units.{IsBlank, IsToken, IsComment, IsUnit, blank, comment, token, is_token, is_comment, is_comment_byte, is_word_byte, is_string_rest, slots, punctuators}
 use Rattle.cedar_tokens.specs.Split.{Scans}
 use Rattle.cedar_tokens.specs.Listing.{listing, gaps, decorate, comments}
@@ -25,7 +26,7 @@ use Rattle.cedar_laws.proofs.Units.{comment_first, comment_not_token}
 use Rattle.cedar_laws.proofs.Scanned.{scans_unit, scans_append}
 use Rattle.cedar_laws.proofs.Joined.{before_cons, before_join, comments_after_join}
 use Rattle.cedar_laws.proofs.Listed.{gaps_skip, one_token, trim_nil, comment_no_token}
-use Rattle.cedar_laws.proofs.BlankLines.{lined, lined_append, is_feed, token_solid, comment_solid, blank_not_solid, thinned_same, thinned_append, thinned_blanks, blank_no_comment, Parted, parted_parts, AllBlank, blanks_no_token, feedless, feedless_append, chars_low, blank_feed}
+use Rattle.cedar_laws.proofs.BlankLines.{lined, lined_append, is_feed, token_solid, comment_solid, blank_not_solid, thinned_same, thinned_append, thinned_blanks, blank_no_comment, AreUnits, units_parts, AllBlank, blanks_no_token, feedless, feedless_append, chars_low, blank_feed}
 use Rattle.cedar_laws.proofs.TrimmedUnits.{trim_blank, front_blank_goes, before_free, after_free, blanks_after, same_front, token_end}
 use Rattle.cedar_laws.proofs.Ends.{trim_back, chars_trim, trim_utf8, StartsBlack, trimmed_tail, trim_same, drop_twice, drop_after, stays_black}
 use Rattle.cedar_laws.proofs.Spaces.{concat_utf8, units_comments, comment_feedless, AtFeed, no_feed, at_feed, find_feed, scans_shorter}
@@ -72,15 +73,15 @@ ends_quote : (v : List ℕ) (escaped : Bool) → rest_test escaped v ≡ true �
 ends_quote [] true h = absurd cc
 ends_quote [] false h = absurd cc
 ends_quote (b ∷ v) true h =
-    ends_more b v (ends_quote v false (and_parts (not (b == 10)) (is_string_rest v) h).1)
-ends_quote (b ∷ v) false h = go (b == 34) refl (ends_quote v)
+    ends_more b v (ends_quote v false (and_parts (not (b == line_feed)) (is_string_rest v) h).1)
+ends_quote (b ∷ v) false h = go (b == quote) refl (ends_quote v)
   where
-    go : (x : Bool) → (b == 34) ≡ x → ((y : Bool) → rest_test y v ≡ true → EndsBlack v)
+    go : (x : Bool) → (b == quote) ≡ x → ((y : Bool) → rest_test y v ≡ true → EndsBlack v)
         → EndsBlack (b ∷ v)
     go true e ih =
         let z = nil_from_length v ((Decides-eqb (length v) 0).0 (rw e at h)) in
-        ([], b, rw ((Decides-eqb b 34).0 e) refl, rw z refl)
-    go false e ih = ends_more b v (ih (b == 92) (sym (rest_of b v e) ∙ h))
+        ([], b, rw ((Decides-eqb b quote).0 e) refl, rw z refl)
+    go false e ih = ends_more b v (ih (b == backslash) (sym (rest_of b v e) ∙ h))
 
 token_ends : (b : ℕ) (v : List ℕ) → IsToken (b ∷ v) → EndsBlack (b ∷ v)
 token_ends b v t =
@@ -146,36 +147,41 @@ all_front (b ∷ x) y h =
     let p = and_parts (is_comment_byte b) (list_all is_comment_byte (x ++ y)) h in
     rw p.0 (all_front x y p.1)
 
-slashes_cut : (v : List ℕ) → list_all is_comment_byte v ≡ true → IsUtf8 (47 ∷ (47 ∷ v))
-    → CommentCut (47 ∷ (47 ∷ v))
+slashes_cut : (v : List ℕ) → list_all is_comment_byte v ≡ true → IsUtf8 (slash ∷ (slash ∷ v))
+    → CommentCut (slash ∷ (slash ∷ v))
 slashes_cut v h u =
-    let k = 47 ∷ (47 ∷ v) in
-    let c : chars k ≡ 47 ∷ (47 ∷ chars v) =
-    chars_low 47 (47 ∷ v) (omega arith) ∙ ap (λ z. 47 ∷ z) (chars_low 47 v (omega arith)) in
+    let k = slash ∷ (slash ∷ v) in
+    let c : chars k ≡ slash ∷ (slash ∷ chars v) =
+    chars_low slash (slash ∷ v) (omega arith)
+    ∙ ap (λ z. slash ∷ z) (chars_low slash v (omega arith)) in
     let s : StartsBlack k = rw c refl in
     let t = trimmed_tail k u s in
     let ds = drop_trailing_whitespace (chars v) in
-    let d : drop_trailing_whitespace (47 ∷ (47 ∷ chars v)) ≡ 47 ∷ (47 ∷ ds) =
-    stays_black 47 (47 ∷ chars v) refl ∙ ap (λ z. 47 ∷ z) (stays_black 47 (chars v) refl) in
-    let e : chars (trim k) ≡ 47 ∷ (47 ∷ ds) =
+    let d : drop_trailing_whitespace (slash ∷ (slash ∷ chars v)) ≡ slash ∷ (slash ∷ ds) =
+    stays_black slash (slash ∷ chars v) refl
+    ∙ ap (λ z. slash ∷ z) (stays_black slash (chars v) refl) in
+    let e : chars (trim k) ≡ slash ∷ (slash ∷ ds) =
     chars_trim k u ∙ (ap drop_trailing_whitespace (s ∙ c) ∙ d) in
-    let f : trim k ≡ 47 ∷ (47 ∷ encode_utf8_all ds) = sym (encodes-chars (trim k) (trim_utf8 k u))
-    ∙ (ap encode_utf8_all e ∙ rw (encode_ascii 47 (omega arith)) refl) in
+    let f : trim k ≡ slash ∷ (slash ∷ encode_utf8_all ds) =
+    sym (encodes-chars (trim k) (trim_utf8 k u))
+    ∙ (ap encode_utf8_all e ∙ rw (encode_ascii slash (omega arith)) refl) in
     let g : v ≡ encode_utf8_all ds ++ concat t.0 =
-    let q : 47 ∷ (47 ∷ v) ≡ 47 ∷ (47 ∷ (encode_utf8_all ds ++ concat t.0)) =
+    let q : slash ∷ (slash ∷ v) ≡ slash ∷ (slash ∷ (encode_utf8_all ds ++ concat t.0)) =
     t.2 ∙ ap (λ z. z ++ concat t.0) f in cc in
-    let stay : drop_trailing_whitespace (47 ∷ (47 ∷ ds)) ≡ 47 ∷ (47 ∷ ds) =
-    stays_black 47 (47 ∷ ds) refl
-    ∙ ap (λ z. 47 ∷ z) (stays_black 47 ds refl ∙ ap (λ z. 47 ∷ z) (drop_twice (chars v))) in
+    let stay : drop_trailing_whitespace (slash ∷ (slash ∷ ds)) ≡ slash ∷ (slash ∷ ds) =
+    stays_black slash (slash ∷ ds) refl
+    ∙ ap (λ z. slash ∷ z) (stays_black slash ds refl
+    ∙ ap (λ z. slash ∷ z) (drop_twice (chars v))) in
     record {
       blanks = t.0;
       are_blank = t.1;
       is = t.2;
       comment = rw f (all_front (encode_utf8_all ds) (concat t.0) (rw g at h));
       utf8 = trim_utf8 k u;
-      black = record { first = 47; rest = 47 ∷ ds; is = e; stays = stay };
+      black = record { first = 47; rest = slash ∷ ds; is = e; stays = stay };
       once =
-          trim_same [] (trim k) 47 (47 ∷ ds) ([], (refl, refl)) (trim_utf8 k u) (rw e refl) e stay;
+          trim_same [] (trim k) slash (slash ∷ ds) ([], (refl, refl)) (trim_utf8 k u)
+          (rw e refl) e stay;
     }
 
 pub comment_cut : (k : List ℕ) → is_comment k ≡ true → IsUtf8 k → CommentCut k
@@ -183,7 +189,7 @@ comment_cut [] h u = absurd cc
 comment_cut (a ∷ []) h u = absurd cc
 comment_cut (a ∷ (b ∷ v)) h u =
     let p = comment_parts a b v h in
-    let e : a ∷ (b ∷ v) ≡ 47 ∷ (47 ∷ v) = rw (p.0, p.1) refl in
+    let e : a ∷ (b ∷ v) ≡ slash ∷ (slash ∷ v) = rw (p.0, p.1) refl in
     subst (λ z. CommentCut z) (sym e) (slashes_cut v p.2 (subst (λ z. IsUtf8 z) e u))
 
 -- ---- a shorter comment at the end says the same
@@ -202,7 +208,7 @@ record BlankFront (bs : List (List ℕ)) : Type 0 where
 blank_front : (bs : List (List ℕ)) → AllBlank bs → BlankFront bs
 blank_front [] a = record { front = []; are_blank = tt; is = refl }
 blank_front (u ∷ bs) a = elim (blank_feed u a.0) [
-  | inl e ↦ record { front = []; are_blank = tt; is = rw e (before_cons 10 (concat bs)) }
+  | inl e ↦ record { front = []; are_blank = tt; is = rw e (before_cons line_feed (concat bs)) }
   | inr f ↦ more (blank_front bs a.1) f
 ]
   where
@@ -224,7 +230,7 @@ record End (k : List ℕ) (bs : List (List ℕ)) : Type 0 where
   blanks : AllBlank bs
 
 end_comments : (cs bs : List (List ℕ)) (k : List ℕ) → End k bs → NoTokens cs
-    → Parted (cs ++ (k ∷ bs)) → Parted (cs ++ (trim k ∷ []))
+    → AreUnits (cs ++ (k ∷ bs)) → AreUnits (cs ++ (trim k ∷ []))
     → comments (concat (cs ++ (trim k ∷ []))) ≡ comments (concat (cs ++ (k ∷ bs)))
 end_comments cs bs k e n p q =
     let l : comments (concat (cs ++ (trim k ∷ [])))
@@ -257,25 +263,26 @@ after_none x h = ap (λ z. comments (after_newline z)) (sym (append-nil x))
     ∙ (ap comments (after_free x [] h) ∙ comments_nil)
 
 says : (cs bs : List (List ℕ)) (k : List ℕ) → End k bs → NoTokens cs → IsUtf8 (concat cs)
-    → Parted (cs ++ (k ∷ bs)) → Parted (cs ++ (trim k ∷ []))
+    → AreUnits (cs ++ (k ∷ bs)) → AreUnits (cs ++ (trim k ∷ []))
     → Says (concat (cs ++ (trim k ∷ []))) (concat (cs ++ (k ∷ bs)))
 says cs bs k e n u p q =
-    let r = by_feed (find_feed cs (parted_parts cs (k ∷ bs) p).0 n) in
+    let r = by_feed (find_feed cs (units_parts cs (k ∷ bs) p).0 n) in
     (end_comments cs bs k e n p q, r.0, r.1)
   where
     by_feed : AtFeed cs → (trim (before_newline (concat (cs ++ (trim k ∷ []))))
         ≡ trim (before_newline (concat (cs ++ (k ∷ bs))))) × (comments (after_newline
         (concat (cs ++ (trim k ∷ [])))) ≡ comments (after_newline (concat (cs ++ (k ∷ bs)))))
     by_feed (at_feed fs ds a f) =
-        let split : (zs : List (List ℕ)) → cs ++ zs ≡ fs ++ ((10 ∷ []) ∷ (ds ++ zs)) =
-        λ zs. ap (λ z. z ++ zs) a ∙ append_assoc fs ((10 ∷ []) ∷ ds) zs in
+        let split : (zs : List (List ℕ)) → cs ++ zs ≡ fs ++ ((line_feed ∷ []) ∷ (ds ++ zs)) =
+        λ zs. ap (λ z. z ++ zs) a ∙ append_assoc fs ((line_feed ∷ []) ∷ ds) zs in
         let text : (zs : List (List ℕ))
-        → concat (cs ++ zs) ≡ concat fs ++ (10 ∷ concat (ds ++ zs)) =
-        λ zs. ap concat (split zs) ∙ concat-append fs ((10 ∷ []) ∷ (ds ++ zs)) in
-        let part : (zs : List (List ℕ)) → Parted (cs ++ zs) → Parted (ds ++ zs) =
-        λ zs w. (parted_parts ((10 ∷ []) ∷ []) (ds ++ zs)
-        (parted_parts fs ((10 ∷ []) ∷ (ds ++ zs)) (subst (λ z. Parted z) (split zs) w)).1).1 in
-        let m : NoTokens ds = (All-parts (λ u. is_token u ≡ false) fs ((10 ∷ []) ∷ ds)
+        → concat (cs ++ zs) ≡ concat fs ++ (line_feed ∷ concat (ds ++ zs)) =
+        λ zs. ap concat (split zs) ∙ concat-append fs ((line_feed ∷ []) ∷ (ds ++ zs)) in
+        let part : (zs : List (List ℕ)) → AreUnits (cs ++ zs) → AreUnits (ds ++ zs) =
+        λ zs w. (units_parts ((line_feed ∷ []) ∷ []) (ds ++ zs)
+        (units_parts fs ((line_feed ∷ []) ∷ (ds ++ zs))
+        (subst (λ z. AreUnits z) (split zs) w)).1).1 in
+        let m : NoTokens ds = (All-parts (λ u. is_token u ≡ false) fs ((line_feed ∷ []) ∷ ds)
         (subst (λ z. NoTokens z) a n)).1.1 in (
           ap trim (ap before_newline (text (trim k ∷ []))
               ∙ (before_join (concat fs) (concat (ds ++ (trim k ∷ []))) ∙ sym (ap before_newline
@@ -339,7 +346,7 @@ tokenless_gaps us n = ap gaps (sym (append-nil us))
     ∙ (gaps_skip us [] n ∙ ap (λ z. record { first = z; tokens = [] }) (append-nil (concat us)))
 
 end_listing : (vs bs : List (List ℕ)) (k : List ℕ) → End k bs → AllByRecursion IsUtf8 vs
-    → Parted (vs ++ (k ∷ bs)) → Parted (vs ++ (trim k ∷ []))
+    → AreUnits (vs ++ (k ∷ bs)) → AreUnits (vs ++ (trim k ∷ []))
     → listing (vs ++ (trim k ∷ [])) ≡ listing (vs ++ (k ∷ bs))
 unfolding listing decorate
 end_listing vs bs k e u p q = go (find_token vs)
@@ -360,9 +367,9 @@ end_listing vs bs k e u p q = go (find_token vs)
     go (last_token fs cs w a t n) =
         let split : (zs : List (List ℕ)) → vs ++ zs ≡ fs ++ (w ∷ (cs ++ zs)) =
         λ zs. ap (λ z. z ++ zs) a ∙ append_assoc fs (w ∷ cs) zs in
-        let part : (zs : List (List ℕ)) → Parted (vs ++ zs) → Parted (cs ++ zs) =
-        λ zs v. (parted_parts (w ∷ []) (cs ++ zs)
-        (parted_parts fs (w ∷ (cs ++ zs)) (subst (λ z. Parted z) (split zs) v)).1).1 in
+        let part : (zs : List (List ℕ)) → AreUnits (vs ++ zs) → AreUnits (cs ++ zs) =
+        λ zs v. (units_parts (w ∷ []) (cs ++ zs)
+        (units_parts fs (w ∷ (cs ++ zs)) (subst (λ z. AreUnits z) (split zs) v)).1).1 in
         let utf8 : AllByRecursion IsUtf8 cs =
         (All-parts IsUtf8 fs (w ∷ cs) (subst (λ z. AllByRecursion IsUtf8 z) a u)).1.1 in
         let s = says cs bs k e n (concat_utf8 cs utf8) (part (k ∷ bs) p) (part (trim k ∷ []) q) in
@@ -387,7 +394,7 @@ pub record Trims (us : List (List ℕ)) : Type 0 where
   pub last : units ≡ with_last_trimmed rest
   pub thinned : Thinned us rest
   pub is : concat units ≡ trim (concat us)
-  pub parted : Parted units
+  pub are_units : AreUnits units
   pub list : listing units ≡ listing us
   pub once : trim (concat units) ≡ concat units
   pub keeps : (p : List ℕ → Bool) → ((u : List ℕ) → is_comment u ≡ true → p u ≡ true)
@@ -447,20 +454,6 @@ thinned_end : (vs bs : List (List ℕ)) (k : List ℕ) → AllBlank bs
     → Thinned (vs ++ (k ∷ bs)) (vs ++ (k ∷ []))
 thinned_end vs bs k a =
     thinned_append (thinned_same vs) (unit_stays k (thinned_blanks bs a no_units (append-nil bs)))
-
-all_parts : (p : List ℕ → Bool) (xs ys : List (List ℕ)) → list_all p (xs ++ ys) ≡ true
-    → (list_all p xs ≡ true) × (list_all p ys ≡ true)
-all_parts p [] ys h = (refl, h)
-all_parts p (x ∷ xs) ys h =
-    let a = and_parts (p x) (list_all p (xs ++ ys)) h in
-    let r = all_parts p xs ys a.1 in
-    (rw a.0 r.0, r.1)
-
-all_join : (p : List ℕ → Bool) (xs ys : List (List ℕ)) → list_all p xs ≡ true → list_all p ys ≡ true
-    → list_all p (xs ++ ys) ≡ true
-all_join p [] ys h k = k
-all_join p (x ∷ xs) ys h k =
-    let a = and_parts (p x) (list_all p xs) h in rw a.0 (all_join p xs ys a.1 k)
 
 -- a front of a text begins as the text does
 starts : (y z : List ℕ) (b : ℕ) (x : List ℕ) → y ++ z ≡ b ∷ x → 0 < length y → 0 < class b
@@ -536,7 +529,7 @@ token_no_comment : (k : List ℕ) → IsToken k → is_comment k ≡ false
 token_no_comment k t = false_from_ne_true (is_comment k) (λ e. comment_not_token k e t)
 
 by_token : (vs bs : List (List ℕ)) (k : List ℕ) (b : ℕ) (y : List ℕ) → IsToken k → AllBlank bs
-    → Parted (vs ++ (k ∷ bs)) → AllByRecursion IsUtf8 (vs ++ (k ∷ bs))
+    → AreUnits (vs ++ (k ∷ bs)) → AllByRecursion IsUtf8 (vs ++ (k ∷ bs))
     → concat (vs ++ (k ∷ bs)) ≡ b ∷ y → 0 < class b → Trims (vs ++ (k ∷ bs))
 by_token vs bs k b y t a p u e h =
     let w = All-parts IsUtf8 vs (k ∷ bs) u in
@@ -545,7 +538,7 @@ by_token vs bs k b y t a p u e h =
     (concat-append vs (k ∷ bs) ∙ sym (append_assoc (concat vs) k (concat bs))) e h in
     let f : concat (vs ++ (k ∷ [])) ≡ concat vs ++ k =
     concat-append vs (k ∷ []) ∙ ap (λ z. concat vs ++ z) (append-nil k) in
-    let g = token_end vs bs k t a (subst (λ z. Parted z) (sym (append_assoc vs (k ∷ []) bs)) p) in
+    let g = token_end vs bs k t a (subst (λ z. AreUnits z) (sym (append_assoc vs (k ∷ []) bs)) p) in
     record {
       rest = vs ++ (k ∷ []);
       units = vs ++ (k ∷ []);
@@ -553,15 +546,16 @@ by_token vs bs k b y t a p u e h =
       thinned = thinned_end vs bs k a;
       stays_lined = λ e l. lined_last vs bs k k e (token_solid k t) l;
       is = f ∙ c.0;
-      parted = g.0;
+      are_units = g.0;
       list = g.1;
       once = ap trim f ∙ (c.1 ∙ sym f);
-      keeps = λ q m n. let r = all_parts q vs (k ∷ bs) n in
-          all_join q vs (k ∷ []) r.0 (rw (and_parts (q k) (list_all q bs) r.1).0 refl);
+      keeps = λ q m n. let r = and_parts (list_all q vs) (list_all q (k ∷ bs))
+          (sym (list_all-append q vs (k ∷ bs)) ∙ n) in
+          list_all-append q vs (k ∷ []) ∙ rw (r.0, (and_parts (q k) (list_all q bs) r.1).0) refl;
     }
 
 by_comment : (vs bs : List (List ℕ)) (k : List ℕ) (b : ℕ) (y : List ℕ) → is_comment k ≡ true
-    → AllBlank bs → Parted (vs ++ (k ∷ bs)) → AllByRecursion IsUtf8 (vs ++ (k ∷ bs))
+    → AllBlank bs → AreUnits (vs ++ (k ∷ bs)) → AllByRecursion IsUtf8 (vs ++ (k ∷ bs))
     → concat (vs ++ (k ∷ bs)) ≡ b ∷ y → 0 < class b → Trims (vs ++ (k ∷ bs))
 by_comment vs bs k b y t a p u e h =
     let w = All-parts IsUtf8 vs (k ∷ bs) u in
@@ -586,7 +580,7 @@ by_comment vs bs k b y t a p u e h =
     let one : Scans (trim k ∷ []) (trim k) [] =
     subst (λ z. Scans (trim k ∷ []) z []) (append-nil (trim k))
     (scans_unit (trim k) [] [] [] (comment_first (trim k) [] m.comment tt) refl) in
-    let g : Parted (vs ++ (trim k ∷ [])) = subst (λ z. Scans (vs ++ (trim k ∷ [])) z []) (sym f)
+    let g : AreUnits (vs ++ (trim k ∷ [])) = subst (λ z. Scans (vs ++ (trim k ∷ [])) z []) (sym f)
     (scans_append vs (trim k ∷ []) (concat vs ++ trim k) (trim k) []
     (scans_shorter vs (trim k) (concat m.blanks ++ concat bs) s) one) in
     record {
@@ -596,23 +590,24 @@ by_comment vs bs k b y t a p u e h =
       thinned = thinned_end vs bs k a;
       stays_lined = λ e l. lined_last vs bs k (trim k) e (comment_solid (trim k) m.comment) l;
       is = f ∙ c.0;
-      parted = g;
+      are_units = g;
       list = end_listing vs bs k n w.0 p g;
       once = ap trim f ∙ (c.1 ∙ sym f);
-      keeps = λ q d l. let r = all_parts q vs (k ∷ bs) l in
-          all_join q vs (trim k ∷ []) r.0 (rw (d (trim k) m.comment) refl);
+      keeps = λ q d l. let r = and_parts (list_all q vs) (list_all q (k ∷ bs))
+          (sym (list_all-append q vs (k ∷ bs)) ∙ l) in
+          list_all-append q vs (trim k ∷ []) ∙ rw (r.0, d (trim k) m.comment) refl;
     }
 
-by_last : (us : List (List ℕ)) (b : ℕ) (y : List ℕ) → Parted us → AllByRecursion IsUtf8 us
+by_last : (us : List (List ℕ)) (b : ℕ) (y : List ℕ) → AreUnits us → AllByRecursion IsUtf8 us
     → concat us ≡ b ∷ y → 0 < class b → Last us → Trims us
 by_last us b y p u e h l = subst (λ z. Trims z) (sym l.is) (elim l.kind [
-  | inl k ↦ by_comment l.front l.blanks l.last b y k l.are_blank (subst (λ z. Parted z) l.is p)
+  | inl k ↦ by_comment l.front l.blanks l.last b y k l.are_blank (subst (λ z. AreUnits z) l.is p)
       (subst (λ z. AllByRecursion IsUtf8 z) l.is u) (ap concat (sym l.is) ∙ e) h
-  | inr k ↦ by_token l.front l.blanks l.last b y k l.are_blank (subst (λ z. Parted z) l.is p)
+  | inr k ↦ by_token l.front l.blanks l.last b y k l.are_blank (subst (λ z. AreUnits z) l.is p)
       (subst (λ z. AllByRecursion IsUtf8 z) l.is u) (ap concat (sym l.is) ∙ e) h
 ])
 
-pub trims : (us : List (List ℕ)) → Parted us → AllByRecursion IsUtf8 us → Trims us
+pub trims : (us : List (List ℕ)) → AreUnits us → AllByRecursion IsUtf8 us → Trims us
 trims [] p a = record {
   rest = [];
   units = [];
@@ -620,15 +615,15 @@ trims [] p a = record {
   thinned = no_units;
   stays_lined = λ e l. (e, l);
   is = sym trim_nil;
-  parted = p;
+  are_units = p;
   list = refl;
   once = trim_nil;
   keeps = λ q m n. refl;
 }
 trims (u ∷ us) p a = elim p.0.kind [
-  | blank k ↦ front k (trims us (parted_parts (u ∷ []) us p).1 a.1)
-  | comment k ↦ behind u p a (comment k) (comment_class u k)
-  | token k ↦ behind u p a (token k) (inner_class u k)
+  | blank k ↦ front k (trims us (units_parts (u ∷ []) us p).1 a.1)
+  | comment k ↦ following u p a (comment k) (comment_class u k)
+  | token k ↦ following u p a (token k) (inner_class u k)
 ]
   where
     front : IsBlank u → Trims us → Trims (u ∷ us)
@@ -641,7 +636,7 @@ trims (u ∷ us) p a = elim p.0.kind [
           thinned = blank_goes u k r.thinned;
           stays_lined = λ e l. let d = lined_after u us e k l in r.stays_lined d.0 d.1;
           is = r.is ∙ sym (trim_blank u (concat us) k);
-          parted = r.parted;
+          are_units = r.are_units;
           list = r.list ∙ g.1;
           once = r.once;
           keeps = λ q m n. r.keeps q m (and_parts (q u) (list_all q us) n).1;
@@ -658,9 +653,9 @@ trims (u ∷ us) p a = elim p.0.kind [
     inner_class [] k = absurd (no_empty_token k)
     inner_class (c ∷ v) k = (c, v, refl, token_class c v (token_of c v k))
 
-    behind : (u : List ℕ) → Parted (u ∷ us) → AllByRecursion IsUtf8 (u ∷ us) → IsUnit u
+    following : (u : List ℕ) → AreUnits (u ∷ us) → AllByRecursion IsUtf8 (u ∷ us) → IsUnit u
         → ((b : ℕ) × (y : List ℕ) × (u ≡ b ∷ y) × (0 < class b)) → Trims (u ∷ us)
-    behind u p a k o = elim (last_of (u ∷ us) (all_units (u ∷ us) (concat (u ∷ us)) [] p)) [
+    following u p a k o = elim (last_of (u ∷ us) (all_units (u ∷ us) (concat (u ∷ us)) [] p)) [
       | inr l ↦ by_last (u ∷ us) o.0 (o.1 ++ concat us) p a (ap (λ z. z ++ concat us) o.2) o.3 l
       | inl b ↦ absurd (let q : IsBlank (o.0 ∷ o.1) = subst (λ z. IsBlank z) o.2 b.0 in
           omega (arith, o.3, class-blank o.0 o.1 q))

@@ -2,9 +2,10 @@
 use Rattle.std.proofs.Common.{◌≡◌, ℕ, Bool, true, false, List, [], ◌∷◌, ◌++◌, refl, ap, sym, ◌∙◌, append-nil}
 use Rattle.std.specs.List.{concat}
 use Rattle.std.specs.Str.{trim, trim_start}
+use Rattle.cedar_tokens.specs.Bytes.{line_feed}
 use Rattle.cedar_tokens.specs.Units.{IsBlank, is_token}
 use Rattle.cedar_tokens.specs.Listing.{listing, gaps, decorate, comments}
-use Rattle.cedar_laws.proofs.BlankLines.{chars_blank, Parted, parted_parts, blank_no_token, comments_pass, blank_no_slash, AllBlank}
+use Rattle.cedar_laws.proofs.BlankLines.{chars_blank, AreUnits, units_parts, blank_no_token, comments_pass, blank_no_slash, AllBlank}
 use Rattle.cedar_laws.proofs.Listed.{decorate_same, gaps_skip}
 use Rattle.std.proofs.Common.{ℕ, inl, inr, cond, not, ◌==◌}
 use Rattle.std.proofs.lemmas.Bool.{and_parts, not-true}
@@ -19,11 +20,11 @@ pub trim_blank : (u x : List ℕ) → IsBlank u → trim (u ++ x) ≡ trim x
 unfolding trim_start
 trim_blank u x k = rw (chars_blank u x k, k.1) refl
 
-pub front_blank_goes : (u : List ℕ) (us : List (List ℕ)) → IsBlank u → Parted (u ∷ us)
-    → Parted us × (listing us ≡ listing (u ∷ us))
+pub front_blank_goes : (u : List ℕ) (us : List (List ℕ)) → IsBlank u → AreUnits (u ∷ us)
+    → AreUnits us × (listing us ≡ listing (u ∷ us))
 unfolding listing gaps
 front_blank_goes u us k p = (
-  (parted_parts (u ∷ []) us p).1,
+  (units_parts (u ∷ []) us p).1,
   rw (blank_no_token u k) (decorate_same (gaps us).first (u ++ (gaps us).first) (gaps us).tokens
       (sym (comments_pass u (gaps us).first (blank_no_slash u k)))),
 )
@@ -33,19 +34,19 @@ pub before_free : (u x : List ℕ) → feedless u ≡ true
     → before_newline (u ++ x) ≡ u ++ before_newline x
 before_free [] x h = refl
 before_free (b ∷ u) x h =
-    let p = and_parts (not (b == 10)) (feedless u) h in
-    before_cons b (u ++ x) ∙ rw (not-true (b == 10) p.0, before_free u x p.1) refl
+    let p = and_parts (not (b == line_feed)) (feedless u) h in
+    before_cons b (u ++ x) ∙ rw (not-true (b == line_feed) p.0, before_free u x p.1) refl
 
 pub after_free : (u x : List ℕ) → feedless u ≡ true → after_newline (u ++ x) ≡ after_newline x
 after_free [] x h = refl
 after_free (b ∷ u) x h =
-    let p = and_parts (not (b == 10)) (feedless u) h in
-    after_cons b (u ++ x) ∙ rw (not-true (b == 10) p.0, after_free u x p.1) refl
+    let p = and_parts (not (b == line_feed)) (feedless u) h in
+    after_cons b (u ++ x) ∙ rw (not-true (b == line_feed) p.0, after_free u x p.1) refl
 
 blanks_before : (bs : List (List ℕ)) → AllBlank bs → trim (before_newline (concat bs)) ≡ trim []
 blanks_before [] a = refl
 blanks_before (u ∷ bs) a = elim (blank_feed u a.0) [
-  | inl e ↦ rw e (ap trim (before_cons 10 (concat bs)))
+  | inl e ↦ rw e (ap trim (before_cons line_feed (concat bs)))
   | inr f ↦ ap trim (before_free u (concat bs) f)
       ∙ (trim_blank u (before_newline (concat bs)) a.0 ∙ blanks_before bs a.1)
 ]
@@ -53,7 +54,7 @@ blanks_before (u ∷ bs) a = elim (blank_feed u a.0) [
 pub blanks_after : (bs : List (List ℕ)) → AllBlank bs → comments (after_newline (concat bs)) ≡ []
 blanks_after [] a = comments_nil
 blanks_after (u ∷ bs) a = elim (blank_feed u a.0) [
-  | inl e ↦ rw e (ap comments (after_cons 10 (concat bs)) ∙ blanks_no_comment bs a.1)
+  | inl e ↦ rw e (ap comments (after_cons line_feed (concat bs)) ∙ blanks_no_comment bs a.1)
   | inr f ↦ ap comments (after_free u (concat bs) f) ∙ blanks_after bs a.1
 ]
 
@@ -91,12 +92,12 @@ same_front (u ∷ vs) xs ys e h = go (is_token u) (same_front vs xs ys e h)
 
 -- blanks after the last token are removed
 pub token_end : (vs bs : List (List ℕ)) (k : List ℕ) → is_token k ≡ true → AllBlank bs
-    → Parted ((vs ++ (k ∷ [])) ++ bs)
-    → Parted (vs ++ (k ∷ [])) × (listing (vs ++ (k ∷ [])) ≡ listing (vs ++ (k ∷ bs)))
+    → AreUnits ((vs ++ (k ∷ [])) ++ bs)
+    → AreUnits (vs ++ (k ∷ [])) × (listing (vs ++ (k ∷ [])) ≡ listing (vs ++ (k ∷ bs)))
 unfolding listing gaps decorate
 token_end vs bs k h a p =
     let g : gaps bs ≡ record { first = concat bs ++ []; tokens = [] } =
     ap gaps (sym (append-nil bs)) ∙ gaps_skip bs [] (blanks_no_token bs a) in
     let w = same_front vs (k ∷ []) (k ∷ bs) (rw h refl) (λ f.
     rw (h, g, append-nil (concat bs), blanks_before bs a, blanks_after bs a, comments_nil) refl) in
-    ((parted_parts (vs ++ (k ∷ [])) bs p).0, rw w.0 (w.1 (gaps (vs ++ (k ∷ bs))).first))
+    ((units_parts (vs ++ (k ∷ [])) bs p).0, rw w.0 (w.1 (gaps (vs ++ (k ∷ bs))).first))

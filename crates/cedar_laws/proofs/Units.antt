@@ -6,6 +6,7 @@ use Rattle.std.specs.Char.{is_ascii_digit, encode_utf8}
 use Rattle.std.proofs.lemmas.Bool.Decides.{nat_tests}
 use Rattle.std.proofs.lemmas.Str.{encode_ascii, encode_same}
 use Rattle.std.proofs.lemmas.Bool.{and_parts, or_cases, both_ways, not-true}
+use Rattle.cedar_tokens.specs.Bytes.{line_feed, slash, space_character}
 use Rattle.cedar_tokens.specs.Units.{BeginsWith, IsUnit, blank, comment, token, IsBlank, IsComment, IsToken, IsFirstUnit, is_word_start, is_word_byte, is_comment_byte, is_string_rest, is_one_of, slots, punctuators}
 use Rattle.cedar_tokens.proofs.Prefixes.{same_head}
 use Rattle.cedar_tokens.proofs.Heads.{class, class-blank, word, number, string, slot, punctuator, token_of, one_of, no_empty_token}
@@ -14,6 +15,7 @@ use Rattle.cedar_tokens.proofs.Longest.{clash, slot_is}
 use Rattle.cedar_tokens.proofs.FirstUnit.{comment_parts, token_class, no_empty_blank}
 use Rattle.cedar_laws.specs.Neighbours.{glues}
 use Rattle.cedar_layout.specs.Cleaning.{last_byte_or}
+use Rattle.cedar_grammar.proofs.Texts.Tests.{word_starts}
 
 -- what begins w ++ r lies within w or extends beyond it
 pub record Past (w r v : List ℕ) : Type 0 where
@@ -55,9 +57,6 @@ word_start_byte b h = grind (arith, nat_tests)
 digit_byte : (b : ℕ) → is_ascii_digit b ≡ true → is_word_byte b ≡ true
 digit_byte b h = grind (arith, nat_tests)
 
-word_of_class : (b : ℕ) → class b ≡ 1 → is_word_start b ≡ true
-word_of_class b h = grind (arith, nat_tests)
-
 pub last_passes : (p : ℕ → Bool) (b : ℕ) (w : List ℕ) → p b ≡ true → list_all p w ≡ true
     → p (last_byte_or b w) ≡ true
 last_passes p b [] h k = h
@@ -81,7 +80,7 @@ unfolding punctuators
 pairs_glue = refl
 
 abbrev pub no_slashes : List ℕ → Bool
-no_slashes (a ∷ (d ∷ v)) = not (a == 47 && d == 47)
+no_slashes (a ∷ (d ∷ v)) = not (a == slash && d == slash)
 no_slashes _ = true
 
 pub punctuators_no_slashes : list_all no_slashes punctuators ≡ true
@@ -135,7 +134,7 @@ token_then : (b : ℕ) (w : List ℕ) (d : ℕ) (v : List ℕ) → IsToken (b �
 token_then b w d v h k = elim (token_of b w h) [
   | word c a ↦ elim (token_of b (w ++ (d ∷ v)) k) [
     | word _ a2 ↦ words_glue (last_byte_or b w) d (last_passes is_word_byte b w
-        (word_start_byte b (word_of_class b c)) a) (next_passes is_word_byte w d v a2)
+        (word_start_byte b (word_starts b c)) a) (next_passes is_word_byte w d v a2)
     | number c2 _ ↦ absurd (clash c c2 refl)
     | string c2 _ ↦ absurd (clash c c2 refl)
     | slot c2 _ ↦ absurd (clash c c2 refl)
@@ -190,7 +189,7 @@ comment_then b (c ∷ w) d v h k =
     let five : class b ≡ 5 = rw p.0 refl in
     elim (token_of b (c ∷ w) h) [
       | punctuator _ _ a ↦
-          absurd (let e : not (b == 47 && c == 47) ≡ true = one_of no_slashes punctuators
+          absurd (let e : not (b == slash && c == slash) ≡ true = one_of no_slashes punctuators
           (b ∷ (c ∷ w)) punctuators_no_slashes a in let f : false ≡ true = rw (p.0, p.1) at e in cc)
       | word c2 _ ↦ absurd (clash five c2 refl)
       | number c2 _ ↦ absurd (clash five c2 refl)
@@ -204,7 +203,8 @@ Apart c [] = ⊤
 Apart c (d ∷ r) = glues c d ≡ false
 
 -- a token is the unit at its place if what follows doesn't glue to it
-pub token_first : (w r : List ℕ) → IsToken w → Apart (last_byte_or 32 w) r → IsFirstUnit (w ++ r) w
+pub token_first : (w r : List ℕ) → IsToken w → Apart (last_byte_or space_character w) r
+    → IsFirstUnit (w ++ r) w
 token_first [] r h a = absurd (no_empty_token h)
 token_first (b ∷ w) r h a = first_from (b ∷ w) r (token h) none
   where
@@ -231,7 +231,8 @@ comment_not_token (b ∷ (c ∷ v)) k t =
     let five : class b ≡ 5 = rw p.0 refl in
     elim (token_of b (c ∷ v) t) [
       | punctuator _ _ a ↦
-          (let e : not (b == 47 && c == 47) ≡ true = one_of no_slashes punctuators (b ∷ (c ∷ v))
+          (let e : not (b == slash && c == slash)
+          ≡ true = one_of no_slashes punctuators (b ∷ (c ∷ v))
           punctuators_no_slashes a in let f : false ≡ true = rw (p.0, p.1) at e in absurd cc)
       | word c2 _ ↦ clash five c2 refl
       | number c2 _ ↦ clash five c2 refl
@@ -250,7 +251,7 @@ comment_first [] r h a = absurd cc
 comment_first (b ∷ []) r h a = absurd cc
 comment_first (b ∷ (c ∷ w)) r h a = first_from (b ∷ (c ∷ w)) r (comment h) none
   where
-    parts : (b ≡ 47) × (c ≡ 47) × (list_all is_comment_byte w ≡ true)
+    parts : (b ≡ slash) × (c ≡ slash) × (list_all is_comment_byte w ≡ true)
     parts = comment_parts b c w h
 
     five : class b ≡ 5
@@ -261,7 +262,7 @@ comment_first (b ∷ (c ∷ w)) r h a = first_from (b ∷ (c ∷ w)) r (comment 
 
     no_punctuator : (v : List ℕ) → IsToken (b ∷ (c ∷ v)) → ⊥
     no_punctuator v t = elim (token_of b (c ∷ v) t) [
-      | punctuator _ _ a ↦ (let e : not (b == 47 && c == 47) ≡ true =
+      | punctuator _ _ a ↦ (let e : not (b == slash && c == slash) ≡ true =
           one_of no_slashes punctuators (b ∷ (c ∷ v)) punctuators_no_slashes a in
           let f : false ≡ true = rw (parts.0, parts.1) at e in absurd cc)
       | word c2 _ ↦ clash five c2 refl
@@ -293,7 +294,7 @@ blank_first (b ∷ w) r h = first_from (b ∷ w) r (blank h) none
     no_comment [] k = absurd cc
     no_comment (c ∷ v) k =
         let p = comment_parts b c v k in
-        let e : class 47 ≡ 0 = rw p.0 at zero_class in
+        let e : class slash ≡ 0 = rw p.0 at zero_class in
         omega (arith, e)
 
     none : (v : List ℕ) → IsUnit v → Past (b ∷ w) r v → ⊥
@@ -311,8 +312,8 @@ blank_first (b ∷ w) r h = first_from (b ∷ w) r (blank h) none
           )
         ]
 
-pub space_blank : IsBlank (32 ∷ [])
-space_blank = (32, refl, sym (encode_ascii 32 (omega arith)))
+pub space_blank : IsBlank (space_character ∷ [])
+space_blank = (space_character, refl, sym (encode_ascii space_character (omega arith)))
 
-pub feed_blank : IsBlank (10 ∷ [])
-feed_blank = (10, refl, sym (encode_ascii 10 (omega arith)))
+pub feed_blank : IsBlank (line_feed ∷ [])
+feed_blank = (line_feed, refl, sym (encode_ascii line_feed (omega arith)))

@@ -1,5 +1,6 @@
 -- A token's value is its own value.
 use Rattle.std.proofs.Common.{◌≡◌, ℕ, Bool, true, false, cond, not, ◌&&◌, ◌==◌, List, [], ◌∷◌, length, map, refl, ap, ◌∙◌}
+use Rattle.cedar_tokens.specs.Bytes.{digit_zero}
 use Rattle.cedar_tokens.specs.Units.{is_number}
 use Rattle.cedar_tokens.specs.Listing.{Decorated, without_zeros, token_value, EqualByValue}
 use Rattle.cedar_laws.specs.Output.{with_value}
@@ -7,15 +8,15 @@ use Rattle.cedar_laws.proofs.Listed.{number_value}
 
 zeros_once : (b : ℕ) (bs : List ℕ) → without_zeros (without_zeros (b ∷ bs)) ≡ without_zeros (b ∷ bs)
 unfolding without_zeros
-zeros_once b [] = go (b == 48 && false) refl
+zeros_once b [] = go (b == digit_zero && false) refl
   where
-    go : (x : Bool) → (b == 48 && false) ≡ x
+    go : (x : Bool) → (b == digit_zero && false) ≡ x
         → without_zeros (cond x [] (b ∷ [])) ≡ cond x [] (b ∷ [])
     go true e = refl
     go false e = rw e refl
-zeros_once b (c ∷ cs) = go (b == 48 && not (length (c ∷ cs) == 0)) refl (zeros_once c cs)
+zeros_once b (c ∷ cs) = go (b == digit_zero && not (length (c ∷ cs) == 0)) refl (zeros_once c cs)
   where
-    go : (x : Bool) → (b == 48 && not (length (c ∷ cs) == 0)) ≡ x
+    go : (x : Bool) → (b == digit_zero && not (length (c ∷ cs) == 0)) ≡ x
         → without_zeros (without_zeros (c ∷ cs)) ≡ without_zeros (c ∷ cs) → without_zeros (cond x
         (without_zeros (c ∷ cs)) (b ∷ (c ∷ cs))) ≡ cond x (without_zeros (c ∷ cs)) (b ∷ (c ∷ cs))
     go true e ih = ih

@@ -43,7 +43,8 @@ cut_turn text joined new at s f e inv y c =
     let r = drop s.end text in
     let p : drop s.start text ≡ u ++ r =
     (let z = f.nonempty in parts s.start s.end text (omega arith)) in
-    let q : drop at text ≡ m ++ (u ++ r) = parts at s.start text f.behind ∙ ap (λ z. m ++ z) p in
+    let q : drop at text ≡ m ++ (u ++ r) = parts at s.start text f.not_before
+    ∙ ap (λ z. m ++ z) p in
     let none : (k : ℕ) → k < length m → BeginsNone IsKept (drop k (m ++ (u ++ r))) =
     λ k h. let l : at + k < s.start = omega (arith, h, length-take (s.start - at) (drop at text)) in
     subst (λ z. BeginsNone IsKept z) (sym (drop_more at k text) ∙ ap (drop k) q)

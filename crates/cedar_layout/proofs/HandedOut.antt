@@ -98,7 +98,7 @@ same_parts c d a b = cc
 
 -- ---- the tokens' places stay
 
-spans_shown : (ts : List WrappedToken) → map (λ t. t.span) ts ≡ map (λ s. s.span) (map shown ts)
+pub spans_shown : (ts : List WrappedToken) → map (λ t. t.span) ts ≡ map (λ s. s.span) (map shown ts)
 spans_shown [] = refl
 spans_shown (t ∷ ts) = ap (λ r. t.span ∷ r) (spans_shown ts)
 

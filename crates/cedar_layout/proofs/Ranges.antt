@@ -108,16 +108,16 @@ none_taken s (t ∷ ts) n =
     let q : stands_in s (shown t) ≡ false = n zero t (omega arith) in
     (rw q i.0, rw q (ap (λ r. shown t ∷ r) i.1))
 
-behind : (p q : ℕ) (t : WrappedToken) → q < p → p ≤ t.span.start → t.span.start < t.span.end
+following : (p q : ℕ) (t : WrappedToken) → q < p → p ≤ t.span.start → t.span.start < t.span.end
     → (b : Bool) → (b && nat_le t.span.end q) ≡ false
-behind p q t h l m true = grind (arith, nat_tests)
-behind p q t h l m false = refl
+following p q t h l m true = grind (arith, nat_tests)
+following p q t h l m false = refl
 
 -- no token that starts after the span is in it
 none_after : (s : Span) (p : ℕ) (ts : List WrappedToken) → s.end < p → OrderedFrom p ts
     → NoneIn s ts
 none_after s p [] h o k d l = absurd (omega arith)
-none_after s p (t ∷ ts) h o zero d l = behind p s.end t h o.0 o.1 (nat_le s.start t.span.start)
+none_after s p (t ∷ ts) h o zero d l = following p s.end t h o.0 o.1 (nat_le s.start t.span.start)
 none_after s p (t ∷ ts) h o (suc k) d l =
     none_after s t.span.end ts (omega (arith, o.0, o.1)) o.2 k d (omega arith)
 

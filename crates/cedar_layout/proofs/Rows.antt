@@ -26,17 +26,17 @@ pair_fits : shown 4 (group (a · line · b) · c) ≡ codes "a bc"
 unfolding columns unicode_width
 pair_fits = refl
 
-pair_with_tail_too_wide : shown 3 (group (a · line · b) · c) ≡ codes "a" ++ 10 ∷ codes "bc"
+pair_with_tail_too_wide : shown 3 (group (a · line · b) · c) ≡ codes "a\nbc"
 unfolding columns unicode_width
 pair_with_tail_too_wide = refl
 
 tail_ends_at_a_line : shown 3 (group (a · line · b) · group (line · c))
-    ≡ codes "a b" ++ 10 ∷ codes "c"
+    ≡ codes "a b\nc"
 unfolding columns unicode_width
 tail_ends_at_a_line = refl
 
 hard_breaks_its_group : shown 80 (group (a · line · b · hard · c))
-    ≡ codes "a" ++ 10 ∷ codes "b" ++ 10 ∷ codes "c"
+    ≡ codes "a\nb\nc"
 unfolding columns unicode_width
 hard_breaks_its_group = refl
 
@@ -44,11 +44,11 @@ wide_characters_fit : shown 6 (group (text japan · line · b)) ≡ japan ++ cod
 unfolding columns unicode_width
 wide_characters_fit = refl
 
-wide_characters_too_wide : shown 5 (group (text japan · line · b)) ≡ japan ++ 10 ∷ codes "b"
+wide_characters_too_wide : shown 5 (group (text japan · line · b)) ≡ japan ++ codes "\nb"
 unfolding columns unicode_width
 wide_characters_too_wide = refl
 
-indentation_stops_at_zero : shown 80 (nest (negsuc 4) (hard · text (codes "x"))) ≡ 10 ∷ codes "x"
+indentation_stops_at_zero : shown 80 (nest (negsuc 4) (hard · text (codes "x"))) ≡ codes "\nx"
 unfolding columns unicode_width
 indentation_stops_at_zero = refl
 
@@ -63,18 +63,18 @@ policy_fits : shown 37 bare ≡ codes "permit (principal, action, resource);"
 unfolding columns unicode_width bare
 policy_fits = refl
 
-policy_too_wide : shown 36 bare ≡ codes "permit" ++ 10 ∷ codes "(principal, action, resource);"
+policy_too_wide : shown 36 bare ≡ codes "permit\n(principal, action, resource);"
 unfolding columns unicode_width bare
 policy_too_wide = refl
 
 -- a group in a sequence in a sequence
 last_group_broken : shown 4 (group (a · line · b) · c · group (line · text (codes "d")))
-    ≡ codes "a bc" ++ 10 ∷ codes "d"
+    ≡ codes "a bc\nd"
 unfolding columns unicode_width
 last_group_broken = refl
 
 first_group_broken : shown 3 (group (a · line · b) · c · group (line · text (codes "d")))
-    ≡ codes "a" ++ 10 ∷ codes "bc" ++ 10 ∷ codes "d"
+    ≡ codes "a\nbc\nd"
 unfolding columns unicode_width
 first_group_broken = refl
 

@@ -7,6 +7,8 @@ use Rattle.std.proofs.lemmas.List.Quantifiers.{position-Some}
 use Rattle.std.proofs.lemmas.Bool.Decides.{Decides-eqb}
 use Rattle.std.proofs.lemmas.Str.{IsCharBoundary-after_ascii}
 use Rattle.std.proofs.lemmas.Bool.{or_cases, or_right}
+use Rattle.cedar_tokens.specs.Bytes as byte
+use Rattle.cedar_tokens.specs.Bytes.{line_feed, quote}
 use Rattle.cedar_tokens.specs.Units.{BeginsWith, BeginsNone, FindsLongest, IsUnit, blank, comment, token, IsBlank, IsComment, IsToken, is_string, is_comment, is_one_of, punctuators}
 use Rattle.cedar_tokens.specs.Split.{HasKind}
 use Rattle.cedar_tokens.specs.Listing.{with_first}
@@ -28,13 +30,13 @@ comment_no_blank : (v : List ℕ) → IsComment v → ¬ (IsBlank v)
 comment_no_blank [] k b = absurd cc
 comment_no_blank (x ∷ []) k b = absurd cc
 comment_no_blank (x ∷ y ∷ v) k b =
-    let e : class 47 ≡ 0 = rw ((comment_parts x y v k).0) at (class-blank x (y ∷ v) b) in
+    let e : class byte.slash ≡ 0 = rw ((comment_parts x y v k).0) at (class-blank x (y ∷ v) b) in
     omega (arith, e)
 
 -- a token of two bytes or more does not begin with `//`
-no_slashes : (u : List ℕ) → IsToken (47 ∷ 47 ∷ u) → ⊥
+no_slashes : (u : List ℕ) → IsToken (byte.slash ∷ byte.slash ∷ u) → ⊥
 unfolding punctuators
-no_slashes u t = elim (token_of 47 (47 ∷ u) t) [
+no_slashes u t = elim (token_of byte.slash (byte.slash ∷ u) t) [
   | word e _ ↦ omega (arith, e)
   | number e _ ↦ omega (arith, e)
   | string e _ ↦ omega (arith, e)
@@ -42,7 +44,8 @@ no_slashes u t = elim (token_of 47 (47 ∷ u) t) [
   | punctuator e l p ↦ short u l p
 ]
   where
-    short : (w : List ℕ) → length (47 ∷ w) < 2 → is_one_of punctuators (47 ∷ 47 ∷ w) ≡ true → ⊥
+    short : (w : List ℕ) → length (byte.slash ∷ w) < 2
+        → is_one_of punctuators (byte.slash ∷ byte.slash ∷ w) ≡ true → ⊥
     short [] l p = absurd cc
     short (x ∷ w) l p = absurd (omega (arith, l))
 
@@ -56,8 +59,8 @@ slashes_begin text (a ∷ []) (x ∷ y ∷ v) k g t h l = absurd (omega arith)
 slashes_begin text (a ∷ b ∷ u) (x ∷ y ∷ v) k g t h l =
     let p = comment_parts x y v k in
     let e : a ∷ b ∷ (u ++ h.0) ≡ x ∷ y ∷ (v ++ g.0) = sym h.1 ∙ g.1 in
-    let q : a ≡ 47 = (let f : a ≡ x = cc in f ∙ p.0) in
-    let r : b ≡ 47 = (let f : b ≡ y = cc in f ∙ p.1) in
+    let q : a ≡ byte.slash = (let f : a ≡ x = cc in f ∙ p.0) in
+    let r : b ≡ byte.slash = (let f : b ≡ y = cc in f ∙ p.1) in
     no_slashes u (rw (q, r) at t)
 
 pub no_comment : (text : List ℕ) (n : ℕ) (kind : UnitKind) → FindsLongest IsUnit text (Some n)
@@ -69,11 +72,11 @@ no_comment text n Token f k ne v c g =
     slashes_begin text (take n text) v c g k f.1.begins (f.1.longest v (comment c) g)
 
 -- at a quote the unit is a string
-quoted : (u : List ℕ) → IsUnit (34 ∷ u) → IsString (34 ∷ u)
+quoted : (u : List ℕ) → IsUnit (quote ∷ u) → IsString (quote ∷ u)
 quoted u k = elim k [
-  | blank b ↦ absurd (let e : class 34 ≡ 0 = class-blank 34 u b in omega (arith, e))
+  | blank b ↦ absurd (let e : class quote ≡ 0 = class-blank quote u b in omega (arith, e))
   | comment c ↦ absurd (slash u c)
-  | token t ↦ elim (token_of 34 u t) [
+  | token t ↦ elim (token_of quote u t) [
     | word e _ ↦ absurd (omega (arith, e))
     | number e _ ↦ absurd (omega (arith, e))
     | string e r ↦ r
@@ -82,14 +85,14 @@ quoted u k = elim k [
   ]
 ]
   where
-    slash : (w : List ℕ) → IsComment (34 ∷ w) → ⊥
+    slash : (w : List ℕ) → IsComment (quote ∷ w) → ⊥
     slash [] c = absurd cc
-    slash (y ∷ w) c = let p = comment_parts 34 y w c in omega (arith, p.0)
+    slash (y ∷ w) c = let p = comment_parts quote y w c in omega (arith, p.0)
 
 string_unit : (v : List ℕ) → IsString v → IsUnit v
 string_unit v s = token (is_token-string v s)
 
-pub unit_string : (text : List ℕ) (n : ℕ) → 0 < n → 0 < length text → get_or text 0 0 ≡ 34
+pub unit_string : (text : List ℕ) (n : ℕ) → 0 < n → 0 < length text → get_or text 0 0 ≡ quote
     → FindsLongest IsUnit text (Some n) → FindsLongest IsString text (Some n)
 unit_string [] n z h e f = absurd (omega arith)
 unit_string (b ∷ t) zero z h e f = absurd (omega arith)
@@ -136,39 +139,44 @@ last_found (b ∷ d ∷ ds) c x zero l e = absurd (omega arith)
 last_found (b ∷ d ∷ ds) c x (suc i) l e = last_found (d ∷ ds) b x i (omega arith) e
 
 line_at : (text : List ℕ) (i : ℕ) → i < length text
-    → ((k : ℕ) → k < i → (get_or text k 0 == 10) ≡ false) → (get_or text i 0 == 10) ≡ true
+    → ((k : ℕ) → k < i → (get_or text k 0 == line_feed) ≡ false) → (get_or text i 0 == line_feed)
+    ≡ true
     → piece_lines text ≡ take (suc i) text ∷ piece_lines (drop (suc i) text)
 line_at [] i l n h = absurd (omega arith)
 line_at (b ∷ bs) zero l n h =
-    let e = (Decides-eqb b 10).0 h in rw h (ap (λ z. (z ∷ []) ∷ piece_lines bs) (sym e))
+    let e = (Decides-eqb b line_feed).0 h in rw h (ap (λ z. (z ∷ []) ∷ piece_lines bs) (sym e))
 line_at (b ∷ bs) (suc i) l n h =
-    let q : (b == 10) ≡ false = n zero (omega arith) in
+    let q : (b == line_feed) ≡ false = n zero (omega arith) in
     rw q (ap (with_first b) (line_at bs i (omega arith) (λ k m. n (suc k) (omega arith)) h))
 
-no_line : (text : List ℕ) → ((k : ℕ) → k < length text → (get_or text k 0 == 10) ≡ false)
+no_line : (text : List ℕ) → ((k : ℕ) → k < length text → (get_or text k 0 == line_feed) ≡ false)
     → piece_lines text ≡ text ∷ []
 no_line [] n = refl
 no_line (b ∷ bs) n =
-    let q : (b == 10) ≡ false = n zero (omega arith) in
+    let q : (b == line_feed) ≡ false = n zero (omega arith) in
     rw q (ap (with_first b) (no_line bs (λ k m. n (suc k) (omega arith))))
 
-pub first_line : (text l r : List ℕ) (i : ℕ) → Some i ≡ position (λ b. b == 10) text
+pub first_line : (text l r : List ℕ) (i : ℕ) → Some i ≡ position (λ b. b == line_feed) text
     → l ≡ take (i + 1) text → r ≡ drop (i + 1) text → IsFirstLine text l r
 first_line text l r i e f g =
-    let p = position-Some (λ b. b == 10) text i 0 (sym e) in
+    let p = position-Some (λ b. b == line_feed) text i 0 (sym e) in
     let h = line_at text i p.0 p.2 p.1 in
     let a : take (suc i) text ≡ l = ap (λ k. take k text) (sym (add-one i)) ∙ sym f in
     let b : drop (suc i) text ≡ r = ap (λ k. drop k text) (sym (add-one i)) ∙ sym g in
     inl (h ∙ ap (λ z. z ∷ piece_lines (drop (suc i) text)) a ∙ ap (λ z. l ∷ piece_lines z) b)
 
-pub only_line : (text : List ℕ) → None ≡ position (λ b. b == 10) text → IsFirstLine text text []
-only_line text e = inr (no_line text (λ k h. none_passes (λ b. b == 10) text (sym e) k 0 h), refl)
+pub only_line : (text : List ℕ) → None ≡ position (λ b. b == line_feed) text
+    → IsFirstLine text text []
+only_line text e = inr (
+  no_line text (λ k h. none_passes (λ b. b == line_feed) text (sym e) k 0 h),
+  refl,
+)
 
-pub cut_after : (text : List ℕ) (i : ℕ) → IsUtf8 text → Some i ≡ position (λ b. b == 10) text
+pub cut_after : (text : List ℕ) (i : ℕ) → IsUtf8 text → Some i ≡ position (λ b. b == line_feed) text
     → IsCharBoundary text (i + 1)
 cut_after text i u e =
-    let p = position-Some (λ b. b == 10) text i 0 (sym e) in
-    let q = (Decides-eqb (get_or text i 0) 10).0 p.1 in
+    let p = position-Some (λ b. b == line_feed) text i 0 (sym e) in
+    let q = (Decides-eqb (get_or text i 0) line_feed).0 p.1 in
     IsCharBoundary-after_ascii text i u p.0 (omega (arith, q))
 
 nothing_kept : (v : List ℕ) → BeginsWith [] v → IsKept v → ⊥

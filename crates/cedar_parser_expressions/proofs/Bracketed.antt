@@ -6,8 +6,7 @@ use Rattle.std.proofs.Common.{refl, sym, ap, ◌∙◌, append_assoc}
 use Rattle.cedar_tokens.specs.declared.token.Span.{Span}
 use Rattle.cedar_tokens.specs.declared.kind.Kind.{Kind}
 use Rattle.cedar_tokens.specs.declared.kind.Kind.TheVariants as K
-use Rattle.cedar_tokens.specs.Kinds.{code, is, is_closing}
-use Rattle.cedar_tokens.specs.TokenKinds.{fixed_tokens}
+use Rattle.cedar_tokens.specs.Kinds.{is, is_closing}
 use Rattle.cedar_grammar.specs.Trees.{Label, Forest, none, leaf, branch, join, yield}
 use Rattle.cedar_grammar.specs.TrailingCommas.{without_trailing, drop_if, closes_next}
 use Rattle.cedar_grammar.specs.Reader.Reading.{Answer, Reader, done, stuck, both, tree, one}
@@ -25,9 +24,10 @@ use Rattle.cedar_parser_steps.specs.declared.reading.Refusal.{Refusal}
 use Rattle.cedar_tree.specs.declared.tree.Node.{Node}
 use Rattle.cedar_tree.specs.declared.tree.MemAccess as MemAccess
 use Rattle.cedar_tree.specs.declared.tree.Primary as Primary
-use Rattle.cedar_parser_steps.proofs.LeafTexts.{shown, kept, from_to, nodes_fixed, covers_node, kept_leaf, end_append}
+use Rattle.cedar_parser_steps.proofs.LeafTexts.{kept, from_to, nodes_fixed, covers_node, kept_leaf, end_append}
 use Rattle.cedar_parser_steps.proofs.Rows.{right_join, row_span, row_parts}
 use Rattle.cedar_parser_steps.proofs.Steps.{passes}
+use Rattle.cedar_tokens.specs.Inside.FixedTexts.{is_open, fixed_text}
 
 -- a variant, whose tree has no span
 pub row_variant : (l : Label) (s : Span) (p : Erased) (f : Forest Label Lexeme) → is_node l ≡ false
@@ -62,15 +62,15 @@ last_kept (branch l f g) t k e h =
 
 -- items between an opening and a closing token
 pub row_brackets : (o t : Lexeme) (a b : Kind) (trees : Erased) (f : Forest Label Lexeme)
-    → o.kind ≡ a → is K.Comma a ≡ false → is K.Number a ≡ false → t.kind ≡ b → is_closing b ≡ true
-    → is K.Comma b ≡ false → is K.Number b ≡ false → StandsItems trees f
-    → Stands (from_to o.span t.span) (leaf (shown (code a) fixed_tokens o.text.now) (join trees
-    (leaf (shown (code b) fixed_tokens t.text.now) none))) (leaf o (join f (leaf t none)))
+    → o.kind ≡ a → is K.Comma a ≡ false → is_open a ≡ false → t.kind ≡ b → is_closing b ≡ true
+    → is K.Comma b ≡ false → is_open b ≡ false → StandsItems trees f
+    → Stands (from_to o.span t.span) (leaf (fixed_text a) (join trees
+    (leaf (fixed_text b) none))) (leaf o (join f (leaf t none)))
 row_brackets o t a b trees f e h i d c j m s = record {
   same = λ r. let k = right_join f (leaf t none) r.1 in
-      ap (λ z. leaf (shown (code a) fixed_tokens o.text.now) (join trees z))
+      ap (λ z. leaf (fixed_text a) (join trees z))
       (sym (nodes_fixed t b none k.1.0 d j m))
-      ∙ ap (leaf (shown (code a) fixed_tokens o.text.now)) (sym (s t (ap is_closing d ∙ c) k.0))
+      ∙ ap (leaf (fixed_text a)) (sym (s t (ap is_closing d ∙ c) k.0))
       ∙ sym (nodes_fixed o a (join f (leaf t none)) r.0 e h i);
   place = let q = last_kept f t b d j in
       ap (λ z. span_of (λ (l : Lexeme). l.text.now) (λ (l : Lexeme). l.span) z)
@@ -81,12 +81,12 @@ row_brackets o t a b trees f e h i d c j m s = record {
 -- an opening kind and a closing kind, with their texts
 pub record Encloses (a b : Kind) (x z : List ℕ) : Type 0 where
   pub comma : is K.Comma a ≡ false
-  pub number : is K.Number a ≡ false
-  pub opens : (u : List ℕ) → shown (code a) fixed_tokens u ≡ x
+  pub fixed : is_open a ≡ false
+  pub opens : fixed_text a ≡ x
   pub closing : is_closing b ≡ true
   pub no_comma : is K.Comma b ≡ false
-  pub no_number : is K.Number b ≡ false
-  pub closes : (u : List ℕ) → shown (code b) fixed_tokens u ≡ z
+  pub end_fixed : is_open b ≡ false
+  pub closes : fixed_text b ≡ z
 
 module _ {X : Type 0} (l : Label) (parts : X → Erased) (x z : List ℕ) where
   abbrev pub enclosed_trees : Vec (Node X) Global → Erased
@@ -116,11 +116,11 @@ module _ {X : Type 0} (l : Label) (parts : X → Erased) (x z : List ℕ) where
           y.1.now e (both_done P (one kind b) rest g.0 v.1.now (leaf c.1 none) y.1.now g.1 c.2),
       row_span _ _ _ _ (ap (λ w. record { start = o.span.start; end = w }) (sym c.4))
           (row_parts _ _ _ _ (ap (λ (w : Vec (Node X) Global). enclosed_trees w) c.0 ∙ ap (λ w.
-          leaf w (join (item_trees l parts v.0.items) (leaf z none))) (sym (fits.opens o.text.now))
-          ∙ ap (λ w. leaf (shown (code a) fixed_tokens o.text.now)
-          (join (item_trees l parts v.0.items) (leaf w none))) (sym (fits.closes c.1.text.now)))
-          (row_brackets o c.1 a b _ g.0 h fits.comma fits.number c.3 fits.closing fits.no_comma
-          fits.no_number g.2)),
+          leaf w (join (item_trees l parts v.0.items) (leaf z none))) (sym fits.opens)
+          ∙ ap (λ w. leaf (fixed_text a)
+          (join (item_trees l parts v.0.items) (leaf w none))) (sym fits.closes))
+          (row_brackets o c.1 a b _ g.0 h fits.comma fits.fixed c.3 fits.closing fits.no_comma
+          fits.end_fixed g.2)),
     )
     enclosed_gives (Ok v) (Err f) ts rest o e h g c =
         passes f _ _ c (λ y r i. both_then_fails (one kind a) (both P (one kind b)) ts
@@ -178,34 +178,34 @@ module _ {X : Type 0} (l : Label) (parts : X → Erased) (x z : List ℕ) where
 pub square : Encloses K.LBracket K.RBracket (codes "[") (codes "]")
 square = record {
   comma = refl;
-  number = refl;
-  opens = λ u. refl;
+  fixed = refl;
+  opens = refl;
   closing = refl;
   no_comma = refl;
-  no_number = refl;
-  closes = λ u. refl;
+  end_fixed = refl;
+  closes = refl;
 }
 
 pub round : Encloses K.LParen K.RParen (codes "(") (codes ")")
 round = record {
   comma = refl;
-  number = refl;
-  opens = λ u. refl;
+  fixed = refl;
+  opens = refl;
   closing = refl;
   no_comma = refl;
-  no_number = refl;
-  closes = λ u. refl;
+  end_fixed = refl;
+  closes = refl;
 }
 
 pub curly : Encloses K.LBrace K.RBrace (codes "{") (codes "}")
 curly = record {
   comma = refl;
-  number = refl;
-  opens = λ u. refl;
+  fixed = refl;
+  opens = refl;
   closing = refl;
   no_comma = refl;
-  no_number = refl;
-  closes = λ u. refl;
+  end_fixed = refl;
+  closes = refl;
 }
 
 -- P reads what is in square brackets

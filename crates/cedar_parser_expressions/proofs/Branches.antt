@@ -38,12 +38,12 @@ first_leaf k Q [] t g r e = absurd (let w : stuck false [] ≡ done (leaf t g) r
     sym (both_fails (one kind k) Q [] false [] (token_end kind (is k))) ∙ e in cc)
 first_leaf k Q (u ∷ us) t g r e = go (is k u.kind) refl
   where
-    behind : (a : Answer Lexeme) → onto (leaf u none) a ≡ done (leaf t g) r → u ≡ t
-    behind (done f s) w = cc
-    behind (stuck b s) w = absurd cc
+    following : (a : Answer Lexeme) → onto (leaf u none) a ≡ done (leaf t g) r → u ≡ t
+    following (done f s) w = cc
+    following (stuck b s) w = absurd cc
 
     go : (b : Bool) → is k u.kind ≡ b → u.span.start ≡ t.span.start
-    go true h = ap (λ (x : Lexeme). x.span.start) (behind (Q us) (sym
+    go true h = ap (λ (x : Lexeme). x.span.start) (following (Q us) (sym
         (both_first (one kind k) Q (u ∷ us) (leaf u none) us (token_yes kind (is k) u us h)) ∙ e))
     go false h = absurd (let w : stuck false (u ∷ us) ≡ done (leaf t g) r = sym
         (both_fails (one kind k) Q (u ∷ us) false (u ∷ us) (token_no kind (is k) u us h)) ∙ e in cc)

@@ -4,8 +4,7 @@ use Rattle.std.specs.Borrow.{Bor}
 use Rattle.std.proofs.Common.{refl, sym, ap, ◌∙◌}
 use Rattle.cedar_tokens.specs.declared.kind.Kind.{Kind}
 use Rattle.cedar_tokens.specs.declared.kind.Kind.TheVariants as K
-use Rattle.cedar_tokens.specs.Kinds.{code, is, is_closing, begins}
-use Rattle.cedar_tokens.specs.TokenKinds.{fixed_tokens}
+use Rattle.cedar_tokens.specs.Kinds.{is, is_closing, begins}
 use Rattle.cedar_grammar.specs.Trees.{Label, Forest, none, leaf, branch, join}
 use Rattle.cedar_grammar.specs.Reader.Reading.{Answer, Reader, done, stuck, both, tree, repeat, token}
 use Rattle.cedar_grammar.proofs.Readers.Equations.{Takes, both_done, both_then_fails, both_takes, token_takes}
@@ -20,9 +19,9 @@ use Rattle.cedar_parser_steps.specs.declared.lexeme.Lexeme.{Lexeme}
 use Rattle.cedar_parser_steps.specs.declared.reading.Refusal.{Refusal}
 use Rattle.cedar_tree.specs.declared.tree.Node.{Node}
 use Rattle.cedar_tree.specs.declared.tree.AddOp.{AddOp}
-use Rattle.cedar_parser_steps.proofs.LeafTexts.{shown}
 use Rattle.cedar_parser_steps.proofs.Steps.{token_at, first_begins}
 use Rattle.cedar_parser_steps.proofs.Rows.{row_node, row_more, row_join, row_parts, row_span, no_closing, Chain, chain_first, chain_next, chain_stuck, chain_end}
+use Rattle.cedar_tokens.specs.Inside.FixedTexts.{is_open, fixed_text}
 
 -- an operand, with or without its sign
 abbrev pub GivesOperand : {X Y : Type 0} → (Y → Node X) → (Y → Type 0) → Label → (X → Erased)
@@ -35,9 +34,9 @@ GivesOperand operand Q l parts (Err e) a = Fails e a
 -- a kind that stands between operands, which has this text
 pub record Between (k : Kind) (text : List ℕ) : Type 0 where
   pub comma : is K.Comma k ≡ false
-  pub number : is K.Number k ≡ false
+  pub fixed : is_open k ≡ false
   pub closing : is_closing k ≡ false
-  pub shows : (u : List ℕ) → shown (code k) fixed_tokens u ≡ text
+  pub shows : fixed_text k ≡ text
 
 pub plain_operand : {X : Type 0} (l : Label) (parts : X → Erased)
     (read : Result (Node X × Bor (List Lexeme)) Refusal) (a : Answer Lexeme)
@@ -62,9 +61,9 @@ kept_shorter f (Err e) old new rest u m h k = absurd k
 
 -- the signs of sums
 pub addop_between : (op : AddOp) → Between (addop_kind op) (addop_text op)
-addop_between AddOp.Plus = record { comma = refl; number = refl; closing = refl; shows = λ u. refl }
+addop_between AddOp.Plus = record { comma = refl; fixed = refl; closing = refl; shows = refl }
 addop_between AddOp.Minus =
-    record { comma = refl; number = refl; closing = refl; shows = λ u. refl }
+    record { comma = refl; fixed = refl; closing = refl; shows = refl }
 
 pub addop_begins : (op : AddOp) → (is K.Add (addop_kind op) || is K.Dash (addop_kind op)) ≡ true
 addop_begins AddOp.Plus = refl
@@ -155,8 +154,8 @@ module _ {X Y : Type 0} (l : Label) (parts : X → Erased) (sign : Y → List �
               (sym (end_grow initial.span.end old y)))
               (row_join _ _ _ _ q.row z (no_closing d k h b.closing) q.stands
               (row_parts _ _ _ _ (ap (λ x. leaf x
-              (node l (operand y).span (parts (operand y).inner) none)) (sym (b.shows d.text.now)))
-              (row_more d k (operand y).span _ _ h b.comma b.number
+              (node l (operand y).span (parts (operand y).inner) none)) (sym b.shows))
+              (row_more d k (operand y).span _ _ h b.comma b.fixed
               (row_node l (operand y).span _ g i w)))));
         })
 

@@ -19,7 +19,7 @@ use Rattle.cedar_tree.specs.NodeLists.{item_trees, more_trees}
 use Rattle.cedar_parser_steps.specs.declared.lexeme.Lexeme.{Lexeme}
 use Rattle.cedar_tree.specs.declared.tree.Node.{Node}
 use Rattle.cedar_parser_steps.proofs.Steps.{is_itself}
-use Rattle.cedar_parser_steps.proofs.LeafTexts.{nodes_node, fixed_text}
+use Rattle.cedar_parser_steps.proofs.LeafTexts.{nodes_node, value_is_fixed}
 use Rattle.cedar_parser_steps.proofs.Rows.{plain, right_join}
 use Rattle.cedar_parser_steps.proofs.Tails.{tailed_end, tailed_item, tailed_fails, tailed_last}
 
@@ -37,7 +37,7 @@ comma_kept : (d : Lexeme) (l : Label) (f g : Forest Label Lexeme) → d.kind ≡
 comma_kept d l f g e r =
     ap (λ b. plain (drop_if (b && false) (leaf d (without_trailing kind (branch l f g)))
     (without_trailing kind (branch l f g)))) (is_itself K.Comma d.kind (sym e))
-    ∙ ap (λ u. leaf u (lexeme_nodes (branch l f g))) (fixed_text d K.Comma r e refl)
+    ∙ ap (λ u. leaf u (lexeme_nodes (branch l f g))) (value_is_fixed d K.Comma r e refl)
 
 module _ {X : Type 0} (l : Label) (parts : X → Erased) where
   -- items with a comma after each

@@ -52,10 +52,10 @@ abbrev pub begins_turn : List Lexeme → Bool
 begins_turn ts = begins kind (λ x. is K.Dot x || is K.LBracket x) ts
 
 pub has_between : Between K.Has (codes "has")
-has_between = record { comma = refl; number = refl; closing = refl; shows = λ u. refl }
+has_between = record { comma = refl; fixed = refl; closing = refl; shows = refl }
 
 pub like_between : Between K.Like (codes "like")
-like_between = record { comma = refl; number = refl; closing = refl; shows = λ u. refl }
+like_between = record { comma = refl; fixed = refl; closing = refl; shows = refl }
 
 pub expr_takes : (d : ℕ) → Takes (expr_to kind d)
 expr_takes zero = depth_takes 0 expr_rule refl refl

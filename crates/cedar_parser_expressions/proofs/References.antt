@@ -174,17 +174,19 @@ module _ (C : Reader Lexeme) where
   reference_fails e ts h = passes e (words_reader ts) (reference_reader ts)
       (go (begins kind is_variable ts) refl) (λ b r i. shaped_fails words_reader ts b r i)
     where
-      behind : (f : Forest Label Lexeme) (r : List Lexeme) → ident_reader ts ≡ done f r → (c : Bool)
+      following : (f : Forest Label Lexeme) (r : List Lexeme) → ident_reader ts ≡ done f r
+          → (c : Bool)
           → begins kind follows r ≡ c → Fails e (words_reader ts)
-      behind f r d true k =
+      following f r d true k =
           fails_as e (words_then C ts) (words_reader ts) (h C) (reads_on ts f r d k)
-      behind f r d false k = never e (words_then skip ts) (words_reader ts) (join f none) r (h skip)
+      following f r d false k =
+          never e (words_then skip ts) (words_reader ts) (join f none) r (h skip)
           (both_done ident_reader (words_on skip) ts f r none r d
           (tailed_end K.DoubleColon is_ident ident_reader text_reader skip r (follows_either r k)))
 
       first : begins kind is_variable ts ≡ true → (a : Answer Lexeme) → ident_reader ts ≡ a
           → Fails e (words_reader ts)
-      first i (done f r) d = behind f r d (begins kind follows r) refl
+      first i (done f r) d = following f r d (begins kind follows r) refl
       first i (stuck b r) d = fails_as e (words_then C ts) (words_reader ts) (h C)
           (reads_variable ts i ∙ both_fails ident_reader on_variable ts b r d
           ∙ sym (both_fails ident_reader (words_on C) ts b r d))

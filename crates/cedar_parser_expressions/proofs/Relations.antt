@@ -53,17 +53,17 @@ at_none a b c d h i j k = or_from a (b || (c || d)) h (or_from b (c || d) i (or_
 
 -- a comparison's sign
 pub relop_between : (op : RelOp) → Between (relop_kind op) (relop_text op)
-relop_between RelOp.Less = record { comma = refl; number = refl; closing = refl; shows = λ u. refl }
+relop_between RelOp.Less = record { comma = refl; fixed = refl; closing = refl; shows = refl }
 relop_between RelOp.LessEq =
-    record { comma = refl; number = refl; closing = refl; shows = λ u. refl }
+    record { comma = refl; fixed = refl; closing = refl; shows = refl }
 relop_between RelOp.Greater =
-    record { comma = refl; number = refl; closing = refl; shows = λ u. refl }
+    record { comma = refl; fixed = refl; closing = refl; shows = refl }
 relop_between RelOp.GreaterEq =
-    record { comma = refl; number = refl; closing = refl; shows = λ u. refl }
+    record { comma = refl; fixed = refl; closing = refl; shows = refl }
 relop_between RelOp.NotEq =
-    record { comma = refl; number = refl; closing = refl; shows = λ u. refl }
-relop_between RelOp.Eq = record { comma = refl; number = refl; closing = refl; shows = λ u. refl }
-relop_between RelOp.In = record { comma = refl; number = refl; closing = refl; shows = λ u. refl }
+    record { comma = refl; fixed = refl; closing = refl; shows = refl }
+relop_between RelOp.Eq = record { comma = refl; fixed = refl; closing = refl; shows = refl }
+relop_between RelOp.In = record { comma = refl; fixed = refl; closing = refl; shows = refl }
 
 -- A reads the operand; C, H, L and T read what follows it
 module _ (A C H L T : Reader Lexeme) where
@@ -159,8 +159,8 @@ module _ (A C H L T : Reader Lexeme) where
           after_stands ts rest target f read stands Label.compare refl C same
               (box_value y.0) _ _ _ m.0 m.1
               (row_parts _ _ _ _
-              (ap (λ z. leaf z (operand_before x.0.1 none)) (sym (b.shows g.0.text.now)))
-              (row_more g.0 (relop_kind x.0.0) _ _ _ g.3 b.comma b.number
+              (ap (λ z. leaf z (operand_before x.0.1 none)) (sym b.shows))
+              (row_more g.0 (relop_kind x.0.0) _ _ _ g.3 b.comma b.fixed
               (row_node Label.add _ _ g.1 refl g.4))),
         )
     compared_gives (Ok x) (Err e) h g p m = rw p tt
@@ -184,8 +184,8 @@ module _ (A C H L T : Reader Lexeme) where
       after_stands ts rest target f read stands Label.has_or_like refl Q same
           (box_value y.0) _ _ _ m.0 m.1
           (row_parts _ _ _ _ (ap (λ z. leaf z (node Label.add x.0.span (add_parts x.0.inner) none))
-          (sym (b.shows g.0.text.now)))
-          (row_more g.0 k _ _ _ g.3 b.comma b.number (row_node Label.add _ _ g.1 refl g.4))),
+          (sym b.shows))
+          (row_more g.0 k _ _ _ g.3 b.comma b.fixed (row_node Label.add _ _ g.1 refl g.4))),
     )
     word_gives k word Q (Ok x) (Err e) b same g p m = rw p tt
     word_gives k word Q (Err e) (Ok y) b same g p m = absurd p

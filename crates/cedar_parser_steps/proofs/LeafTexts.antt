@@ -1,18 +1,14 @@
 -- The tree of nodes for a row that begins with a token or a node, and the span of the row.
-use Rattle.std.specs.Prelude.{◌≡◌, ◌==◌, ℕ, ◌&&◌, ◌||◌, not, Bool, true, false, List, [], ◌∷◌, ◌++◌, nat_eq, Option, Some, None, if◌then◌else◌}
-use Rattle.std.specs.Char.{is_ascii_digit}
-use Rattle.std.specs.Str.{bytes_eq}
-use Rattle.std.proofs.Common.{refl, sym, ap, ◌∙◌, arith, append-nil}
-use Rattle.std.proofs.lemmas.Bool.Decides.{nat_tests}
-use Rattle.std.proofs.lemmas.Slice.Eq.{bytes_eq-Decides}
-use Rattle.std.proofs.lemmas.Bool.{and_parts, not-true, or_parts}
+use Rattle.std.specs.Prelude.{◌≡◌, ℕ, ◌&&◌, Bool, true, false, List, [], ◌∷◌, ◌++◌, Option, Some, None, if◌then◌else◌}
+use Rattle.std.proofs.Common.{refl, sym, ap, ◌∙◌, append-nil}
+use Rattle.std.proofs.lemmas.Bool.{or_parts}
 use Rattle.cedar_tokens.specs.Units.{is_number}
 use Rattle.cedar_tokens.specs.Listing.{token_value, without_zeros}
 use Rattle.cedar_tokens.specs.declared.token.Span.{Span}
 use Rattle.cedar_tokens.specs.declared.kind.Kind.{Kind}
 use Rattle.cedar_tokens.specs.declared.kind.Kind.TheVariants as K
-use Rattle.cedar_tokens.specs.Kinds.{code, is}
-use Rattle.cedar_tokens.specs.TokenKinds.{fixed_tokens, other_kind, kind_among, kind_of}
+use Rattle.cedar_tokens.specs.Kinds.{is}
+use Rattle.cedar_tokens.specs.TokenKinds.{kind_of}
 use Rattle.cedar_grammar.specs.Trees.{Label, Forest, none, leaf, branch, yield}
 use Rattle.cedar_grammar.specs.TrailingCommas.{without_trailing, drop_if, closes_next}
 use Rattle.cedar_grammar.proofs.Texts.Kinds.{number_kind}
@@ -21,70 +17,8 @@ use Rattle.cedar_parser_steps.specs.Lexemes.{lexeme_nodes}
 use Rattle.cedar_tree.specs.NodeTrees.{is_node, span_of, end_of, spanned}
 use Rattle.cedar_parser_steps.specs.Reading.{kind, IsRight, AreRight, Stands}
 use Rattle.cedar_parser_steps.specs.declared.lexeme.Lexeme.{Lexeme}
-
--- the text of the token of this code, or u if the table has none
-abbrev pub shown : ℕ → List (List ℕ × Kind) → List ℕ → List ℕ
-shown c [] u = u
-shown c (f ∷ fs) u = if nat_eq (code f.1) c then f.0 else shown c fs u
-
-abbrev is_open : ℕ → Bool
-is_open c = nat_eq c 17 || (nat_eq c 20 || nat_eq c 21)
-
-abbrev fresh : ℕ → List (List ℕ × Kind) → Bool
-fresh c [] = true
-fresh c (f ∷ fs) = not (nat_eq (code f.1) c) && fresh c fs
-
-abbrev distinct : List (List ℕ × Kind) → Bool
-distinct [] = true
-distinct (f ∷ fs) = (not (is_open (code f.1)) && fresh (code f.1) fs) && distinct fs
-
-eq_swap : (m n : ℕ) → nat_eq m n ≡ nat_eq n m
-eq_swap m n = grind (arith, nat_tests)
-
-eq_self : (n : ℕ) → nat_eq n n ≡ true
-eq_self n = grind (arith, nat_tests)
-
-other_apart : (d : ℕ) (u : List ℕ) → is_open d ≡ false → nat_eq d (code (other_kind u)) ≡ false
-other_apart d [] h = (or_parts _ _ h).0
-other_apart d (b ∷ bs) h =
-    go (b == 34) (is_ascii_digit b) (or_parts _ _ h).0 (or_parts _ _ (or_parts _ _ h).1)
-  where
-    go : (x y : Bool) → nat_eq d 17 ≡ false → (nat_eq d 20 ≡ false) × (nat_eq d 21 ≡ false)
-        → nat_eq d (code (if x then K.Str else (if y then K.Number else K.Identifier))) ≡ false
-    go true y w e = e.1
-    go false true w e = e.0
-    go false false w e = w
-
-apart_from : (fs : List (List ℕ × Kind)) (u : List ℕ) (d : ℕ) → is_open d ≡ false
-    → fresh d fs ≡ true → nat_eq d (code (kind_among fs u)) ≡ false
-apart_from [] u d h k = other_apart d u h
-apart_from (f ∷ fs) u d h k =
-    let p = and_parts (not (nat_eq (code f.1) d)) (fresh d fs) k in
-    go (bytes_eq f.0 u) (eq_swap d (code f.1) ∙ not-true _ p.0) (apart_from fs u d h p.1)
-  where
-    go : (b : Bool) → nat_eq d (code f.1) ≡ false → nat_eq d (code (kind_among fs u)) ≡ false
-        → nat_eq d (code (if b then f.1 else kind_among fs u)) ≡ false
-    go true i j = i
-    go false i j = j
-
-shown_same : (fs : List (List ℕ × Kind)) (u : List ℕ) → distinct fs ≡ true
-    → shown (code (kind_among fs u)) fs u ≡ u
-shown_same [] u h = refl
-shown_same (f ∷ fs) u h =
-    let p = and_parts (not (is_open (code f.1)) && fresh (code f.1) fs) (distinct fs) h in
-    let q = and_parts (not (is_open (code f.1))) (fresh (code f.1) fs) p.0 in
-    go (bytes_eq f.0 u) refl (apart_from fs u (code f.1) (not-true _ q.0) q.1) (shown_same fs u p.1)
-  where
-    go : (b : Bool) → bytes_eq f.0 u ≡ b → nat_eq (code f.1) (code (kind_among fs u)) ≡ false
-        → shown (code (kind_among fs u)) fs u ≡ u
-        → (if nat_eq (code f.1) (code (if b then f.1 else kind_among fs u)) then f.0
-        else shown (code (if b then f.1 else kind_among fs u)) fs u) ≡ u
-    go true e i j = ap (λ x. if x then f.0 else shown (code f.1) fs u) (eq_self (code f.1))
-        ∙ (bytes_eq-Decides f.0 u).0 e
-    go false e i j = ap (λ x. if x then f.0 else shown (code (kind_among fs u)) fs u) i ∙ j
-
-text_shown : (u : List ℕ) (k : Kind) → k ≡ kind_of u → shown (code k) fixed_tokens u ≡ u
-text_shown u k e = ap (λ x. shown (code x) fixed_tokens u) e ∙ shown_same fixed_tokens u refl
+use Rattle.cedar_tokens.specs.Inside.FixedTexts.{is_open, fixed_text}
+use Rattle.cedar_tokens.proofs.KindsOfTexts.{text_is_fixed}
 
 value_same : (u : List ℕ) (k : Kind) → k ≡ kind_of u → is K.Number k ≡ false → token_value u ≡ u
 value_same u k e h = go (is_number u) refl
@@ -97,9 +31,13 @@ pub own_text : (t : Lexeme) (k : Kind) → IsRight t → t.kind ≡ k → is K.N
     → token_value t.text.now ≡ t.text.now
 own_text t k r e h = value_same t.text.now k (sym e ∙ r.0) h
 
-pub fixed_text : (t : Lexeme) (k : Kind) → IsRight t → t.kind ≡ k → is K.Number k ≡ false
-    → token_value t.text.now ≡ shown (code k) fixed_tokens t.text.now
-fixed_text t k r e h = own_text t k r e h ∙ sym (text_shown t.text.now k (sym e ∙ r.0))
+-- a token of a kind that has one text
+pub value_is_fixed : (t : Lexeme) (k : Kind) → IsRight t → t.kind ≡ k → is_open k ≡ false
+    → token_value t.text.now ≡ fixed_text k
+value_is_fixed t k r e h =
+    let same : kind_of t.text.now ≡ k = sym r.0 ∙ e in
+    own_text t k r e (or_parts _ _ (or_parts _ _ h).1).0
+    ∙ (text_is_fixed t.text.now (ap is_open same ∙ h) ∙ ap fixed_text same)
 
 -- Rows without their trailing commas.
 pub kept_leaf : (t : Lexeme) (k : Kind) (f : Forest Label Lexeme) → t.kind ≡ k
@@ -121,10 +59,10 @@ nodes_own t k f r e h i =
     nodes_leaf t k f e h ∙ ap (λ u. leaf u (lexeme_nodes f)) (own_text t k r e i)
 
 pub nodes_fixed : (t : Lexeme) (k : Kind) (f : Forest Label Lexeme) → IsRight t → t.kind ≡ k
-    → is K.Comma k ≡ false → is K.Number k ≡ false
-    → lexeme_nodes (leaf t f) ≡ leaf (shown (code k) fixed_tokens t.text.now) (lexeme_nodes f)
-nodes_fixed t k f r e h i = nodes_own t k f r e h i
-    ∙ ap (λ u. leaf u (lexeme_nodes f)) (sym (text_shown t.text.now k (sym e ∙ r.0)))
+    → is K.Comma k ≡ false → is_open k ≡ false
+    → lexeme_nodes (leaf t f) ≡ leaf (fixed_text k) (lexeme_nodes f)
+nodes_fixed t k f r e h i =
+    nodes_leaf t k f e h ∙ ap (λ u. leaf u (lexeme_nodes f)) (value_is_fixed t k r e i)
 
 pub nodes_node : (l : Label) (s : Span) (parts : Erased) (p g : Forest Label Lexeme)
     → is_node l ≡ true → Stands s parts p → AreRight p

@@ -6,6 +6,7 @@ use Rattle.std.proofs.Common.{refl, sym, ap, ◌∙◌, arith, cond}
 use Rattle.std.proofs.lemmas.Bool.Decides.{nat_tests}
 use Rattle.std.proofs.lemmas.Slice.Eq.{bytes_eq-Decides}
 use Rattle.std.proofs.Math.Bool.{or-false}
+use Rattle.cedar_tokens.specs.Bytes.{quote}
 use Rattle.cedar_tokens.specs.Units.{is_word, is_number, is_string, is_one_of, slots, punctuators, is_token}
 use Rattle.cedar_tokens.specs.Listing.{token_value, without_zeros}
 use Rattle.cedar_tokens.specs.declared.kind.Kind.{Kind}
@@ -32,7 +33,7 @@ none_digits (t ∷ ts) = if starts_digit t then false else none_digits ts
 
 other_digit : (u : List ℕ) → is K.Number (other_kind u) ≡ true → starts_digit u ≡ true
 other_digit [] h = absurd cc
-other_digit (b ∷ bs) h = go (b == 34) (is_ascii_digit b) refl h
+other_digit (b ∷ bs) h = go (b == quote) (is_ascii_digit b) refl h
   where
     go : (x y : Bool) → is_ascii_digit b ≡ y
         → is K.Number (if x then K.Str else (if y then K.Number else K.Identifier)) ≡ true
@@ -76,7 +77,7 @@ punctuators_digit : none_digits punctuators ≡ true
 unfolding punctuators
 punctuators_digit = refl
 
-no_quote : (b : ℕ) → is_ascii_digit b ≡ true → (b == 34) ≡ false
+no_quote : (b : ℕ) → is_ascii_digit b ≡ true → (b == quote) ≡ false
 no_quote b d = grind (arith, nat_tests)
 
 second_of : (w n s a b : Bool) → w ≡ false → s ≡ false → a ≡ false → b ≡ false

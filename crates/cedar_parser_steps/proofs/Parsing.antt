@@ -1,6 +1,6 @@
 -- What the reader's answer on the lexemes of a text says about the text:
 -- its tree of nodes, or the exact place and kind of its refusal.
-use Rattle.std.specs.Prelude.{◌≡◌, ℕ, suc, ◌+◌, ◌&&◌, Bool, true, false, List, [], ◌∷◌, ◌++◌, ◌⊎◌, length, map, Some, None, if◌then◌else◌}
+use Rattle.std.specs.Prelude.{◌≡◌, ℕ, suc, ◌+◌, Bool, true, false, List, [], ◌∷◌, ◌++◌, ◌⊎◌, length, map, Some, None, if◌then◌else◌}
 use Rattle.std.specs.List.{list_any, sum_by, AllByRecursion}
 use Rattle.std.proofs.Common.{refl, sym, ap, ◌∙◌, inl, inr, arith, length-append, append-nil, subst}
 use Rattle.std.proofs.lemmas.List.Sums.{sum_by-cons}
@@ -13,14 +13,13 @@ use Rattle.cedar_tokens.specs.declared.kind.Kind.{Kind}
 use Rattle.cedar_tokens.specs.declared.kind.Kind.TheVariants as K
 use Rattle.cedar_parser_steps.specs.declared.lexeme.Lexeme.{Lexeme}
 use Rattle.cedar_tree.specs.declared.tree.Policies.{Policies}
-use Rattle.cedar_tokens.specs.Kinds.{is, is_closing}
 use Rattle.cedar_grammar.specs.Trees.{Label, Forest, none, leaf, branch, yield}
 use Rattle.cedar_grammar.specs.KindGrammar.{G}
 use Rattle.cedar_tokens.specs.TokenKinds.{kind_of}
 use Rattle.cedar_grammar.specs.Reader.Hopeless.{Hopeless, Unfinished, IsRefused}
 use Rattle.cedar_grammar.specs.Numbers.{is_too_large}
 use Rattle.cedar_grammar.specs.Texts.{greatest_depth, only_tokens}
-use Rattle.cedar_grammar.specs.TrailingCommas.{drop_if, closes_next, without_trailing}
+use Rattle.cedar_grammar.specs.TrailingCommas.{without_trailing}
 use Rattle.cedar_grammar.proofs.Texts.Placed.{tree_by_texts}
 use Rattle.cedar_grammar.proofs.Plain.ByTexts.{plain_same}
 use Rattle.cedar_tree.specs.Erased.{erase}
@@ -29,49 +28,15 @@ use Rattle.cedar_grammar.specs.Placed.{Placed, with_places, placed, kind_of_plac
 use Rattle.cedar_parser_steps.specs.Lexemes.{AreLexemes, lexeme_nodes}
 use Rattle.cedar_grammar.specs.Reader.Reading.{Answer, done, stuck}
 use Rattle.cedar_grammar.specs.Reader.Lines.{set_to}
-use Rattle.cedar_grammar.proofs.Rules.Maps.{each, relabel, answer_of, set_agrees}
+use Rattle.cedar_grammar.proofs.Rules.Maps.{each, relabel, answer_of, set_agrees, each_length}
 use Rattle.cedar_grammar.proofs.WholeLaws.{set_sound, set_local}
 use Rattle.cedar_grammar.proofs.Answers.{Says, says_of}
 use Rattle.cedar_grammar.proofs.Texts.Kinds.{samples}
 use Rattle.cedar_grammar.proofs.Texts.Cuts.{cuts, unit_cut}
-use Rattle.cedar_grammar.proofs.Trees.Relabelling.{relabelled, each_map}
+use Rattle.cedar_grammar.proofs.Trees.Relabelling.{relabelled, each_map, each_append, relabel_yield, without_relabel}
 
 -- Changing leaves, and what depends on them.
 module _ {A B : Type 0} (h : A → B) where
-  each_length : (ts : List A) → length (each h ts) ≡ length ts
-  each_length [] = refl
-  each_length (a ∷ ts) = ap suc (each_length ts)
-
-  each_append : (xs ys : List A) → each h (xs ++ ys) ≡ each h xs ++ each h ys
-  each_append [] ys = refl
-  each_append (x ∷ xs) ys = ap (λ z. h x ∷ z) (each_append xs ys)
-
-  module _ (kind : A → Kind) (kind' : B → Kind) (same : (a : A) → kind' (h a) ≡ kind a) where
-    closes_same : (f : Forest Label A) → closes_next kind' (relabel h f) ≡ closes_next kind f
-    closes_same none = refl
-    closes_same (leaf a f) = ap is_closing (same a)
-    closes_same (branch l f g) = refl
-
-    without_relabel : (f : Forest Label A)
-        → without_trailing kind' (relabel h f) ≡ relabel h (without_trailing kind f)
-    without_relabel none = refl
-    without_relabel (leaf a f) = ap (λ k. drop_if (is K.Comma k && closes_next kind' (relabel h f))
-        (leaf (h a) (without_trailing kind' (relabel h f))) (without_trailing kind' (relabel h f)))
-        (same a)
-        ∙ ap (λ b. drop_if (is K.Comma (kind a) && b) (leaf (h a) (without_trailing kind'
-        (relabel h f))) (without_trailing kind' (relabel h f))) (closes_same f)
-        ∙ ap (λ z. drop_if (is K.Comma (kind a) && closes_next kind f) (leaf (h a) z) z)
-        (without_relabel f) ∙ moved (is K.Comma (kind a) && closes_next kind f)
-      where
-        moved : (b : Bool) → drop_if b (leaf (h a) (relabel h (without_trailing kind f))) (relabel h
-            (without_trailing kind f))
-            ≡ relabel h (drop_if b (leaf a (without_trailing kind f)) (without_trailing kind f))
-        moved true = refl
-        moved false = refl
-    without_relabel (branch l f g) =
-        ap (λ z. branch l z (without_trailing kind' (relabel h g))) (without_relabel f)
-        ∙ ap (branch l (relabel h (without_trailing kind f))) (without_relabel g)
-
   module _ (text : B → List ℕ) (place : B → Span) where
     end_relabel : (s : Span) (ts : List A)
         → end_of text place s (each h ts) ≡ end_of (λ a. text (h a)) (λ a. place (h a)) s ts
@@ -84,12 +49,6 @@ module _ {A B : Type 0} (h : A → B) where
     span_relabel (t ∷ ts) = ap (λ e. Some (record { start = (place (h t)).start; end = e }))
         (end_relabel (place (h t)) ts)
 
-    yield_same : (f : Forest Label A) → yield (relabel h f) ≡ each h (yield f)
-    yield_same none = refl
-    yield_same (leaf a f) = ap (λ z. h a ∷ z) (yield_same f)
-    yield_same (branch l f g) = ap (λ z. z ++ yield (relabel h g)) (yield_same f)
-        ∙ ap (λ z. each h (yield f) ++ z) (yield_same g) ∙ sym (each_append (yield f) (yield g))
-
     spanned_relabel : (f : Forest Label A)
         → spanned text place (relabel h f) ≡ spanned (λ a. text (h a)) (λ a. place (h a)) f
     spanned_relabel none = refl
@@ -97,7 +56,7 @@ module _ {A B : Type 0} (h : A → B) where
     spanned_relabel (branch l f g) =
         ap (λ s. branch (l, if is_node l then s else None) (spanned text place (relabel h f))
         (spanned text place (relabel h g)))
-        (ap (span_of text place) (yield_same f) ∙ span_relabel (yield f))
+        (ap (span_of text place) (relabel_yield h f) ∙ span_relabel (yield f))
         ∙ ap (λ z. branch
         (l, if is_node l then span_of (λ a. text (h a)) (λ a. place (h a)) (yield f) else None) z
         (spanned text place (relabel h g))) (spanned_relabel f)

@@ -6,8 +6,7 @@ use Rattle.cedar_tokens.specs.Listing.{token_value}
 use Rattle.cedar_tokens.specs.declared.token.Span.{Span}
 use Rattle.cedar_tokens.specs.declared.kind.Kind.{Kind}
 use Rattle.cedar_tokens.specs.declared.kind.Kind.TheVariants as K
-use Rattle.cedar_tokens.specs.Kinds.{code, is, is_closing}
-use Rattle.cedar_tokens.specs.TokenKinds.{fixed_tokens}
+use Rattle.cedar_tokens.specs.Kinds.{is, is_closing}
 use Rattle.cedar_grammar.specs.Trees.{Label, Forest, none, leaf, branch, join, yield}
 use Rattle.cedar_grammar.specs.TrailingCommas.{without_trailing, drop_if, closes_next}
 use Rattle.cedar_grammar.specs.Reader.Reading.{Reader, done, stuck, both, tree, repeat}
@@ -18,19 +17,20 @@ use Rattle.cedar_parser_steps.specs.Lexemes.{lexeme_nodes}
 use Rattle.cedar_tree.specs.NodeTrees.{is_node, span_of, spanned}
 use Rattle.cedar_parser_steps.specs.Reading.{kind, AreRight, Stands, StandsMany}
 use Rattle.cedar_parser_steps.specs.declared.lexeme.Lexeme.{Lexeme}
-use Rattle.cedar_parser_steps.proofs.LeafTexts.{shown, Covers, kept, from_to, nodes_fixed, nodes_node, covers_leaf, covers_more, covers_node, covers_nodes, covers_both}
+use Rattle.cedar_parser_steps.proofs.LeafTexts.{Covers, kept, from_to, nodes_fixed, nodes_node, covers_leaf, covers_more, covers_node, covers_nodes, covers_both}
+use Rattle.cedar_tokens.specs.Inside.FixedTexts.{is_open, fixed_text}
 
 -- a token whose text is determined by its kind
-pub row_token : (t : Lexeme) (k : Kind) → t.kind ≡ k → is K.Comma k ≡ false → is K.Number k ≡ false
-    → Stands t.span (leaf (shown (code k) fixed_tokens t.text.now) none) (leaf t none)
+pub row_token : (t : Lexeme) (k : Kind) → t.kind ≡ k → is K.Comma k ≡ false → is_open k ≡ false
+    → Stands t.span (leaf (fixed_text k) none) (leaf t none)
 row_token t k e h i =
     record { same = λ r. sym (nodes_fixed t k none r.0 e h i); place = covers_leaf t k e h }
 
 pub row_more : (t : Lexeme) (k : Kind) (s : Span) (p : Erased) (f : Forest Label Lexeme)
-    → t.kind ≡ k → is K.Comma k ≡ false → is K.Number k ≡ false → Stands s p f
-    → Stands (from_to t.span s) (leaf (shown (code k) fixed_tokens t.text.now) p) (leaf t f)
+    → t.kind ≡ k → is K.Comma k ≡ false → is_open k ≡ false → Stands s p f
+    → Stands (from_to t.span s) (leaf (fixed_text k) p) (leaf t f)
 row_more t k s p f e h i g = record {
-  same = λ r. ap (leaf (shown (code k) fixed_tokens t.text.now)) (g.same r.1)
+  same = λ r. ap (leaf (fixed_text k)) (g.same r.1)
       ∙ sym (nodes_fixed t k f r.0 e h i);
   place = covers_more t k f s e h g.place;
 }

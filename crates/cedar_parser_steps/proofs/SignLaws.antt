@@ -6,8 +6,7 @@ use Rattle.std.proofs.lemmas.Bool.{or_from}
 use Rattle.cedar_tokens.specs.declared.token.Span.{Span}
 use Rattle.cedar_tokens.specs.declared.kind.Kind.{Kind}
 use Rattle.cedar_tokens.specs.declared.kind.Kind.TheVariants as K
-use Rattle.cedar_tokens.specs.Kinds.{code, is, begins}
-use Rattle.cedar_tokens.specs.TokenKinds.{fixed_tokens}
+use Rattle.cedar_tokens.specs.Kinds.{is, begins}
 use Rattle.cedar_grammar.specs.Trees.{Label, Forest, none, leaf, join}
 use Rattle.cedar_grammar.specs.Reader.Reading.{Reader, done, choice, both, skip, one}
 use Rattle.cedar_grammar.proofs.Readers.Equations.{choice_yes, choice_no, both_done}
@@ -16,9 +15,9 @@ use Rattle.cedar_parser_steps.specs.Reading.{kind, Stands, first_place}
 use Rattle.cedar_parser_steps.specs.ReadingSigns.{Leads, GoesPastSigns, GivesSigns}
 use Rattle.cedar_parser_steps.specs.declared.lexeme.Lexeme.{Lexeme}
 use Rattle.cedar_tree.specs.declared.tree.NegOp.{NegOp}
-use Rattle.cedar_parser_steps.proofs.LeafTexts.{shown}
 use Rattle.cedar_parser_steps.proofs.Rows.{row_more, row_parts, row_span}
 use Rattle.cedar_parser_steps.proofs.Steps.{token_at, first_begins, is_itself}
+use Rattle.cedar_tokens.specs.Inside.FixedTexts.{is_open, fixed_text}
 
 -- one more sign
 leads_next : (k : Kind) (n : ℕ) (ts rest : List Lexeme) (t : Lexeme) (r : List Lexeme)
@@ -37,8 +36,8 @@ leads_first : (k : Kind) (p : Kind → Bool) (n : ℕ) (ts rest : List Lexeme) �
 leads_first k p n ts rest l = first_begins p ts l.0 l.1 l.2 ∙ ap p l.3
 
 -- signs of this kind, with this text
-module _ (k : Kind) (text : List ℕ) (comma : is K.Comma k ≡ false) (number : is K.Number k ≡ false)
-    (shows : (u : List ℕ) → shown (code k) fixed_tokens u ≡ text) where
+module _ (k : Kind) (text : List ℕ) (comma : is K.Comma k ≡ false) (fixed : is_open k ≡ false)
+    (shows : fixed_text k ≡ text) where
   -- one sign, and at most so many more
   abbrev sign_reader : ℕ → Reader Lexeme
   sign_reader zero = one kind k
@@ -61,8 +60,8 @@ module _ (k : Kind) (text : List ℕ) (comma : is K.Comma k ≡ false) (number :
       → Stands (record { start = first_place ts; end = s.end }) (leaf text p) (leaf t g)
   sign_before ts t r e h s p g st =
       row_span _ _ _ _ (ap (λ z. record { start = z; end = s.end }) (sym (ap first_place e)))
-      (row_parts _ _ _ _ (ap (λ u. leaf u p) (sym (shows t.text.now)))
-      (row_more t k s p g h comma number st))
+      (row_parts _ _ _ _ (ap (λ u. leaf u p) (sym shows))
+      (row_more t k s p g h comma fixed st))
 
   signs_read : (n m : ℕ) (ts rest : List Lexeme) → m ≤ n → Leads k (suc m) ts rest
       → (m < n → begins kind (is k) rest ≡ false) → SignsRead n m ts rest

@@ -12,8 +12,8 @@ use Rattle.cedar_parser_steps.specs.declared.lexeme.Lexeme.{Lexeme}
 use Rattle.cedar_parser_steps.proofs.Steps.{token_at}
 
 module _ (s : Kind) (u : Kind → Bool) (X Y Z : Reader Lexeme) where
-  abbrev behind : ℕ → Reader Lexeme
-  behind n rs = choice (begins kind u rs) (both X (tail_to kind s u X Y Z n)) Y rs
+  abbrev following : ℕ → Reader Lexeme
+  following n rs = choice (begins kind u rs) (both X (tail_to kind s u X Y Z n)) Y rs
 
   stop : (n : ℕ) (ts : List Lexeme) → begins kind (is s) ts ≡ false
       → tail_to kind s u X Y Z n ts ≡ Z ts
@@ -21,8 +21,8 @@ module _ (s : Kind) (u : Kind → Bool) (X Y Z : Reader Lexeme) where
   stop (suc n) ts h = choice_no _ _ _ ts h
 
   sign : (n : ℕ) (d : Lexeme) (ts : List Lexeme) → is s d.kind ≡ true
-      → tail_to kind s u X Y Z (suc n) (d ∷ ts) ≡ onto (leaf d none) (behind n ts)
-  sign n d ts e = choice_yes _ _ _ (d ∷ ts) e ∙ both_first (one kind s) (behind n) (d ∷ ts)
+      → tail_to kind s u X Y Z (suc n) (d ∷ ts) ≡ onto (leaf d none) (following n ts)
+  sign n d ts e = choice_yes _ _ _ (d ∷ ts) e ∙ both_first (one kind s) (following n) (d ∷ ts)
       (leaf d none) ts (token_at (is s) (d ∷ ts) d ts refl e)
 
   item : (n : ℕ) (d : Lexeme) (ts : List Lexeme) (f : Forest Label Lexeme) (r : List Lexeme)

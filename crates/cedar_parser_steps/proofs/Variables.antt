@@ -53,9 +53,9 @@ module _ (E P : Reader Lexeme) where
       (both (one kind K.In) E) ts) ts)
       skip ts
 
-  behind : (k : Kind) (Q : Reader Lexeme) (ts : List Lexeme) (d : Lexeme) (rest : List Lexeme)
+  following : (k : Kind) (Q : Reader Lexeme) (ts : List Lexeme) (d : Lexeme) (rest : List Lexeme)
       → ts ≡ d ∷ rest → d.kind ≡ k → both (one kind k) Q ts ≡ onto (leaf d none) (Q rest)
-  behind k Q ts d rest e h = both_first (one kind k) Q ts (leaf d none) rest
+  following k Q ts d rest e h = both_first (one kind k) Q ts (leaf d none) rest
       (token_at (is k) ts d rest e (is_itself k d.kind (sym h)))
 
   starts : (p : Kind → Bool) (b : Bool) (k : Kind) (ts : List Lexeme) (d : Lexeme)
@@ -66,21 +66,21 @@ module _ (E P : Reader Lexeme) where
       → d.kind ≡ K.Equal → related ts ≡ onto (leaf d none) (E rest)
   equal_reads ts d rest e h = choice_yes _ _ _ ts (starts relates true K.Equal ts d rest e h refl)
       ∙ choice_yes _ _ _ ts (starts (is K.Equal) true K.Equal ts d rest e h refl)
-      ∙ behind K.Equal E ts d rest e h
+      ∙ following K.Equal E ts d rest e h
 
   pub type_reads : (ts : List Lexeme) (d : Lexeme) (rest : List Lexeme) → ts ≡ d ∷ rest
       → d.kind ≡ K.Is → related ts ≡ onto (leaf d none) (both P in_part rest)
   type_reads ts d rest e h = choice_yes _ _ _ ts (starts relates true K.Is ts d rest e h refl)
       ∙ choice_no _ _ _ ts (starts (is K.Equal) false K.Is ts d rest e h refl)
       ∙ choice_yes _ _ _ ts (starts (is K.Is) true K.Is ts d rest e h refl)
-      ∙ behind K.Is (both P in_part) ts d rest e h
+      ∙ following K.Is (both P in_part) ts d rest e h
 
   pub member_reads : (ts : List Lexeme) (d : Lexeme) (rest : List Lexeme) → ts ≡ d ∷ rest
       → d.kind ≡ K.In → related ts ≡ onto (leaf d none) (E rest)
   member_reads ts d rest e h = choice_yes _ _ _ ts (starts relates true K.In ts d rest e h refl)
       ∙ choice_no _ _ _ ts (starts (is K.Equal) false K.In ts d rest e h refl)
       ∙ choice_no _ _ _ ts (starts (is K.Is) false K.In ts d rest e h refl)
-      ∙ behind K.In E ts d rest e h
+      ∙ following K.In E ts d rest e h
 
   pub none_reads : (ts : List Lexeme) → begins kind (is K.Equal) ts ≡ false
       → begins kind (is K.Is) ts ≡ false → begins kind (is K.In) ts ≡ false
@@ -90,7 +90,7 @@ module _ (E P : Reader Lexeme) where
   pub in_reads : (ts : List Lexeme) (d : Lexeme) (rest : List Lexeme) → ts ≡ d ∷ rest
       → d.kind ≡ K.In → in_part ts ≡ onto (leaf d none) (E rest)
   in_reads ts d rest e h = choice_yes _ _ _ ts (starts (is K.In) true K.In ts d rest e h refl)
-      ∙ behind K.In E ts d rest e h
+      ∙ following K.In E ts d rest e h
 
   pub typed_reads : (ts : List Lexeme) (d : Lexeme) (rest : List Lexeme) (g : Forest Label Lexeme)
       (r : List Lexeme) → ts ≡ d ∷ rest → d.kind ≡ K.Is → P rest ≡ done g r

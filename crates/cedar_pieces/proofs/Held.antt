@@ -69,9 +69,9 @@ record RightAfter (rest : List ℕ) (ws : List WrappedToken) (found : ℕ) : Typ
   split : SplitsInto rest units
   same : values units ≡ map value_of (drop found ws)
 
-behind : (text rest : List ℕ) (ws : List WrappedToken) (us : List (List ℕ)) (found : ℕ)
+following : (text rest : List ℕ) (ws : List WrappedToken) (us : List (List ℕ)) (found : ℕ)
     → Scans us text rest → Held ws us found → HasTheTokens text ws → RightAfter rest ws found
-behind text rest ws us found k h x =
+following text rest ws us found k h x =
     let s = split_after us x.units text rest k x.split in
     let e : values us ++ values s.0 ≡ values us ++ map value_of (drop found ws) =
     sym (values_append us s.0) ∙ ap values (sym s.1) ∙ x.same ∙ sym h.same in
@@ -101,7 +101,7 @@ pub held_more : (text rest u : List ℕ) (ws : List WrappedToken) (us : List (Li
     → Scans us text rest → Held ws us found → IsFirstUnit rest u → is_token u ≡ true
     → length ws ≤ found → HasTheTokens text ws → ⊥
 held_more text rest u ws us found k h f t l x =
-    let v = next_value rest u ws found (behind text rest ws us found k h x) f t in
+    let v = next_value rest u ws found (following text rest ws us found k h x) f t in
     let none : token_value u ∷ v.0 ≡ [] = v.1 ∙ ap (map value_of) (drop_all found ws l) in
     absurd cc
 
@@ -112,7 +112,7 @@ pub held_other : (text rest u : List ℕ) (ws : List WrappedToken) (us : List (L
     → drop found ws ≡ w ∷ drop (found + 1) ws → token_value u ≢ value_of w
     → HasTheTokens text ws → ⊥
 held_other text rest u ws us w found k h f t next m x =
-    let v = next_value rest u ws found (behind text rest ws us found k h x) f t in
+    let v = next_value rest u ws found (following text rest ws us found k h x) f t in
     let both : token_value u ∷ v.0 ≡ value_of w ∷ map value_of (drop (found + 1) ws) =
     v.1 ∙ ap (map value_of) next in
     let one : token_value u ≡ value_of w = cc in
@@ -141,7 +141,7 @@ pub held_end : (text rest : List ℕ) (ws : List WrappedToken) (us : List (List 
 held_end text rest ws us found k h none x = go b.units b.split b.same
   where
     b : RightAfter rest ws found
-    b = behind text rest ws us found k h x
+    b = following text rest ws us found k h x
 
     go : (vs : List (List ℕ)) → SplitsInto rest vs → values vs ≡ map value_of (drop found ws)
         → (rest ≡ []) × (found ≡ length ws)

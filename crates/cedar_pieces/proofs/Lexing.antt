@@ -104,13 +104,13 @@ piece_lexemes text rest at n lexemes s e r =
     let front = s.ends.before ++ (codes ";" ∷ []) in
     let places : token_spans 0 (units_of p) ≡ token_spans 0 front =
     ap (token_spans 0) (sym (append_assoc s.ends.before (codes ";" ∷ []) p.line))
-    ∙ spans_before front p.line 0 (tokenless p.line (no_tokens p.line p.behind.no_token)) in
+    ∙ spans_before front p.line 0 (tokenless p.line (no_tokens p.line p.rest_of_line.no_token)) in
     record {
       units = units_of p;
       split = piece_splits text (at + n) p;
       fitting = list_any-append is_too_large s.ends.before (codes ";" ∷ p.line)
           ∙ (ap (λ z. z || list_any is_too_large p.line) s.fitting
-          ∙ no_numbers p.line p.behind.no_token);
+          ∙ no_numbers p.line p.rest_of_line.no_token);
       texts = s.texts ∙ tokens_cut s.ends.before (codes ";") [] semicolon_token
           ∙ sym (piece_tokens text (at + n) p);
       places = s.places ∙ sym places;

@@ -7,6 +7,7 @@ use Rattle.std.proofs.Math.Seq.{take-append_seam}
 use Rattle.std.proofs.lemmas.Bool.{and_parts, or_parts}
 use Rattle.std.proofs.Math.Bool.{and-false}
 use Rattle.std.proofs.lemmas.List.Folds.{concat-append}
+use Rattle.cedar_tokens.specs.Bytes.{line_feed}
 use Rattle.cedar_tokens.specs.Units.{IsUnit, is_token, slots, punctuators}
 use Rattle.cedar_tokens.specs.Split.{Scans, SplitsInto}
 use Rattle.cedar_tokens.specs.Listing.{Decorated, Listing, IsListing, Gaps, gaps, decorate, listing, comments}
@@ -72,19 +73,21 @@ units_follow text n vs p s =
 
 -- ---- the rest of the line
 
-feedless_unit : (u : List ℕ) → list_any (λ b. b == 10) u ≡ false → feedless u ≡ true
+feedless_unit : (u : List ℕ) → list_any (λ b. b == line_feed) u ≡ false → feedless u ≡ true
 feedless_unit [] h = refl
-feedless_unit (b ∷ u) h = go (b == 10) h (feedless_unit u)
+feedless_unit (b ∷ u) h = go (b == line_feed) h (feedless_unit u)
   where
-    go : (t : Bool) → (t || list_any (λ c. c == 10) u) ≡ false
-        → (list_any (λ c. c == 10) u ≡ false → feedless u ≡ true) → (not t && feedless u) ≡ true
+    go : (t : Bool) → (t || list_any (λ c. c == line_feed) u) ≡ false
+        → (list_any (λ c. c == line_feed) u ≡ false → feedless u ≡ true) → (not t && feedless u)
+        ≡ true
     go true h ih = absurd cc
     go false h ih = ih h
 
 feedless_units : (us : List (List ℕ)) → HaveNoFeed us → feedless (concat us) ≡ true
 feedless_units [] h = refl
 feedless_units (u ∷ us) h =
-    let p = or_parts (list_any (λ b. b == 10) u) (list_any (λ v. list_any (λ b. b == 10) v) us) h in
+    let p = or_parts (list_any (λ b. b == line_feed) u)
+    (list_any (λ v. list_any (λ b. b == line_feed) v) us) h in
     feedless_append u (concat us) (feedless_unit u p.0) (feedless_units us p.1)
 
 no_tokens : (us : List (List ℕ)) → list_any is_token us ≡ false
@@ -104,14 +107,16 @@ no_gap rest (v ∷ vs) (inr (u, f, t)) s =
     rw e refl
 
 fed_after : (front : List (List ℕ)) (f : List ℕ) → HaveNoFeed front
-    → after_newline (concat front ++ (10 ∷ f)) ≡ f
-fed_after front f h = after_free (concat front) (10 ∷ f) (feedless_units front h) ∙ after_cons 10 f
+    → after_newline (concat front ++ (line_feed ∷ f)) ≡ f
+fed_after front f h = after_free (concat front) (line_feed ∷ f) (feedless_units front h)
+    ∙ after_cons line_feed f
 
 -- after the line nothing is left of its text
 line_alone : (line : List (List ℕ)) (rest : List ℕ)
     → EndInFeed line ⊎ (HaveNoFeed line × BeginsNoBlank rest) → after_newline (concat line) ≡ []
 line_alone line rest (inl (front, e, h)) =
-    ap after_newline (ap concat e ∙ concat-append front ((10 ∷ []) ∷ [])) ∙ fed_after front [] h
+    ap after_newline (ap concat e ∙ concat-append front ((line_feed ∷ []) ∷ []))
+    ∙ fed_after front [] h
 line_alone line rest (inr (h, b)) = ap after_newline (sym (append-nil (concat line)))
     ∙ after_free (concat line) [] (feedless_units line h)
 
@@ -125,13 +130,13 @@ line_says : (line vs : List (List ℕ)) (rest : List ℕ) → IsRestOfLine line 
 line_says line vs rest r s =
     elim r.ends [ inl e ↦ fed e.0 e.1 e.2 | inr e ↦ unfed e.0 (no_gap rest vs e.1 s) ]
   where
-    fed : (front : List (List ℕ)) → line ≡ front ++ ((10 ∷ []) ∷ []) → HaveNoFeed front
+    fed : (front : List (List ℕ)) → line ≡ front ++ ((line_feed ∷ []) ∷ []) → HaveNoFeed front
         → Says (concat line ++ (gaps vs).first) (concat line) (gaps vs).first
     fed front e h =
-        let c : concat line ≡ concat front ++ (10 ∷ []) =
-        ap concat e ∙ concat-append front ((10 ∷ []) ∷ []) in
-        let d : (f : List ℕ) → concat line ++ f ≡ concat front ++ (10 ∷ f) =
-        λ f. ap (λ z. z ++ f) c ∙ append_assoc (concat front) (10 ∷ []) f in
+        let c : concat line ≡ concat front ++ (line_feed ∷ []) =
+        ap concat e ∙ concat-append front ((line_feed ∷ []) ∷ []) in
+        let d : (f : List ℕ) → concat line ++ f ≡ concat front ++ (line_feed ∷ f) =
+        λ f. ap (λ z. z ++ f) c ∙ append_assoc (concat front) (line_feed ∷ []) f in
         record {
           before =
               ap before_newline (d (gaps vs).first) ∙ (before_join (concat front) (gaps vs).first
@@ -248,7 +253,7 @@ lists_follow text n l m p a b = record {
   split = units_follow text n b.units p b.split;
   value = ap (λ z. then_list z m) (piece_value text n l p a)
       ∙ (ap (then_list (listing (p.before ++ (codes ";" ∷ p.line)))) b.value
-      ∙ sym (listing_parts p.before p.line b.units (drop n text) p.behind b.split));
+      ∙ sym (listing_parts p.before p.line b.units (drop n text) p.rest_of_line b.split));
 }
 
 -- the list of a piece's units ends with its `;`
@@ -283,9 +288,10 @@ piece_ends text n l p a =
     let e : l
     ≡ decorate (gaps p.before).first ((gaps p.before).tokens ++ ((codes ";", concat p.line) ∷ [])) =
     piece_value text n l p a
-    ∙ ap (λ (g : Gaps). decorate g.first g.tokens) (lone_gaps p.before p.line p.behind.no_token) in
+    ∙ ap (λ (g : Gaps). decorate g.first g.tokens)
+    (lone_gaps p.before p.line p.rest_of_line.no_token) in
     subst (λ z. EndsInSemicolon z) (sym e) (decorate_ends (gaps p.before).first
-    (gaps p.before).tokens (concat p.line) (line_alone p.line (drop n text) p.behind.ends))
+    (gaps p.before).tokens (concat p.line) (line_alone p.line (drop n text) p.rest_of_line.ends))
 
 -- ---- lists without trailing commas
 

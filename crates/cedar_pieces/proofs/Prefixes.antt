@@ -88,17 +88,17 @@ piece_within text at n p q =
     let r = drop at text in
     let e : text ≡ concat us ++ r = scans_concat us text r p.scans in
     let long : Scans us (concat us ++ r) r = subst (λ z. Scans us z r) e p.scans in
-    let parted : Scans us (concat us ++ (take n r ++ drop n r)) (take n r ++ drop n r) =
+    let scans : Scans us (concat us ++ (take n r ++ drop n r)) (take n r ++ drop n r) =
     subst (λ z. Scans us (concat us ++ z) z) (sym (take-append-drop n r)) long in
     let short : Scans us (concat us ++ take n r) (take n r) =
-    scans_shorter us (take n r) (drop n r) parted in
+    scans_shorter us (take n r) (drop n r) scans in
     record {
       before = p.before;
       line = p.line;
       scans = subst (λ z. Scans us (through text at n) z) (sym (through_after text at n))
           (subst (λ z. Scans us z (take n r)) (sym (through_text text at n p)) short);
       place = p.place;
-      behind = record { no_token = p.behind.no_token; ends = go p.behind.ends };
+      rest_of_line = record { no_token = p.rest_of_line.no_token; ends = go p.rest_of_line.ends };
     }
   where
     first : (u : List ℕ) → IsFirstUnit (drop at text) u → IsFirstUnit (take n (drop at text)) u
@@ -138,7 +138,11 @@ piece_alone text n p =
       scans = subst (λ z. Scans us (take n text) z) (sym none)
           (subst (λ z. Scans us z []) (sym front) short);
       place = p.place;
-      behind = record { no_token = p.behind.no_token; ends = go none p.behind.ends };
+      rest_of_line = record {
+        no_token = p.rest_of_line.no_token;
+        ends =
+            go none p.rest_of_line.ends;
+      };
     }
   where
     go : drop n (take n text) ≡ []

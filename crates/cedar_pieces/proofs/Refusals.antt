@@ -10,6 +10,7 @@ use Rattle.std.proofs.lemmas.List.Folds.{list_any-append}
 use Rattle.std.proofs.lemmas.List.Sums.{sum_by-append}
 use Rattle.std.proofs.lemmas.Slice.Eq.{bytes_eq-Decides}
 use Rattle.std.proofs.lemmas.Bool.{or_from, or_cases, both_ways}
+use Rattle.cedar_tokens.specs.Bytes.{quote}
 use Rattle.cedar_tokens.specs.Units.{is_token}
 use Rattle.cedar_tokens.specs.Split.{SplitsInto}
 use Rattle.cedar_tokens.proofs.Scanning.{split_unique}
@@ -55,7 +56,7 @@ no_tokens (u ∷ us) h = rw (or_left (is_token u) (list_any is_token us) h)
 pub piece_tokens : (text : List ℕ) (n : ℕ) (p : IsPiece text n)
     → only_tokens (p.before ++ (codes ";" ∷ p.line)) ≡ only_tokens p.before ++ (codes ";" ∷ [])
 piece_tokens text n p = tokens_cut p.before (codes ";") p.line semicolon_token
-    ∙ ap (λ z. only_tokens p.before ++ (codes ";" ∷ z)) (no_tokens p.line p.behind.no_token)
+    ∙ ap (λ z. only_tokens p.before ++ (codes ";" ∷ z)) (no_tokens p.line p.rest_of_line.no_token)
 
 -- A token other than `;` has another kind.
 abbrev alone : List (List ℕ × Kind) → Bool
@@ -64,7 +65,7 @@ alone (f ∷ fs) = (is_semicolon f.0 || not (is K.SemiColon f.1)) && alone fs
 
 other_differs : (text : List ℕ) → is K.SemiColon (other_kind text) ≡ false
 other_differs [] = refl
-other_differs (b ∷ bs) = go (b == 34) (is_ascii_digit b)
+other_differs (b ∷ bs) = go (b == quote) (is_ascii_digit b)
   where
     go : (c d : Bool)
         → is K.SemiColon (if c then K.Str else (if d then K.Number else K.Identifier)) ≡ false
@@ -157,9 +158,9 @@ module _ (front : List (List ℕ)) where
   parts d tree ts g = list_parts kind_of d tree front (codes ";") ts refl
       (subst (λ z. G kind_of d tree z) (regroup ts) g)
 
-  behind : (d : ℕ) (ts : List (List ℕ)) → BeginsByKinds kind_of d (whole ++ ts)
+  following : (d : ℕ) (ts : List (List ℕ)) → BeginsByKinds kind_of d (whole ++ ts)
       → BeginsByKinds kind_of d ts
-  behind d ts b =
+  following d ts b =
       let q = parts d b.tree (ts ++ b.rest)
       (subst (λ z. G kind_of d b.tree z) (append_assoc whole ts b.rest) b.grammar) in
       record { rest = b.rest; tree = q.1.0; grammar = q.1.1 }
@@ -284,7 +285,7 @@ rest_refused text n at deep us p s fit (tree, a) r = go r
         ∙ append_assoc (front ++ (codes ";" ∷ [])) (only_tokens hb) (ht ∷ []) in (
           subst (λ z. BeginsByKinds kind_of greatest_depth z) (sym e)
               (onto front greatest_depth tree (only_tokens hb) accepted h.0),
-          λ b. h.1 (behind front greatest_depth (only_tokens hb ++ (ht ∷ []))
+          λ b. h.1 (following front greatest_depth (only_tokens hb ++ (ht ∷ []))
               (subst (λ z. BeginsByKinds kind_of greatest_depth z) same b)),
           (
             λ i. let x = h.2.0 i in
@@ -292,7 +293,7 @@ rest_refused text n at deep us p s fit (tree, a) r = go r
                 (y.0, subst (λ z. BeginsByKinds kind_of y.0 z) (sym same) y.1),
             λ x. h.2.1 (
               x.0,
-              behind front x.0 (only_tokens hb ++ (ht ∷ []))
+              following front x.0 (only_tokens hb ++ (ht ∷ []))
                   (subst (λ z. BeginsByKinds kind_of x.0 z) same x.1),
             ),
           ),

@@ -15,7 +15,7 @@ piece_more text at n p q = record {
   scans = rw (shape, sym (drop-drop n at text))
       (scans_append front back text (drop at text) (drop n (drop at text)) p.scans q.scans);
   place = rw (shape, sum_by-append length front back) (omega (arith, p.place, q.place));
-  behind = rw (sym (drop-drop n at text)) q.behind;
+  rest_of_line = rw (sym (drop-drop n at text)) q.rest_of_line;
 }
   where
     front : List (List ℕ)

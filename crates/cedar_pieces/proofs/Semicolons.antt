@@ -11,6 +11,7 @@ use Rattle.std.proofs.lemmas.List.{drop-drop}
 use Rattle.std.proofs.lemmas.List.Sums.{sum_by-append}
 use Rattle.std.proofs.lemmas.List.Folds.{list_any-append}
 use Rattle.std.proofs.lemmas.Bool.{and_parts, false_from_ne_true}
+use Rattle.cedar_tokens.specs.Bytes.{line_feed}
 use Rattle.cedar_tokens.specs.Units.{IsBlank, IsComment, is_token, is_comment_byte}
 use Rattle.cedar_tokens.specs.Split.{HasKind}
 use Rattle.cedar_tokens.specs.declared.lexer.UnitKind.{UnitKind}
@@ -39,7 +40,7 @@ differs u v m = false_from_ne_true (bytes_eq v u) (λ e. m (sym ((bytes_eq-Decid
 
 -- whether a byte is a line feed
 abbrev pub is_feed : ℕ → Bool
-is_feed b = b == 10
+is_feed b = b == line_feed
 
 no_feed_here : (b : ℕ) → is_comment_byte b ≡ true → is_feed b ≡ false
 no_feed_here b h = grind (arith, nat_tests)
@@ -59,36 +60,37 @@ comment_no_feed (a ∷ b ∷ body) k =
 
 -- a line feed among the bytes, and what is around it
 feed_at : (u : List ℕ) → list_any is_feed u ≡ true
-    → (w : List ℕ) × (v : List ℕ) × (u ≡ w ++ (10 ∷ v))
+    → (w : List ℕ) × (v : List ℕ) × (u ≡ w ++ (line_feed ∷ v))
 feed_at [] h = absurd cc
 feed_at (b ∷ u) h = go (is_feed b) refl (feed_at u)
   where
     go : (t : Bool) → is_feed b ≡ t
-        → (list_any is_feed u ≡ true → (w : List ℕ) × (v : List ℕ) × (u ≡ w ++ (10 ∷ v)))
-        → (w : List ℕ) × (v : List ℕ) × (b ∷ u ≡ w ++ (10 ∷ v))
-    go true e more = ([], u, ap (λ x. x ∷ u) ((Decides-eqb b 10).0 e))
+        → (list_any is_feed u ≡ true → (w : List ℕ) × (v : List ℕ) × (u ≡ w ++ (line_feed ∷ v)))
+        → (w : List ℕ) × (v : List ℕ) × (b ∷ u ≡ w ++ (line_feed ∷ v))
+    go true e more = ([], u, ap (λ x. x ∷ u) ((Decides-eqb b line_feed).0 e))
     go false e more = let f = more (rw e at h) in (b ∷ f.0, f.1, ap (λ x. b ∷ x) f.2)
 
-get_feed : (w v : List ℕ) → get_or (w ++ (10 ∷ v)) (length w) 0 ≡ 10
+get_feed : (w v : List ℕ) → get_or (w ++ (line_feed ∷ v)) (length w) 0 ≡ line_feed
 get_feed [] v = refl
 get_feed (b ∷ w) v = get_feed w v
 
 -- a blank that contains a line feed is just that line feed
-blank_feed : (u : List ℕ) → IsBlank u → list_any is_feed u ≡ true → u ≡ 10 ∷ []
+blank_feed : (u : List ℕ) → IsBlank u → list_any is_feed u ≡ true → u ≡ line_feed ∷ []
 blank_feed u k h =
     let f = feed_at u h in
-    let g : get_or u (length f.0) 0 ≡ 10 =
+    let g : get_or u (length f.0) 0 ≡ line_feed =
     ap (λ x. get_or x (length f.0) 0) f.2 ∙ get_feed f.0 f.1 in
     let l : length f.0 < length (encode_utf8 k.0) =
-    omega (arith, ap length k.2, ap length f.2, length-append f.0 (10 ∷ f.1)) in
+    omega (arith, ap length k.2, ap length f.2, length-append f.0 (line_feed ∷ f.1)) in
     let e = inside_one k.0 [] u (length f.0) (k.2 ∙ sym (append-nil (encode_utf8 k.0))) l
     (omega (arith, g)) in
-    k.2 ∙ (ap encode_utf8 (e ∙ g) ∙ encode_ascii 10 (omega arith))
+    k.2 ∙ (ap encode_utf8 (e ∙ g) ∙ encode_ascii line_feed (omega arith))
 
-blank_no_feed : (u : List ℕ) → IsBlank u → u ≢ 10 ∷ [] → list_any is_feed u ≡ false
+blank_no_feed : (u : List ℕ) → IsBlank u → u ≢ line_feed ∷ [] → list_any is_feed u ≡ false
 blank_no_feed u k m = false_from_ne_true (list_any is_feed u) (λ e. m (blank_feed u k e))
 
-pub unit_no_feed : (kind : UnitKind) (u : List ℕ) → HasKind kind u → kind ≢ Token → u ≢ 10 ∷ []
+pub unit_no_feed : (kind : UnitKind) (u : List ℕ) → HasKind kind u → kind ≢ Token → u
+    ≢ line_feed ∷ []
     → list_any is_feed u ≡ false
 unit_no_feed Blank u k t m = blank_no_feed u k m
 unit_no_feed Comment u k t m = comment_no_feed u k
@@ -99,11 +101,11 @@ pub ends_in_feed : (us : List (List ℕ)) (text rest u : List ℕ) (n : ℕ)
     → EndsAt (us ++ u ∷ []) text rest n → u ≡ codes "\n" → list_any is_token us ≡ false
     → HaveNoFeed us → EndsLine text n
 ends_in_feed us text rest u n e m no_token no_feed = record {
-  line = us ++ (10 ∷ []) ∷ [];
+  line = us ++ (line_feed ∷ []) ∷ [];
   scans = rw m at e.scans;
   place = rw m at e.place;
   rest = record {
-    no_token = any_more is_token us (10 ∷ []) no_token feed_no_token;
+    no_token = any_more is_token us (line_feed ∷ []) no_token feed_no_token;
     ends = inl (us, refl, no_feed);
   };
 }
@@ -134,7 +136,7 @@ piece_whole text rest at n s e r =
           sym (append_assoc s.before (codes ";" ∷ []) l.line),
           sum_by-append length (s.before ++ (codes ";" ∷ [])) l.line,
         ) (omega (arith, s.place, l.place));
-        behind = rw (sym (drop-drop n at text)) l.rest;
+        rest_of_line = rw (sym (drop-drop n at text)) l.rest;
       };
       first = s.first;
     }

@@ -15,7 +15,8 @@ HaveNoFeed units = list_any (λ u. list_any (λ b. b == line_feed) u) units ≡ 
 
 -- the last unit is the only line feed
 abbrev pub EndInFeed : List (List ℕ) → Type 0
-EndInFeed units = (front : List (List ℕ)) × (units ≡ front ++ ((line_feed ∷ []) ∷ [])) × HaveNoFeed front
+EndInFeed units = (front : List (List ℕ)) × (units ≡ front ++ ((line_feed ∷ []) ∷ []))
+    × HaveNoFeed front
 
 -- a token begins here, or no unit: the text ends here, or has its fault here
 abbrev pub BeginsNoBlank : List ℕ → Type 0
@@ -32,7 +33,7 @@ pub record IsPiece (text : List ℕ) (n : ℕ) : Type 0 where
   pub line : List (List ℕ)
   pub scans : Scans (before ++ (codes ";" ∷ line)) text (drop n text)
   pub place : n ≡ sum_by length (before ++ (codes ";" ∷ line))
-  pub behind : IsRestOfLine line (drop n text)
+  pub rest_of_line : IsRestOfLine line (drop n text)
 
 -- the same through the first `;` of the text
 pub record IsFirstPiece (text : List ℕ) (n : ℕ) : Type 0 where

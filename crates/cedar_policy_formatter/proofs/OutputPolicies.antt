@@ -61,7 +61,7 @@ alike_branch l o p no_spans a b = a_variant l a b
 alike_branch l o p (two_spans s t) a b = a_node l s t a b
 
 yields : (f : Forest Label Placed) → yield (relabel value_of f) ≡ each value_of (yield f)
-yields f = relabel_yield value_of kind_of_placed kind_of (λ t. value_kind t.text) f
+yields f = relabel_yield value_of f
 
 spanned_alike : (f g : Forest Label Placed) → relabel value_of f ≡ relabel value_of g
     → Alike (spanned text_of place_of f) (spanned text_of place_of g)

@@ -23,6 +23,7 @@ use Rattle.cedar_laws.proofs.Grammatical.{grammar_of}
 use Rattle.cedar_documents.proofs.StreamTrees.{PoliciesOver, policies_over}
 use Rattle.cedar_grammar.proofs.Trees.Relabelling.{map_map}
 use Rattle.cedar_layout.specs.Lookups.{shown}
+use Rattle.cedar_tokens.specs.Bytes.{line_feed}
 use Rattle.cedar_tokens.specs.PlainList.{plain_list, kept_tokens}
 use Rattle.cedar_tokens.specs.Places.{AreInOrder}
 use Rattle.cedar_tokens.specs.Tokens.{bare, decorated}
@@ -119,7 +120,7 @@ module _ (w : ℕ) (i : ℤ) (text : List ℕ) (n : Node Policy) (tokens : List 
   pub output_of : (t out : List ℕ) → IsPiece text (length text) → Accepted text
       → ((p : Clause Shown policy) → IsAt n.span (part_yield p) → IsPartOf (erased.policy_parts
       n.inner) p → map shown tokens ≡ part_yield p → IsPolicyText w i p t)
-      → out ≡ t ++ (10 ∷ []) → IsOutputOf w i text out
+      → out ≡ t ++ (line_feed ∷ []) → IsOutputOf w i text out
   output_of t out piece accepted f e =
       let laid : IsPolicyText w i typed_policy.typed t = said_of (λ p. IsPolicyText w i p t) f in
       let closed = piece_ends text (length text) s.list piece (subst (λ x. IsListing x s.list)
@@ -136,6 +137,6 @@ module _ (w : ℕ) (i : ℤ) (text : List ℕ) (n : Node Policy) (tokens : List 
           texts = t ∷ [];
           cleaned = subst (λ z. PolicyTexts (IsTheLayoutAt w) i (map (part_map as_leaf) z) (t ∷ []))
               (sym typed_policy.only) (laid, tt);
-          written = e ∙ ap (λ c. t ++ (10 ∷ closing_text c)) (sym closed.0);
+          written = e ∙ ap (λ c. t ++ (line_feed ∷ closing_text c)) (sym closed.0);
         };
       }

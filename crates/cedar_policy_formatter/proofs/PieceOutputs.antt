@@ -6,6 +6,7 @@ use Rattle.std.proofs.lemmas.List.{take_all}
 use Rattle.std.proofs.lemmas.List.Concat.{flat_map-append}
 use Rattle.std.proofs.lemmas.Bool.Decides.{nat_tests}
 use Rattle.cedar_layout.specs.Layout.{Doc, IsTheLayoutAt}
+use Rattle.cedar_tokens.specs.Bytes.{line_feed}
 use Rattle.cedar_tokens.specs.Split.{SplitsInto}
 use Rattle.cedar_tokens.specs.Listing.{Decorated, Listing, IsListing, comments}
 use Rattle.cedar_tokens.specs.PlainList.{is_closing_bracket, plain_list}
@@ -182,13 +183,14 @@ no_texts laid i [] a = refl
 no_texts laid i (p ∷ ps) a = absurd a
 
 join_more : (ts us : List (List ℕ)) → (ts ≡ [] → ⊥) → (us ≡ [] → ⊥)
-    → paragraphs (ts ++ us) ≡ paragraphs ts ++ (10 ∷ (10 ∷ paragraphs us))
+    → paragraphs (ts ++ us) ≡ paragraphs ts ++ (line_feed ∷ (line_feed ∷ paragraphs us))
 join_more [] us a b = absurd (a refl)
 join_more (t ∷ []) [] a b = absurd (b refl)
 join_more (t ∷ []) (u ∷ us) a b = refl
 join_more (t ∷ (s ∷ ts)) us a b =
-    ap (λ z. t ++ (10 ∷ (10 ∷ z))) (join_more (s ∷ ts) us (λ e. absurd cc) b)
-    ∙ sym (append_assoc t (10 ∷ (10 ∷ paragraphs (s ∷ ts))) (10 ∷ (10 ∷ paragraphs us)))
+    ap (λ z. t ++ (line_feed ∷ (line_feed ∷ z))) (join_more (s ∷ ts) us (λ e. absurd cc) b)
+    ∙ sym (append_assoc t (line_feed ∷ (line_feed ∷ paragraphs (s ∷ ts)))
+    (line_feed ∷ (line_feed ∷ paragraphs us)))
 
 -- an output of a list that has tokens has a text
 has_text : (w : ℕ) (i : ℤ) (x y : List ℕ) (o : IsOutputOf w i x y) → (o.list.tokens ≡ [] → ⊥)
@@ -203,7 +205,7 @@ has_text w i x y o h e =
 -- after a piece's output comes that of the rest, if that has tokens, with an empty line between
 pub outputs_follow : (w : ℕ) (i : ℤ) (text : List ℕ) (n : ℕ) (y z : List ℕ) → Accepted text
     → IsPiece text n → IsOutputOf w i (take n text) y → (b : IsOutputOf w i (drop n text) z)
-    → (b.list.tokens ≡ [] → ⊥) → IsOutputOf w i text (y ++ (10 ∷ z))
+    → (b.list.tokens ≡ [] → ⊥) → IsOutputOf w i text (y ++ (line_feed ∷ z))
 outputs_follow w i text n y z c p a b more =
     let e = piece_ends text n a.list p a.is_list in
     let s = e.1.2 in
@@ -213,15 +215,17 @@ outputs_follow w i text n y z c p a b more =
     (plain_follow e.1.0 e.1.1 b.list.tokens e.1.3
     (first_stays b.policies b.list.tokens (trees_of b) (leaves_of b))) in
     let some : a.list.tokens ≡ [] → ⊥ = λ h. append_not_nil e.1.0 e.1.1 [] (sym s ∙ h) in
-    let front : y ≡ paragraphs a.output.texts ++ (10 ∷ []) =
-    a.output.written ∙ ap (λ c. paragraphs a.output.texts ++ (10 ∷ closing_text c)) e.0 in
-    let back : y ++ (10 ∷ z)
-    ≡ paragraphs (a.output.texts ++ b.output.texts) ++ (10 ∷ closing_text b.list.closing) =
-    ap (λ v. v ++ (10 ∷ z)) front ∙ (append_assoc (paragraphs a.output.texts) (10 ∷ []) (10 ∷ z)
-    ∙ (ap (λ v. paragraphs a.output.texts ++ (10 ∷ (10 ∷ v))) b.output.written
-    ∙ (sym (append_assoc (paragraphs a.output.texts) (10 ∷ (10 ∷ paragraphs b.output.texts))
-    (10 ∷ closing_text b.list.closing))
-    ∙ ap (λ v. v ++ (10 ∷ closing_text b.list.closing))
+    let front : y ≡ paragraphs a.output.texts ++ (line_feed ∷ []) =
+    a.output.written ∙ ap (λ c. paragraphs a.output.texts ++ (line_feed ∷ closing_text c)) e.0 in
+    let back : y ++ (line_feed ∷ z)
+    ≡ paragraphs (a.output.texts ++ b.output.texts) ++ (line_feed ∷ closing_text b.list.closing) =
+    ap (λ v. v ++ (line_feed ∷ z)) front
+    ∙ (append_assoc (paragraphs a.output.texts) (line_feed ∷ []) (line_feed ∷ z)
+    ∙ (ap (λ v. paragraphs a.output.texts ++ (line_feed ∷ (line_feed ∷ v))) b.output.written
+    ∙ (sym (append_assoc (paragraphs a.output.texts)
+    (line_feed ∷ (line_feed ∷ paragraphs b.output.texts))
+    (line_feed ∷ closing_text b.list.closing))
+    ∙ ap (λ v. v ++ (line_feed ∷ closing_text b.list.closing))
     (sym (join_more a.output.texts b.output.texts (has_text w i (take n text) y a some)
     (has_text w i (drop n text) z b more)))))) in
     record {
@@ -245,7 +249,7 @@ outputs_follow w i text n y z c p a b more =
 pub outputs_join : (w : ℕ) (i : ℤ) (text : List ℕ) (n : ℕ) (y z : List ℕ) → Accepted text
     → IsPiece text n → ((m : ℕ) × IsPiece (drop n text) m × (m ≡ length (drop n text)))
     → IsOutputOf w i (take n text) y → IsOutputOf w i (drop n text) z
-    → IsOutputOf w i text (y ++ (10 ∷ z))
+    → IsOutputOf w i text (y ++ (line_feed ∷ z))
 outputs_join w i text n y z c p (m, q, e) a b =
     let whole : take m (drop n text) ≡ drop n text = take_all m (drop n text) (omega (arith, e)) in
     let l =
@@ -262,8 +266,8 @@ outputs_close w i text n us y c p s h a =
     let e = piece_ends text n a.list p a.is_list in
     let l = lists_follow text n a.list (record { tokens = []; closing = cs }) p a.is_list
     (comments_alone (drop n text) us s h) in
-    let front : y ≡ paragraphs a.output.texts ++ (10 ∷ []) =
-    a.output.written ∙ ap (λ c. paragraphs a.output.texts ++ (10 ∷ closing_text c)) e.0 in
+    let front : y ≡ paragraphs a.output.texts ++ (line_feed ∷ []) =
+    a.output.written ∙ ap (λ c. paragraphs a.output.texts ++ (line_feed ∷ closing_text c)) e.0 in
     record {
       accepted = c;
       list = record { tokens = a.list.tokens; closing = cs };
@@ -275,14 +279,14 @@ outputs_close w i text n us y c p s h a =
         texts = a.output.texts;
         cleaned = a.output.cleaned;
         written = ap (λ v. v ++ closing_text cs) front
-            ∙ append_assoc (paragraphs a.output.texts) (10 ∷ []) (closing_text cs);
+            ∙ append_assoc (paragraphs a.output.texts) (line_feed ∷ []) (closing_text cs);
       };
     }
 
 -- a text without tokens has only closing comments
 pub closing_output : (w : ℕ) (i : ℤ) (text : List ℕ) (us : List (List ℕ)) → Accepted text
     → SplitsInto text us → only_tokens us ≡ []
-    → IsOutputOf w i text (10 ∷ closing_text (comments text))
+    → IsOutputOf w i text (line_feed ∷ closing_text (comments text))
 closing_output w i text us c s h = record {
   accepted = c;
   list = record { tokens = []; closing = comments text };

@@ -26,7 +26,7 @@ LaidOut w i text at out =
 
 -- an output has bytes
 output_is_some : (w : ℕ) (i : ℤ) (x y : List ℕ) → IsOutputOf w i x y → y ≡ [] → ⊥
-output_is_some w i x y o e = append_not_nil (paragraphs o.output.texts) 10
+output_is_some w i x y o e = append_not_nil (paragraphs o.output.texts) line_feed
     (closing_text o.list.closing) (sym o.output.written ∙ e)
 
 -- whether a list is empty
@@ -84,7 +84,7 @@ module _ (w : ℕ) (i : ℤ) (text : List ℕ) where
       ) in
       let a : IsOutputOf w i (take at u) out = subst (λ x. IsOutputOf w i x out) (sym front) o in
       let b : IsOutputOf w i (drop at u) z = subst (λ x. IsOutputOf w i x z) (sym back) r in
-      let joined : new ≡ out ++ (10 ∷ z) = h ∙ append_assoc out (10 ∷ []) z in
+      let joined : new ≡ out ++ (line_feed ∷ z) = h ∙ append_assoc out (line_feed ∷ []) z in
       inr (
         piece_more text at n p q,
         subst (λ x. IsOutputOf w i u x) (sym joined)
@@ -111,9 +111,9 @@ module _ (w : ℕ) (i : ℤ) (text : List ℕ) where
       (drop at text)) → IsOutputOf w i text new
   laid_last at out new true us t (inl (b, e)) a s n h =
       let all : drop at text ≡ text = ap (λ k. drop k text) b in
-      let first : new ≡ 10 ∷ closing_text (comments text) =
-      h ∙ (ap (λ x. (x ++ (10 ∷ [])) ++ closing_text (comments (drop at text))) e
-      ∙ ap (λ x. 10 ∷ closing_text (comments x)) all) in
+      let first : new ≡ line_feed ∷ closing_text (comments text) =
+      h ∙ (ap (λ x. (x ++ (line_feed ∷ [])) ++ closing_text (comments (drop at text))) e
+      ∙ ap (λ x. line_feed ∷ closing_text (comments x)) all) in
       subst (λ x. IsOutputOf w i text x) (sym first)
       (closing_output w i text us a (subst (λ x. SplitsInto x us) all s) n)
   laid_last at out new false us t (inl (b, e)) a s n h = absurd (t e)

@@ -9,6 +9,7 @@ use Rattle.std.specs.Str.{IsCharBoundary}
 use Rattle.std.specs.Fmt.{is_char_start}
 use Rattle.std.specs.Fmt.Cut.{floor_char_boundary}
 use Rattle.cedar_policy_formatter.specs.Places.{is_line_feed}
+use Rattle.cedar_tokens.specs.Bytes.{line_feed}
 
 -- what the method `floor_char_boundary` ensures of its result `kept`
 pub record IsLastBoundary (bs : List ℕ) (i kept : ℕ) : Type 0 where
@@ -71,12 +72,13 @@ take-floor bs i kept last = elim (cases_lt i (length bs)) [
 
 -- what follows the last line feed, given the place after it
 pub drop-last_feed : (bs : List ℕ) (n : ℕ) → n ≤ length bs
-    → ((k : ℕ) → n ≤ k → k < length bs → get_or bs k 0 ≢ 10) → (0 < n → get_or bs (n - 1) 0 ≡ 10)
+    → ((k : ℕ) → n ≤ k → k < length bs → get_or bs k 0 ≢ line_feed)
+    → (0 < n → get_or bs (n - 1) 0 ≡ line_feed)
     → drop n bs ≡ after_last is_line_feed bs
 drop-last_feed bs n within none_after feed =
     let left : suffix_len (λ b. not (is_line_feed b)) bs ≡ length bs - n
     = suffix_len_is (λ b. not (is_line_feed b)) bs n 0 within
-    (λ k from to. ap not (ne_eqb (get_or bs k 0) 10 (none_after k from to)))
-    (λ some. ap not (eq-eqb (get_or bs (n - 1) 0) 10 (feed some))) in
+    (λ k from to. ap not (ne_eqb (get_or bs k 0) line_feed (none_after k from to)))
+    (λ some. ap not (eq-eqb (get_or bs (n - 1) 0) line_feed (feed some))) in
     let same : n ≡ length bs - suffix_len (λ b. not (is_line_feed b)) bs = omega arith in
     ap (λ m. drop m bs) same

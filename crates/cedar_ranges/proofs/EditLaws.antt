@@ -101,7 +101,7 @@ lays_out w i text span out bytes u a h l o e = record {
   output = o;
   stands = stands_in_output w i text span.start (span.end - span.start) out u a h.first
       (pieces_of text span h l) o;
-  parted = e;
+  after_feeds = e;
 }
 
 -- the text with the edit applied is accepted and has the list of the text
@@ -120,7 +120,7 @@ edit_alike w i text range span bytes u a t (inr (l, k)) =
     let alike = laid_out_alike w i text span.start (span.end - span.start) k.out a h.first
     (pieces_of text span h l)
     (IsUtf8-between text span.start span.end u part.order part.first part.last) k.output in
-    subst (λ z. Alike text (take span.start text ++ (z ++ drop span.end text))) (sym k.parted)
+    subst (λ z. Alike text (take span.start text ++ (z ++ drop span.end text))) (sym k.after_feeds)
     (subst (λ n. Alike text (take span.start text
     ++ ((feeds_after (take span.start text) ++ k.out) ++ drop n text))) end alike)
 

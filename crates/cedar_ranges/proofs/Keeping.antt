@@ -4,6 +4,7 @@ use Rattle.std.specs.Prelude.{◌==◌, codes}
 use Rattle.std.specs.List.{AllByRecursion}
 use Rattle.std.specs.Str.{IsUtf8}
 use Rattle.std.proofs.lemmas.List.{drop-drop, map-append, length-take-le}
+use Rattle.cedar_tokens.specs.Bytes.{line_feed}
 use Rattle.cedar_tokens.specs.Listing.{Decorated, Listing, IsListing, EqualByValue, listing}
 use Rattle.cedar_tokens.specs.PlainList.{plain_list}
 use Rattle.cedar_grammar.specs.Texts.{Accepted}
@@ -103,8 +104,8 @@ module _ (w : ℕ) (i : ℤ) (text : List ℕ) (n : ℕ) (out : List ℕ) (accep
   ends : (o.list.closing ≡ []) × EndsIn o.list.tokens
   ends = piece_ends text n o.list p o.is_list
 
-  bytes : out ≡ front ++ (10 ∷ [])
-  bytes = o.output.written ∙ ap (λ c. front ++ (10 ∷ closing_text c)) ends.0
+  bytes : out ≡ front ++ (line_feed ∷ [])
+  bytes = o.output.written ∙ ap (λ c. front ++ (line_feed ∷ closing_text c)) ends.0
 
   abbrev values : List Decorated
   values = map with_value (tokens_of o.policies)
@@ -152,8 +153,8 @@ module _ (w : ℕ) (i : ℤ) (text : List ℕ) (n : ℕ) (out : List ℕ) (accep
   -- the text with its piece laid out
   pub piece_alike : Alike text (out ++ drop n text)
   piece_alike =
-      let whole : front ++ (10 ∷ rest) ≡ out ++ rest =
-      sym (append_assoc front (10 ∷ []) rest) ∙ ap (λ z. z ++ rest) (sym bytes) in
+      let whole : front ++ (line_feed ∷ rest) ≡ out ++ rest =
+      sym (append_assoc front (line_feed ∷ []) rest) ∙ ap (λ z. z ++ rest) (sym bytes) in
       let is_front = front_list front (record { tokens = values; closing = [] })
       (subst (λ z. IsListing z (record { tokens = values; closing = [] })) bytes own) in
       record {
@@ -173,7 +174,7 @@ module _ (w : ℕ) (i : ℤ) (text : List ℕ) (n : ℕ) (out : List ℕ) (accep
 
 -- ---- what comes before stays
 
-fed_alike : (x y : List ℕ) → Alike x y → Alike x (10 ∷ y)
+fed_alike : (x y : List ℕ) → Alike x y → Alike x (line_feed ∷ y)
 fed_alike x y k = record {
   left = k.left;
   right = k.right;
@@ -186,13 +187,13 @@ fed_alike x y k = record {
 }
 
 after_alike : (text : List ℕ) (n : ℕ) (y : List ℕ) → Accepted text → IsPiece text n
-    → Alike (drop n text) y → Alike text (take n text ++ (10 ∷ y))
+    → Alike (drop n text) y → Alike text (take n text ++ (line_feed ∷ y))
 after_alike text n y a p k =
     let front_accepted = (place_accepted text n (inr p) a).0 in
     let b = list_of (take n text) front_accepted in
     let e = piece_ends text n b.0 p b.1 in
     let s = e.1.2 in
-    let parted = λ (us : List Decorated) (h : _). subst (λ z. plain_list (z ++ us)
+    let plain_parts = λ (us : List Decorated) (h : _). subst (λ z. plain_list (z ++ us)
     ≡ plain_list z ++ plain_list us) (sym s) (plain_follow e.1.0 e.1.1 us e.1.3 h) in
     record {
       left = record { tokens = b.0.tokens ++ k.left.tokens; closing = k.left.closing };
@@ -200,27 +201,28 @@ after_alike text n y a p k =
       is_left = lists_follow text n b.0 k.left p b.1 k.is_left;
       is_right = fed_lists (take n text) y b.0 k.right e.0 b.1 k.is_right;
       tokens = ap (map with_value)
-          (parted k.left.tokens (list_stays (drop n text) k.left k.accepted k.is_left))
+          (plain_parts k.left.tokens (list_stays (drop n text) k.left k.accepted k.is_left))
           ∙ (map-append with_value (plain_list b.0.tokens) (plain_list k.left.tokens)
           ∙ (ap (λ z. map with_value (plain_list b.0.tokens) ++ z) k.tokens
           ∙ (sym (map-append with_value (plain_list b.0.tokens) (plain_list k.right.tokens))
           ∙ ap (map with_value)
-          (sym (parted k.right.tokens (list_stays y k.right k.keeps k.is_right))))));
+          (sym (plain_parts k.right.tokens (list_stays y k.right k.keeps k.is_right))))));
       closing = k.closing;
       accepted = a;
       keeps = fed_accepted (take n text) y front_accepted k.keeps;
     }
 
 -- after what comes before, the line feeds of an empty line may come
-parted_alike : (text : List ℕ) (n : ℕ) (b : ℕ) (bs y : List ℕ) → take n text ≡ b ∷ bs
+split_alike : (text : List ℕ) (n : ℕ) (b : ℕ) (bs y : List ℕ) → take n text ≡ b ∷ bs
     → Accepted text → IsPiece text n → Alike (drop n text) y
     → Alike text (take n text ++ (feeds_after (take n text) ++ y))
-parted_alike text n b bs y e a p k = subst (λ z. Alike text (take n text ++ (feeds_after z ++ y)))
-    (sym e) (go (last_byte_or b bs == 10))
+split_alike text n b bs y e a p k = subst (λ z. Alike text (take n text ++ (feeds_after z ++ y)))
+    (sym e) (go (last_byte_or b bs == line_feed))
   where
-    go : (t : Bool) → Alike text (take n text ++ (cond t (10 ∷ []) (10 ∷ (10 ∷ [])) ++ y))
+    go : (t : Bool) → Alike text (take n text ++
+        (cond t (line_feed ∷ []) (line_feed ∷ (line_feed ∷ [])) ++ y))
     go true = after_alike text n y a p k
-    go false = after_alike text n (10 ∷ y) a p (fed_alike (drop n text) y k)
+    go false = after_alike text n (line_feed ∷ y) a p (fed_alike (drop n text) y k)
 
 some_bytes : (xs : List ℕ) → 0 < length xs → (b : ℕ) × (bs : List ℕ) × (xs ≡ b ∷ bs)
 some_bytes [] l = absurd (omega (arith, l))
@@ -245,9 +247,10 @@ laid_out_alike w i text start len out a (inr b) p u o =
     let k = piece_alike w i (drop start text) len out rest.1 p u o in
     let bytes = some_bytes (take start text) (omega
     (arith, length-take-le start text (piece_inside text start b), piece_positive text start b)) in
-    let behind : drop len (drop start text) ≡ drop (start + len) text = drop-drop len start text in
+    let following : drop len (drop start text) ≡ drop (start + len) text =
+    drop-drop len start text in
     subst (λ z. Alike text (take start text ++ z))
     (sym (append_assoc (feeds_after (take start text)) out (drop (start + len) text)))
     (subst
-    (λ z. Alike text (take start text ++ (feeds_after (take start text) ++ (out ++ z)))) behind
-    (parted_alike text start bytes.0 bytes.1 (out ++ drop len (drop start text)) bytes.2 a b k))
+    (λ z. Alike text (take start text ++ (feeds_after (take start text) ++ (out ++ z)))) following
+    (split_alike text start bytes.0 bytes.1 (out ++ drop len (drop start text)) bytes.2 a b k))

@@ -2,6 +2,7 @@
 use Rattle.std.proofs.Common.{◌≡◌, ℕ, ℤ, List, [], ◌∷◌, ◌++◌, take, drop, map, refl, ap, sym, ◌∙◌, subst, inl, inr, append_assoc}
 use Rattle.std.specs.Str.{IsUtf8}
 use Rattle.std.proofs.lemmas.Str.{IsUtf8-take, IsUtf8-drop}
+use Rattle.cedar_tokens.specs.Bytes.{line_feed}
 use Rattle.cedar_tokens.specs.Listing.{Decorated, Listing, by_value, comments}
 use Rattle.cedar_tokens.proofs.Scanning.{listing_unique}
 use Rattle.cedar_grammar.specs.Texts.{Accepted, only_tokens}
@@ -42,7 +43,7 @@ begins_output w i text n out u a p o =
           closing_text (comments (drop n text)),
           outputs_close w i text n b.is_list.units out a p b.is_list.split none o,
         )
-    go z b (t ∷ ts) e = (10 ∷ z, outputs_follow w i text n out z a p o b (λ h. absurd cc))
+    go z b (t ∷ ts) e = (line_feed ∷ z, outputs_follow w i text n out z a p o b (λ h. absurd cc))
 
 has_last : (ts us : List Decorated) (t : Decorated) → (ts ++ (t ∷ [])) ++ us ≡ [] → ⊥
 has_last [] us t h = absurd cc
@@ -87,8 +88,8 @@ stands_in_output w i text start len out u a s p o whole h = go s
         (place_boundary text start s u a)) (place_accepted text start s a).0 in
         let joined = outputs_follow w i text start b.0 (out ++ rest.0) a q b.1 rest.1
         (has_tokens (out ++ rest.0) rest.1) in (
-          b.0 ++ (10 ∷ []),
+          b.0 ++ (line_feed ∷ []),
           rest.0,
-          one_output w i text whole (b.0 ++ (10 ∷ (out ++ rest.0))) u h joined
-              ∙ sym (append_assoc b.0 (10 ∷ []) (out ++ rest.0)),
+          one_output w i text whole (b.0 ++ (line_feed ∷ (out ++ rest.0))) u h joined
+              ∙ sym (append_assoc b.0 (line_feed ∷ []) (out ++ rest.0)),
         )

@@ -72,11 +72,11 @@ step_units : (at : ℕ) (leading ahead : List ℕ) (t : FirstToken) (us : List (
     (decorate leading (gaps (t.text.now ∷ us)).tokens) (token_spans at (t.text.now ∷ us))
 unfolding gaps decorate token_spans
 step_units at leading ahead t us f s =
-    let behind = drop (length t.text.now) ahead in
-    let b = after_gap behind f.n us f.gap s.1 in
+    let following = drop (length t.text.now) ahead in
+    let b = after_gap following f.n us f.gap s.1 in
     let fits = begins_fits ahead t.text.now f.unit.begins in
     let size : length t.rest.text.now ≡ length ahead - length t.text.now - f.n = ap length f.rest
-    ∙ length-drop f.n behind ∙ ap (λ i. i - f.n) (length-drop (length t.text.now) ahead) in
+    ∙ length-drop f.n following ∙ ap (λ i. i - f.n) (length-drop (length t.text.now) ahead) in
     let room : f.n ≤ length ahead - length t.text.now =
     rw (length-drop (length t.text.now) ahead) at f.gap.inside in
     record {

@@ -136,13 +136,13 @@ pub token_length : (text : List ℕ) (n : ℕ) → BeginsToken text n → 0 < n
 token_length text n b =
     omega (arith, unit_nonempty (take n text) (token b.0), length-take-le n text b.1.0)
 
-pub found_first : (text : List ℕ) (len n : ℕ) (t : FirstToken) (behind gap : List ℕ)
-    → BeginsToken text len → t.text.now ≡ take len text → behind ≡ drop len text
-    → IsGap behind n → gap ≡ take n behind → t.rest.text.now ≡ drop n behind
+pub found_first : (text : List ℕ) (len n : ℕ) (t : FirstToken) (following gap : List ℕ)
+    → BeginsToken text len → t.text.now ≡ take len text → following ≡ drop len text
+    → IsGap following n → gap ≡ take n following → t.rest.text.now ≡ drop n following
     → t.trailing.now ≡ before_newline gap → t.leading.now ≡ after_newline gap → IsFirstToken text t
-found_first text len n t behind gap k e b g m r x y =
+found_first text len n t following gap k e b g m r x y =
     let size : length t.text.now ≡ len = ap length e ∙ length-take-le len text k.1.0 in
-    let same : behind ≡ drop (length t.text.now) text = b ∙ ap (λ i. drop i text) (sym size) in
+    let same : following ≡ drop (length t.text.now) text = b ∙ ap (λ i. drop i text) (sym size) in
     record {
       unit = rw e (first_of text len k);
       token = rw e k.0;

@@ -8,7 +8,7 @@ use Rattle.cedar_tokens.specs.Tokens.{bare, decorated}
 use Rattle.cedar_tokens.specs.declared.token.Span.{Span}
 use Rattle.cedar_tokens.specs.declared.token.WrappedToken.{WrappedToken}
 
-spans_of_bare : (ts : List WrappedToken) → map (λ b. b.1) (map bare ts) ≡ map (λ t. t.span) ts
+pub spans_of_bare : (ts : List WrappedToken) → map (λ b. b.1) (map bare ts) ≡ map (λ t. t.span) ts
 spans_of_bare [] = refl
 spans_of_bare (t ∷ ts) = ap (λ r. t.span ∷ r) (spans_of_bare ts)
 

@@ -7,6 +7,7 @@ use Rattle.std.proofs.Common.{refl, sym, ap, ◌∙◌, get_or}
 use Rattle.std.proofs.lemmas.Bool.Decides.{Decides-eqb}
 use Rattle.std.proofs.lemmas.Slice.Eq.{bytes_eq-Decides}
 use Rattle.std.proofs.lemmas.Bool.{and_parts, not-true, false_from_ne_true}
+use Rattle.cedar_tokens.specs.Bytes.{quote}
 use Rattle.cedar_tokens.specs.Units.{IsToken, is_word, is_number, is_string, is_one_of, keywords, slots, punctuators}
 use Rattle.cedar_tokens.specs.Inside.Scanners.{IsNotFixed}
 use Rattle.cedar_tokens.specs.Inside.FixedTexts.{is_open, text_among, fixed_text}
@@ -55,7 +56,7 @@ is_itself k = (Decides-eqb (code k) (code k)).1 refl
 
 other_is_open : (text : List ℕ) → is_open (other_kind text) ≡ true
 other_is_open [] = refl
-other_is_open (b ∷ bs) = go (b == 34) (is_ascii_digit b)
+other_is_open (b ∷ bs) = go (b == quote) (is_ascii_digit b)
   where
     go : (c d : Bool) → is_open (if c then K.Str else (if d then K.Number else K.Identifier)) ≡ true
     go true d = refl
@@ -125,19 +126,19 @@ open_not_fixed u o =
     (one_of_fixed keywords u refl o, one_of_fixed slots u refl o, one_of_fixed punctuators u refl o)
 
 -- the kind of a text that is not fixed tells its first byte
-string_begins : (u : List ℕ) → other_kind u ≡ K.Str → get_or u 0 0 ≡ 34
+string_begins : (u : List ℕ) → other_kind u ≡ K.Str → get_or u 0 0 ≡ quote
 string_begins [] e = absurd cc
-string_begins (b ∷ bs) e = go (b == 34) refl (is_ascii_digit b) e
+string_begins (b ∷ bs) e = go (b == quote) refl (is_ascii_digit b) e
   where
-    go : (c : Bool) → (b == 34) ≡ c → (d : Bool)
-        → (if c then K.Str else (if d then K.Number else K.Identifier)) ≡ K.Str → b ≡ 34
-    go true q d e = (Decides-eqb b 34).0 q
+    go : (c : Bool) → (b == quote) ≡ c → (d : Bool)
+        → (if c then K.Str else (if d then K.Number else K.Identifier)) ≡ K.Str → b ≡ quote
+    go true q d e = (Decides-eqb b quote).0 q
     go false q true e = absurd cc
     go false q false e = absurd cc
 
 number_begins : (u : List ℕ) → other_kind u ≡ K.Number → is_ascii_digit (get_or u 0 0) ≡ true
 number_begins [] e = absurd cc
-number_begins (b ∷ bs) e = go (b == 34) (is_ascii_digit b) refl e
+number_begins (b ∷ bs) e = go (b == quote) (is_ascii_digit b) refl e
   where
     go : (c d : Bool) → is_ascii_digit b ≡ d
         → (if c then K.Str else (if d then K.Number else K.Identifier)) ≡ K.Number
@@ -147,16 +148,16 @@ number_begins (b ∷ bs) e = go (b == 34) (is_ascii_digit b) refl e
     go false false q e = absurd cc
 
 word_begins : (u : List ℕ) → other_kind u ≡ K.Identifier
-    → (get_or u 0 0 ≢ 34) × (is_ascii_digit (get_or u 0 0) ≡ false)
+    → (get_or u 0 0 ≢ quote) × (is_ascii_digit (get_or u 0 0) ≡ false)
 word_begins [] e = ((λ h. cc), refl)
-word_begins (b ∷ bs) e = go (b == 34) refl (is_ascii_digit b) refl e
+word_begins (b ∷ bs) e = go (b == quote) refl (is_ascii_digit b) refl e
   where
-    go : (c : Bool) → (b == 34) ≡ c → (d : Bool) → is_ascii_digit b ≡ d
+    go : (c : Bool) → (b == quote) ≡ c → (d : Bool) → is_ascii_digit b ≡ d
         → (if c then K.Str else (if d then K.Number else K.Identifier)) ≡ K.Identifier
-        → (b ≢ 34) × (is_ascii_digit b ≡ false)
+        → (b ≢ quote) × (is_ascii_digit b ≡ false)
     go true q d r e = absurd cc
     go false q true r e = absurd cc
-    go false q false r e = ((λ h. let t = (Decides-eqb b 34).1 h in cc), r)
+    go false q false r e = ((λ h. let t = (Decides-eqb b quote).1 h in cc), r)
 
 pub string_of_kind : (u : List ℕ) → IsToken u → kind_of u ≡ K.Str → is_string u ≡ true
 string_of_kind u h k = proper_string u h

@@ -57,7 +57,7 @@ pub gives_first : (text : List ℕ) (old after : TokenReader) (t : FirstToken) (
     → GivesFirst text w after l spans
 gives_first text old after t w l spans f h s b a x p y z place =
     let at : ℕ = length text - length old.ahead.text.now in
-    let behind = drop (length t.text.now) old.ahead.text.now in
+    let following = drop (length t.text.now) old.ahead.text.now in
     let step = ahead_next at old.leading.now old.ahead.text.now t l spans f h.left in
     let within : length old.ahead.text.now ≤ length text =
     omega (arith, old.within, ap length h.source) in
@@ -65,7 +65,7 @@ gives_first text old after t w l spans f h s b a x p y z place =
     let room : f.n ≤ length old.ahead.text.now - length t.text.now =
     rw (length-drop (length t.text.now) old.ahead.text.now) at f.gap.inside in
     let size : length t.rest.text.now ≡ length old.ahead.text.now - length t.text.now - f.n =
-    ap length f.rest ∙ length-drop f.n behind
+    ap length f.rest ∙ length-drop f.n following
     ∙ ap (λ i. i - f.n) (length-drop (length t.text.now) old.ahead.text.now) in
     let next : at + length t.text.now + f.n ≡ length text - length t.rest.text.now =
     omega (arith, within, fits, room, size) in

@@ -383,9 +383,9 @@ conds_at (n ∷ ns) g (a_node _ s _
     )
 
 -- a policy after its annotations
-abbrev behind : Node Ident → Node VariableDef → Node VariableDef → Node VariableDef
+abbrev following : Node Ident → Node VariableDef → Node VariableDef → Node VariableDef
     → List (Node Cond) → Erased
-behind e p a r cs =
+following e p a r cs =
     ident_tree e (leaf (codes "(") (variable_tree p (leaf (codes ",") (variable_tree a (leaf
     (codes ",") (variable_tree r (leaf (codes ")") (cond_trees cs (leaf (codes ";") none)))))))))
 
@@ -395,11 +395,11 @@ record RightAfter (count : ℕ) (f : Erased) : Type 0 where
   action : Node VariableDef
   resource : Node VariableDef
   conds : List (Node Cond)
-  is : behind effect principal action resource conds ≡ f
+  is : following effect principal action resource conds ≡ f
   size : length conds ≡ count
 
 after_at : (e : Node Ident) (p a r : Node VariableDef) (cs : List (Node Cond)) {f : Erased}
-    → Alike f (behind e p a r cs) → RightAfter (length cs) f
+    → Alike f (following e p a r cs) → RightAfter (length cs) f
 after_at e p a r cs (a_node _ s _ (a_leaf _ no_trees) (a_leaf _ (a_node _ tp _ {f = fp} kp (a_leaf _
     (a_node _ ta _ {f = fa} ka (a_leaf _ (a_node _ tr _ {f = fr} kr (a_leaf _ {f = fc} kc)))))))) =
     let yp = variable_at p tp kp in
@@ -431,7 +431,8 @@ policy_at : (p : Policy) {f : Erased} → Alike f (policy_parts p)
     → (q : Policy) × (policy_parts q ≡ f)
 policy_at p k =
     let vs = p.variables in
-    let a = annotations_at p.annotations.items (behind p.effect vs.0 vs.1 vs.2 p.conds.items) k in
+    let a = annotations_at p.annotations.items (following p.effect vs.0 vs.1 vs.2 p.conds.items)
+    k in
     let b = after_at p.effect vs.0 vs.1 vs.2 p.conds.items a.2 in
     let n = p.annotations in
     let c = p.conds in

@@ -48,17 +48,17 @@ last (node l a) = last a
 last r = true
 
 -- where one part may end with a comma, the next begins with none
-abbrev parted : Rule → Bool
-parted never = true
-parted empty = true
-parted inner = true
-parted (leaf_of p) = true
-parted (nested k a) = not (is K.Comma k) && parted a
-parted (then a b) = parted a && (parted b && (not (last a) || not (opening b)))
-parted (either a b) = parted a && parted b
-parted (star a) = parted a && not (last a)
-parted (node l a) = parted a
-parted r = false
+abbrev no_comma_pair : Rule → Bool
+no_comma_pair never = true
+no_comma_pair empty = true
+no_comma_pair inner = true
+no_comma_pair (leaf_of p) = true
+no_comma_pair (nested k a) = not (is K.Comma k) && no_comma_pair a
+no_comma_pair (then a b) = no_comma_pair a && (no_comma_pair b && (not (last a) || not (opening b)))
+no_comma_pair (either a b) = no_comma_pair a && no_comma_pair b
+no_comma_pair (star a) = no_comma_pair a && not (last a)
+no_comma_pair (node l a) = no_comma_pair a
+no_comma_pair r = false
 
 abbrev NoTwoCommas : {A : Type 0} → (A → Kind) → List A → Type 0
 NoTwoCommas kind ts = NoNeighbours (λ a. is K.Comma (kind a)) ts
@@ -130,7 +130,7 @@ module _ {A : Type 0} (kind : A → Kind) where
         go false e =
             ap (λ c. is K.Comma (kind a) && c) (k (ap not e)) ∙ and-false (is K.Comma (kind a))
 
-    rule_alone : (R : Rule) → IsTrue (parted R) → (f : Forest Label A) (r : List A)
+    rule_alone : (R : Rule) → IsTrue (no_comma_pair R) → (f : Forest Label A) (r : List A)
         → means kind room X R f → NoTwoCommas kind r → (IsTrue (last R) → comma r ≡ false)
         → NoTwoCommas kind (yield f ++ r)
     rule_alone never d f r m n k = absurd m
@@ -147,20 +147,24 @@ module _ {A : Type 0} (kind : A → Kind) where
               (λ h. k (or_right (is K.Comma q) (last b) h)),
         )
     rule_alone (then a b) d f r (u, v, e, m, y) n k =
-        let d1 = and_second (parted a) _ d in
+        let d1 = and_second (no_comma_pair a) _ d in
         subst (NoTwoCommas kind) (sym (ap (λ z. yield z ++ r) e ∙ join_more u v r))
-        (rule_alone a (and_first (parted a) _ d) u (yield v ++ r) m
-        (rule_alone b (and_first (parted b) _ d1) v r y n (λ h. k (or_left (last b) _ h)))
+        (rule_alone a (and_first (no_comma_pair a) _ d) u (yield v ++ r) m
+        (rule_alone b (and_first (no_comma_pair b) _ d1) v r y n (λ h. k (or_left (last b) _ h)))
         (λ la. rule_opens b
-        (not-true (opening b) (implied (last a) (not (opening b)) (and_second (parted b) _ d1) la))
+        (not-true (opening b) (implied (last a) (not (opening b))
+        (and_second (no_comma_pair b) _ d1) la))
         v r y (λ eb. k (or_right (last b) _ (and_from (can_be_empty b) (last a) eb la)))))
     rule_alone (either a b) d f r (inl m) n k = rule_alone a
-        (and_first (parted a) (parted b) d) f r m n (λ h. k (or_left (last a) (last b) h))
+        (and_first (no_comma_pair a) (no_comma_pair b) d) f r m n
+        (λ h. k (or_left (last a) (last b) h))
     rule_alone (either a b) d f r (inr m) n k = rule_alone b
-        (and_second (parted a) (parted b) d) f r m n (λ h. k (or_right (last a) (last b) h))
+        (and_second (no_comma_pair a) (no_comma_pair b) d) f r m n
+        (λ h. k (or_right (last a) (last b) h))
     rule_alone (star a) d f r m n k = many_alone (means kind room X a)
-        (λ f r y h. rule_alone a (and_first (parted a) _ d) f r y h (λ l.
-        absurd (both_ways (last a) (not-true (last a) (and_second (parted a) _ d)) l))) f r m n
+        (λ f r y h. rule_alone a (and_first (no_comma_pair a) _ d) f r y h (λ l.
+        absurd (both_ways (last a) (not-true (last a) (and_second (no_comma_pair a) _ d)) l))) f r m
+        n
     rule_alone (node l a) d f r (u, e, m) n k = subst (NoTwoCommas kind)
         (sym (ap (λ z. yield z ++ r) e ∙ ap (λ z. z ++ r) (append-nil (yield u))))
         (rule_alone a d u r m n k)

@@ -26,7 +26,7 @@ module _ {A B : Type 0} (h : A → B) where
   answer_of (done f r) = done (relabel f) (each r)
   answer_of (stuck b r) = stuck b (each r)
 
-  each_length : (ts : List A) → length (each ts) ≡ length ts
+  pub each_length : (ts : List A) → length (each ts) ≡ length ts
   each_length [] = refl
   each_length (a ∷ ts) = ap suc (each_length ts)
 

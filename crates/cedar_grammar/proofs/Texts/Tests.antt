@@ -67,7 +67,7 @@ fixed_is_token t h = one_of is_token fixed_texts t refl h
 
 -- ---- all other tokens
 
-word_starts : (b : ℕ) → class b ≡ 1 → is_word_start b ≡ true
+pub word_starts : (b : ℕ) → class b ≡ 1 → is_word_start b ≡ true
 word_starts b h = grind (arith, nat_tests)
 
 word_no_digit : (b : ℕ) → class b ≡ 1 → is_ascii_digit b ≡ false

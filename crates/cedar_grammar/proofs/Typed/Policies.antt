@@ -91,9 +91,9 @@ module _ {A : Type 0} (kind : A → Kind) where
           alone kind f (p, e, (t.0, ap (without_trailing kind) d ∙ t.1, t.2))
 
   -- a word and what follows it
-  behind : (k : A) (v : Forest Label A) → without_trailing kind (branch L.ident (leaf k none) v)
+  following : (k : A) (v : Forest Label A) → without_trailing kind (branch L.ident (leaf k none) v)
       ≡ branch L.ident (leaf k none) (without_trailing kind v)
-  behind k v = ap (λ z. branch L.ident z (without_trailing kind v)) (lone kind k)
+  following k v = ap (λ z. branch L.ident z (without_trailing kind v)) (lone kind k)
 
   -- an operator and its operand
   operated : (a : A) (g : Forest Label A) (t : T.Tree A T.add)
@@ -109,7 +109,7 @@ module _ {A : Type 0} (kind : A → Kind) where
     T.variable_op k o n.2.0,
     ap (without_trailing kind) (word_then g u w i k d j m
         ∙ ap (branch L.ident (leaf k none)) (one_then w p q o r b ∙ ap (leaf o) n.1))
-        ∙ behind k (leaf o (branch L.add n.0 none))
+        ∙ following k (leaf o (branch L.add n.0 none))
         ∙ ap (branch L.ident (leaf k none)) (operated o n.0 n.2.0 n.2.1),
     (a, n.2.2),
   )
@@ -119,7 +119,7 @@ module _ {A : Type 0} (kind : A → Kind) where
   bare g u w i k a d j m z = (
     T.variable_bare k,
     ap (without_trailing kind) (word_then g u w i k d j m ∙ ap (branch L.ident (leaf k none)) z)
-        ∙ behind k none,
+        ∙ following k none,
     a,
   )
 
@@ -140,8 +140,17 @@ module _ {A : Type 0} (kind : A → Kind) where
         with_operand g u w i p q k o (within_at (is v) is_atom va (kind k) n) d j m r b
             (entity_or s sa q x),
       )
-  scoped v s va sa f
-      (g, e, (u, w, d, (i, j, (k, m, n)), inl (inr (inl (p, q, r, (o, b, h), (x, y, c, (l, l', path), inr z)))))) =
+  scoped v s va sa f (
+    g,
+    e,
+    (
+      u,
+      w,
+      d,
+      (i, j, (k, m, n)),
+      inl (inr (inl (p, q, r, (o, b, h), (x, y, c, (l, l', path), inr z)))),
+    ),
+  ) =
       let t = names kind l path in (
         g,
         e,
@@ -150,14 +159,29 @@ module _ {A : Type 0} (kind : A → Kind) where
           ap (without_trailing kind) (word_then g u w i k d j m
               ∙ ap (branch L.ident (leaf k none)) (one_then w p q o r b
               ∙ ap (leaf o) (node_then q x y l L.name c l' ∙ ap (branch L.name l) z)))
-              ∙ behind k (leaf o (branch L.name l none))
+              ∙ following k (leaf o (branch L.name l none))
               ∙ ap (branch L.ident (leaf k none)) (kept kind o L.name l none
               ∙ ap (λ z. leaf o (branch L.name z none)) t.1),
           (within_at (is v) is_atom va (kind k) n, t.2),
         ),
       )
-  scoped v s va sa f
-      (g, e, (u, w, d, (i, j, (k, m, n)), inl (inr (inl (p, q, r, (o, b, h), (x, y, c, (l, l', path), inl (p', q', r', (o', b', h'), x'))))))) =
+  scoped v s va sa f (
+    g,
+    e,
+    (
+      u,
+      w,
+      d,
+      (i, j, (k, m, n)),
+      inl (inr (inl (
+        p,
+        q,
+        r,
+        (o, b, h),
+        (x, y, c, (l, l', path), inl (p', q', r', (o', b', h'), x')),
+      ))),
+    ),
+  ) =
       let t = names kind l path in
       let a = entity_or s sa q' x' in (
         g,
@@ -168,7 +192,7 @@ module _ {A : Type 0} (kind : A → Kind) where
               (word_then g u w i k d j m ∙ ap (branch L.ident (leaf k none)) (one_then w p q o r b
               ∙ ap (leaf o) (node_then q x y l L.name c l'
               ∙ ap (branch L.name l) (one_then y p' q' o' r' b' ∙ ap (leaf o') a.1))))
-              ∙ behind k (leaf o (branch L.name l (leaf o' (branch L.add a.0 none))))
+              ∙ following k (leaf o (branch L.name l (leaf o' (branch L.add a.0 none))))
               ∙ ap (branch L.ident (leaf k none))
               (kept kind o L.name l (leaf o' (branch L.add a.0 none))
               ∙ ap (λ z. leaf o
@@ -213,8 +237,23 @@ module _ {A : Type 0} (kind : A → Kind) where
       (o, within_at is_any_word is_atom refl (kind k) n),
     ),
   )
-  annotation f
-      (g, e, (u, v, d, (a, b, o), (w, y, c, (i, j, (k, m, n)), inl (p, q, r, (l, l', h), (p', q', r', (x, x', (s, s', h')), (t, t', h'')))))) =
+  annotation f (
+    g,
+    e,
+    (
+      u,
+      v,
+      d,
+      (a, b, o),
+      (
+        w,
+        y,
+        c,
+        (i, j, (k, m, n)),
+        inl (p, q, r, (l, l', h), (p', q', r', (x, x', (s, s', h')), (t, t', h''))),
+      ),
+    ),
+  ) =
       let value : y ≡ leaf l (branch L.str (leaf s none) (leaf t none)) =
       one_then y p q l r l' ∙ ap (leaf l) (node_then q p' q' x L.str r' x'
       ∙ ap (λ z. branch L.str z q') s' ∙ ap (branch L.str (leaf s none)) t') in (
@@ -252,7 +291,7 @@ module _ {A : Type 0} (kind : A → Kind) where
           ap (without_trailing kind) (word_then g u v i k c j m
               ∙ ap (branch L.ident (leaf k none)) (one_then v p q l r l'
               ∙ ap (leaf l) (node_then q x y b.0 L.expr s b.1 ∙ ap (branch L.expr b.0) t')))
-              ∙ behind k (leaf l (branch L.expr b.0 (leaf t none)))
+              ∙ following k (leaf l (branch L.expr b.0 (leaf t none)))
               ∙ ap (branch L.ident (leaf k none)) (kept kind l L.expr b.0 (leaf t none)
               ∙ ap (λ z. leaf l (branch L.expr z (without_trailing kind (leaf t none)))) b.2.1
               ∙ ap (λ z. leaf l (branch L.expr (parts kind b.2.0) z)) (lone kind t)),
@@ -344,7 +383,7 @@ module _ {A : Type 0} (kind : A → Kind) where
           T.policy_of tn.0 k l tp.2.0 c ta.2.0 o tr.2.0 q tc.0 s,
           ap (without_trailing kind) d1 ∙ tn.1
               ∙ ap (λ z. join (part_parts kind tn.0) (without_trailing kind z)) word ∙ ap (join
-              (part_parts kind tn.0)) (behind k v2 ∙ ap (branch L.ident (leaf k none)) inside),
+              (part_parts kind tn.0)) (following k v2 ∙ ap (branch L.ident (leaf k none)) inside),
           (
             tn.2,
             within_at is_effect is_atom refl (kind k) n,

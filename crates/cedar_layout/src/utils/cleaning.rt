@@ -167,11 +167,11 @@ fn push_piece(out: &mut String, piece: &str) -> Result<(), AllocError>
     let (first, mut rest) = split_line(piece);
     out.push_str(first)?;
     while !rest.is_empty() {
-        let (line, behind) = split_line(rest);
+        let (line, after) = split_line(rest);
         if !is_blank_line(line) {
             out.push_str(line)?;
         }
-        rest = behind;
+        rest = after;
     }
     Ok(())
 }

@@ -67,7 +67,7 @@ fn separated(alloc: Global) -> Built {
     intersperse(alloc, docs, &Document::Text(","))
 }
 
-fn none_parted(alloc: Global) -> Built {
+fn none_separated(alloc: Global) -> Built {
     intersperse(alloc, Vec::new(alloc), &Document::Text(","))
 }
 
@@ -99,7 +99,7 @@ enum Sample {
     Wide,
     ToTheLeft,
     Separated,
-    NoneParted,
+    NoneSeparated,
     BarePolicy,
 }
 
@@ -112,7 +112,7 @@ fn document_of(alloc: Global, sample: &Sample) -> Built {
         Sample::Wide => wide(alloc),
         Sample::ToTheLeft => to_the_left(alloc),
         Sample::Separated => separated(alloc),
-        Sample::NoneParted => none_parted(alloc),
+        Sample::NoneSeparated => none_separated(alloc),
         Sample::BarePolicy => bare_policy(alloc),
     }
 }
@@ -199,7 +199,7 @@ x"#,
     },
     Layout {
         name: "no texts with commas between",
-        sample: Sample::NoneParted,
+        sample: Sample::NoneSeparated,
         width: 80,
         layout: "",
     },

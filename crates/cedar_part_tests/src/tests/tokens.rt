@@ -620,11 +620,11 @@ fn expect_printed(
     text: &str,
     before: usize,
     want: &str,
-    behind: &str,
+    after: &str,
 ) {
     let token = last_token(rt, alloc, text, before);
     let printed = format!(in alloc; "{token}").expect(rt, text);
-    let want = format!(in alloc; "{want}{behind}").expect(rt, text);
+    let want = format!(in alloc; "{want}{after}").expect(rt, text);
     expect_text(rt, printed.as_str(), want.as_str(), text);
 }
 

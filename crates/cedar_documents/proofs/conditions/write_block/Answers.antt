@@ -20,7 +20,7 @@ use Rattle.cedar_documents.proofs.conditions.write_block.Goals as goal
 pub returns-clause-writes : goal.returns-clause-writes
 returns-clause-writes c l t r is_left at e ends is_right =
     let new = c.get_comment_after_end-comment.new.tokens in
-    let behind : ℤ → Doc =
+    let following : ℤ → Doc =
     λ i. group (nest i (trail (as_leaf l) line · body_document i t) · line · printed (as_leaf r)) in
     let close =
     line_first c.in_ok-line.ensures.ok (c.in_ok-token_at_end.ensures.writes r ends is_right) in
@@ -38,8 +38,8 @@ returns-clause-writes c l t r is_left at e ends is_right =
     (and_then (in_nest _ refl inside c.in_ok-end.ensures.ok) close) c.in_ok-end-2.ensures.ok in
     let whole = rewritten (dot_assoc (lead (as_leaf l)) (text (codes "{")) _)
     (first (lead (as_leaf l) · text (codes "{")) refl (done _ block)) in
-    rewritten (ap (λ z. lead (as_leaf l) · text z · behind (to_z w64 (of_z w64 c.args.indent)))
-    is_left ∙ ap (λ z. lead (as_leaf l) · tok (as_leaf l) · behind z)
+    rewritten (ap (λ z. lead (as_leaf l) · text z · following (to_z w64 (of_z w64 c.args.indent)))
+    is_left ∙ ap (λ z. lead (as_leaf l) · tok (as_leaf l) · following z)
     (to_z-of_z w64 c.args.indent c.ranges.indent)) whole)
 
 pub returns-in_err-write_brace-clause-kept : goal.returns-in_err-write_brace-clause-kept

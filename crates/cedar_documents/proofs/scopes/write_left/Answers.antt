@@ -19,9 +19,9 @@ returns-in-Some-clause-writes c name is w t h k =
     subst (λ (m : Node Name). IsNodeOf (path_parts m.inner.path.items m.inner.name) t) same k in
     let txt = c.args.variable.now.variable.inner.0.now in
     let trail = trail_of (trailing_text c.args.comment.now) nil in
-    let behind =
+    let following =
     written_so _ (λ z. trail_of z nil) c.in_ok-trailing_text.ensures c.trailing_comment.ensures in
     rewritten (ap (λ i. text txt · trail · type_part i (as_leaf w) (document i t))
     (to_z-of_z w64 c.args.indent c.ranges.indent))
     (text_first refl c.in_ok-text.ensures.ok
-    (first trail behind (c.write_type_part.ensures.writes w t h path)))
+    (first trail following (c.write_type_part.ensures.writes w t h path)))

@@ -55,10 +55,10 @@ returns-in_default-clause-writes c (variable_op x p a) e =
     absurd (not_both c.in_default.is q.is)
 returns-in_default-clause-writes c (variable_is_op x w n p a) e =
     let v = c.args.variable.now in
-    let behind = leaf p (branch Label.add (parts kind_of_shown a) none) in
+    let following = leaf p (branch Label.add (parts kind_of_shown a) none) in
     let o = opened_leaf Label.ident v.variable.span _ _ x
-    (leaf w (branch Label.name (parts kind_of_shown n) behind)) refl e in
-    let q = compared v.ineq p a (typed v.entity_type v.ineq w n behind o.3).behind in
+    (leaf w (branch Label.name (parts kind_of_shown n) following)) refl e in
+    let q = compared v.ineq p a (typed v.entity_type v.ineq w n following o.3).following in
     absurd (not_both c.in_default.is q.is)
 
 -- a variable's word and its type are written, then the operator and what follows it
@@ -73,14 +73,15 @@ operator_writes : (c : goal.After-drop-comment-2) (ts : List Shown) (left : Doc)
     (Ok tt) c.comment_at_start.new.tokens c.write_add.new.tokens c.leading_lines.new.sheet
     c.end-3.new.self (ts ++ (p ∷ tree_yield a))
     (compared_document (to_z w64 (of_z w64 c.args.indent)) left p a)
-operator_writes c ts left p a q h behind =
+operator_writes c ts left p a q h following =
     let same : q.operator ≡ (c.in-Some.op, c.in-Some.right) = cc (c.in-Some.is, q.is) in
     let node = subst (λ (z : Operator). IsNodeOf (add_parts z.1.inner) a) same q.right in
     let word =
     c.rel_op_text.ensures ∙ (ap (λ (z : Operator). relop_text z.0) (sym same) ∙ q.word) in
     let sign = line_first c.in_ok-line.ensures.ok (c.in_ok-token_after.ensures.writes p word) in
     let before = in_group c.in_ok-group-2.ensures.ok (in_turn h
-    (λ b s. behind b s ∙ sym (ap (λ z. z.end) c.left_span.ensures)) sign) c.in_ok-end.ensures.ok in
+    (λ b s. following b s ∙ sym (ap (λ z. z.end) c.left_span.ensures)) sign)
+    c.in_ok-end.ensures.ok in
     let right = in_nest _ c.in_ok-nest.ensures.ok (line_first c.in_ok-line-2.ensures.ok
     (c.in_ok-write_add.ensures.writes a node)) c.in_ok-end-2.ensures.ok in
     retold (append_assoc ts (p ∷ []) (tree_yield a))
@@ -96,7 +97,7 @@ returns-clause-writes c (variable_is x w n) e =
     let o = opened_leaf Label.ident v.variable.span _ _ x
     (leaf w (branch Label.name (parts kind_of_shown n) none)) refl e in
     absurd
-    (not_both (no_operator v.ineq (typed v.entity_type v.ineq w n none o.3).behind) c.in-Some.is)
+    (not_both (no_operator v.ineq (typed v.entity_type v.ineq w n none o.3).following) c.in-Some.is)
 returns-clause-writes c (variable_op x p a) e =
     let v = c.args.variable.now in
     let o = opened_leaf Label.ident v.variable.span _ _ x
@@ -115,10 +116,10 @@ returns-clause-writes c (variable_is_op x w n p a) e =
     let v = c.args.variable.now in
     let i = to_z w64 (of_z w64 c.args.indent) in
     let type = type_part i (as_leaf w) (document i n) in
-    let behind = leaf p (branch Label.add (parts kind_of_shown a) none) in
+    let following = leaf p (branch Label.add (parts kind_of_shown a) none) in
     let o = opened_leaf Label.ident v.variable.span _ _ x
-    (leaf w (branch Label.name (parts kind_of_shown n) behind)) refl e in
-    let y = typed v.entity_type v.ineq w n behind o.3 in
+    (leaf w (branch Label.name (parts kind_of_shown n) following)) refl e in
+    let y = typed v.entity_type v.ineq w n following o.3 in
     rewritten (ap (λ z. part_document z (variable_is_op x w n p a))
     (to_z-of_z w64 c.args.indent c.ranges.indent))
     (word_then x (λ b a p h. c.in_ok-comment.ensures.taken b x a o.0 h)
@@ -126,7 +127,7 @@ returns-clause-writes c (variable_is_op x w n p a) e =
     first (lead (as_leaf x)) (written_so _ lead_of c.in_ok-leading_lines.ensures
     (c.leading_comment.ensures ∙ ap (λ z. z.leading) k))
     (operator_writes c (w ∷ tree_yield n) (tok (as_leaf x) · trail (as_leaf x) nil · type) p a
-    (compared v.ineq p a y.behind)
+    (compared v.ineq p a y.following)
     (rewritten (word_same (λ z. z · type) x _ _ o.1 k)
     (c.in_ok-write_left.ensures.writes y.name y.is w n y.word y.path))
     (λ b h. rw (y.is) (ends_later y.name.span w (tree_yield n) y.place b)))))

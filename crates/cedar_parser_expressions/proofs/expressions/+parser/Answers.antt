@@ -56,7 +56,7 @@ parse_or-operands-preserved _ c =
       operands_next Label.and and_parts (λ _. codes "||") (λ n. n) Label.or (is K.Or)
           (at_depth c.args.depth and_rule) refl (depth_takes c.args.depth and_rule refl refl) _ _ _
           _ _ _ _ d.0 K.Or y.0 y.1 i.1 d.1 d.2 refl
-          (record { comma = refl; number = refl; closing = refl; shows = λ u. refl }) y.2 y.3 y.5,
+          (record { comma = refl; fixed = refl; closing = refl; shows = refl }) y.2 y.3 y.5,
     )
 
 pub parse_or-returns-in-Err-clause-reads : goal.parse_or-returns-in-Err-clause-reads
@@ -100,7 +100,7 @@ parse_and-operands-preserved _ c =
       operands_next Label.relation relation_parts (λ _. codes "&&") (λ n. n) Label.and (is K.And)
           (at_depth c.args.depth relation_rule) refl (depth_takes c.args.depth relation_rule refl
           refl) _ _ _ _ _ _ _ d.0 K.And y.0 y.1 i.1 d.1 d.2 refl
-          (record { comma = refl; number = refl; closing = refl; shows = λ u. refl }) y.2 y.3 y.5,
+          (record { comma = refl; fixed = refl; closing = refl; shows = refl }) y.2 y.3 y.5,
     )
 
 pub parse_and-returns-in-Err-clause-reads : goal.parse_and-returns-in-Err-clause-reads
@@ -145,7 +145,7 @@ parse_mult-operands-preserved _ c =
       operands_next Label.unary unary_parts (λ _. codes "*") (λ x. x.1) Label.mult (is K.Mul)
           (at_depth c.args.depth unary_rule) refl (depth_takes c.args.depth unary_rule refl refl) _
           _ _ _ _ _ _ d.0 K.Mul y.0 y.1 i.1 d.1 d.2 refl
-          (record { comma = refl; number = refl; closing = refl; shows = λ u. refl }) y.2 y.3 y.5,
+          (record { comma = refl; fixed = refl; closing = refl; shows = refl }) y.2 y.3 y.5,
     )
 
 pub parse_mult-returns-in-Err-clause-reads : goal.parse_mult-returns-in-Err-clause-reads

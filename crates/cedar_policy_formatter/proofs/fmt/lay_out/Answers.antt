@@ -7,6 +7,7 @@ use Rattle.cedar_policy_formatter.specs.Refused.{IsMemory}
 use Rattle.cedar_policy_formatter.proofs.LaidOutTokens.{has_them}
 use Rattle.cedar_policy_formatter.proofs.Outputs.{in_order, output_of, said_of}
 use Rattle.cedar_policy_formatter.proofs.fmt.lay_out.Goals as goal
+use Rattle.cedar_tokens.specs.Bytes.{line_feed}
 
 pub make_plain-requires : goal.make_plain-requires
 make_plain-requires c = in_order c.args.text.now c.args.buffers.now.tokens.items c.requires.tokens
@@ -14,7 +15,7 @@ make_plain-requires c = in_order c.args.text.now c.args.buffers.now.tokens.items
 pub returns-then-has_tokens : goal.returns-then-has_tokens
 returns-then-has_tokens c =
     let fed : string_bytes c.push.new.self
-    ≡ string_bytes c.policy_text.new.buffers.clean ++ (10 ∷ []) = search rules in
+    ≡ string_bytes c.policy_text.new.buffers.clean ++ (line_feed ∷ []) = search rules in
     output_of c.args.config.now.line_width c.args.config.now.indent_width c.args.text.now
     c.args.policy c.make_plain.new.tokens.items c.utf8.text c.requires.policy
     (c.in_ok-make_plain.ensures.stream c.args.text.now c.requires.tokens)
@@ -28,7 +29,7 @@ returns-else-has_tokens c =
     let i = c.args.config.now.indent_width in
     let text = c.args.text.now in
     let fed : string_bytes c.push.new.self
-    ≡ string_bytes c.policy_text.new.buffers.clean ++ (10 ∷ []) = search rules in
+    ≡ string_bytes c.policy_text.new.buffers.clean ++ (line_feed ∷ []) = search rules in
     let laid = output_of w i text c.args.policy c.make_plain.new.tokens.items c.utf8.text
     c.requires.policy (c.in_ok-make_plain.ensures.stream c.args.text.now c.requires.tokens)
     (string_bytes c.policy_text.new.buffers.clean) (string_bytes c.push.new.self) c.requires.piece

@@ -7,6 +7,7 @@ use Rattle.cedar_policy_formatter.specs.Places.{is_line_feed, text_before}
 use Rattle.cedar_policy_formatter.proofs.PlaceLaws.{take-floor, drop-last_feed}
 use Rattle.cedar_policy_formatter.proofs.lookup.place.Goals as goal
 use Rattle.cedar_policy_formatter.proofs.lookup.place.Goals.{in-Some, in-None}
+use Rattle.cedar_tokens.specs.Bytes.{line_feed}
 
 -- `before` is the text before the byte, in whole characters
 before_is : (c : goal.After-count-2)
@@ -24,14 +25,14 @@ last_line_is : (c : goal.After-count-2) → drop c.match-rfind.line_start c.rang
     ≡ after_last is_line_feed c.range-before.result.now
 last_line_is c = elim c.match-rfind.branch [
   | in-Some w ↦
-      let found = rfind_char 10 c.range-before.result.now
+      let found = rfind_char line_feed c.range-before.result.now
       (Some w.in-Some.feed) w.in-Some.ensures.cases (omega arith) in
       let at_feed : c.match-rfind.line_start - 1 ≡ w.in-Some.feed = omega arith in
       drop-last_feed c.range-before.result.now c.match-rfind.line_start (omega arith)
-      (λ k behind within. found.2 k (omega arith) within) (λ _. rw at_feed found.1)
+      (λ k following within. found.2 k (omega arith) within) (λ _. rw at_feed found.1)
   | in-None w ↦
       let found =
-      rfind_char 10 c.range-before.result.now None w.in-None.ensures.cases (omega arith) in
+      rfind_char line_feed c.range-before.result.now None w.in-None.ensures.cases (omega arith) in
       drop-last_feed c.range-before.result.now c.match-rfind.line_start (omega arith)
       (λ k _ within. found k within) (λ some. absurd (omega arith))
 ]

@@ -2,19 +2,20 @@ use Rattle.std.proofs.Common.{◌≡◌, [], ◌∷◌, cond, ap, ◌∙◌, ari
 use Rattle.cedar_ranges.specs.Edits.{feeds_after}
 use Rattle.cedar_ranges.proofs.LastBytes.{feeds_by_test}
 use Rattle.cedar_ranges.proofs.edits.push_feeds.Goals as goal
+use Rattle.cedar_tokens.specs.Bytes.{line_feed}
 
 pub returns-then-ends_with : goal.returns-then-ends_with
 returns-then-ends_with c =
-    let e : feeds_after c.args.before.now ≡ 10 ∷ [] =
+    let e : feeds_after c.args.before.now ≡ line_feed ∷ [] =
     feeds_by_test c.args.before.now c.is_empty.result c.ends_with.result c.is_empty.ensures
     c.if-is_empty.false (c.ends_with.ensures.byte (omega arith) (omega arith) (λ w o h. h))
-    ∙ ap (λ t. cond t (10 ∷ []) (10 ∷ (10 ∷ []))) c.if-ends_with.true in
+    ∙ ap (λ t. cond t (line_feed ∷ []) (line_feed ∷ (line_feed ∷ []))) c.if-ends_with.true in
     rw e (search rules)
 
 pub returns-else-ends_with : goal.returns-else-ends_with
 returns-else-ends_with c =
-    let e : feeds_after c.args.before.now ≡ 10 ∷ (10 ∷ []) =
+    let e : feeds_after c.args.before.now ≡ line_feed ∷ (line_feed ∷ []) =
     feeds_by_test c.args.before.now c.is_empty.result c.ends_with.result c.is_empty.ensures
     c.if-is_empty.false (c.ends_with.ensures.byte (omega arith) (omega arith) (λ w o h. h))
-    ∙ ap (λ t. cond t (10 ∷ []) (10 ∷ (10 ∷ []))) c.if-ends_with.false in
+    ∙ ap (λ t. cond t (line_feed ∷ []) (line_feed ∷ (line_feed ∷ []))) c.if-ends_with.false in
     rw e (search rules)

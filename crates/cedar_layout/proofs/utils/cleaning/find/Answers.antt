@@ -4,7 +4,7 @@ use Rattle.cedar_layout.proofs.utils.cleaning.find.Goals as goal
 
 pub loop-start-preserved : goal.loop-start-preserved
 loop-start-preserved c = record {
-  behind = let b = c.loop-start.invariant.behind in omega arith;
+  not_before = let b = c.loop-start.invariant.not_before in omega arith;
   none = none_more c.args.sought c.args.text.now c.args.from c.loop-start.start
       c.loop-start.invariant.none c.in_default.ensures.len;
 }

@@ -5,7 +5,7 @@ use Rattle.cedar_layout.proofs.utils.cleaning.find.Given as goal
 
 abbrev pub invariant-loop-start : goal.invariant-loop-start
 invariant-loop-start l = record {
-  behind : l.from ≤ l.start;
+  not_before : l.from ≤ l.start;
   none : (k : ℕ) → l.from ≤ k → k < l.start → BeginsNone (IsSought l.sought) (drop k l.text);
 }
 
