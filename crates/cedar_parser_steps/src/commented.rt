@@ -34,7 +34,8 @@ fn text_before<'src>(text: &'src str, at: usize, lexemes: &[Lexeme]) -> &'src st
 }
 
 /// Stores the tokens of a text with their comments in `tokens`, and returns the closing comments, from the text's lexemes:
-/// those of `get_token_stream`. The former contents of `tokens` are dropped, and its memory is reused.
+/// those of `get_token_stream`. The former contents of `tokens` are dropped, and its memory is reused. After an error its contents
+/// are unspecified.
 pub fn commented_tokens<'src>(
     alloc: Global,
     text: &'src str,

@@ -17,7 +17,7 @@ ghost use Rattle.cedar_laws.specs.Output.{closing_text};
 ghost use Rattle.cedar_document_rows.specs.Kept.{KeepsTokens};
 ghost use Rattle.cedar_document_rows.specs.NodeDocuments.{IsAt};
 ghost use Rattle.cedar_documents.specs.PartDocuments.{IsPartOf};
-ghost use Rattle.cedar_policy_formatter.specs.Inside.Written.{IsCleanLayout, IsPolicyText, IsPlainStream};
+ghost use Rattle.cedar_policy_formatter.specs.Inside.Written.{IsCleanLayout, IsPolicyText};
 ghost use Rattle.cedar_policy_formatter.specs.Refused.{IsMemory};
 ghost use Rattle.cedar_policy_formatter.specs.Texts.{IsTextOf, FailsCheck};
 
@@ -154,8 +154,8 @@ impl<'src> Buffers<'src> {
     }
 }
 
-// Leaves the layout of a policy, with a line feed, in the clean buffer. Its tokens, which are in their buffer, are compared with
-// those of the layout. The previous contents of the other buffers are replaced.
+// Leaves the layout of the policy whose tokens are in the first buffer, with a line feed, in the clean buffer, and checks that
+// it has these tokens. The other buffers are overwritten.
 fn lay_out<'src>(
     alloc: Global,
     buffers: &mut Buffers<'src>,
@@ -170,7 +170,7 @@ fn lay_out<'src>(
 {
     tree_is_of_accepted();
     outputs_are_canonical();
-    make_plain(alloc, &mut buffers.tokens)?;
+    drop_trailing_commas(alloc, &mut buffers.tokens)?;
     policy_text(buffers, policy, config)?;
     buffers.clean.push('\n')?;
     if has_tokens(buffers.clean.as_str(), &buffers.tokens) {
@@ -178,16 +178,6 @@ fn lay_out<'src>(
     } else {
         Err(FormatError::Unsound)
     }
-}
-
-// Drops the trailing commas of a text's tokens.
-fn make_plain<'src>(alloc: Global, tokens: &mut Vec<WrappedToken<'src>>) -> Result<(), AllocError>
-    requires { AreInOrder tokens.old.items }
-    ensures order { OnOk result (AreInOrder tokens.new.items) }
-    ensures stream { OnOk result ((text : List ℕ) → AreTokensOf text tokens.old.items → IsPlainStream text tokens.new.items) }
-{
-    drop_trailing_commas(alloc, tokens)?;
-    Ok(())
 }
 
 // Leaves the layout of a policy over its own tokens, without empty lines, in the clean buffer. The policy is dropped first.

@@ -91,7 +91,8 @@ impl<'src> PolicyReader<'src> {
     /// is unchanged.
     ///
     /// The tokens of that part are stored in `tokens`, with their comments and places, trailing commas among them. The former
-    /// contents of `tokens` are dropped, and its memory is reused.
+    /// contents of `tokens` are dropped, and its memory is reused. Where there is no policy `tokens` is unchanged; after an error
+    /// its contents are unspecified.
     pub fn next_piece(
         &mut self,
         alloc: Global,
@@ -99,7 +100,7 @@ impl<'src> PolicyReader<'src> {
     ) -> Result<Option<Piece<'src>>, FormatError>
         ensures answer { IfOk result (λ next. MatchOption next (HasEnded self.old) (λ piece. GoesOn self.old self.new piece.text.now)) }
         ensures policy { IfOk result (λ next. MatchOption next (self.new ≡ self.old) (λ piece. IsPolicyOf piece.text.now piece.policy)) }
-        ensures tokens { IfOk result (λ next. IfSome next (λ piece. AreTokensOf piece.text.now tokens.new.items)) }
+        ensures tokens { IfOk result (λ next. MatchOption next (tokens.new ≡ tokens.old) (λ piece. AreTokensOf piece.text.now tokens.new.items)) }
         ensures refusal { IfErr result (OutOfMemoryOr (Refuses self.old.text)) }
         ensures refused { OnErr result (self.new ≡ self.old) }
     {

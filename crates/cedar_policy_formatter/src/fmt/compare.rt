@@ -28,15 +28,21 @@ pub fn same_layout(alloc: Global, a: &str, b: &str, _config: &Config) -> Result<
     tree_is_of_accepted();
     let mut first = PolicyReader::new(a);
     let mut second = PolicyReader::new(b);
-    let mut tokens = Vec::new(alloc);
-    let mut room = Vec::new(alloc);
+    let mut first_tokens = Vec::new(alloc);
+    let mut second_tokens = Vec::new(alloc);
     let mut same = true;
-    'pieces: while let Some(piece) = first.next_piece(alloc, &mut tokens)? {
+    'pieces: while let Some(piece) = first.next_piece(alloc, &mut first_tokens)? {
         if same {
-            same = goes_on_alike(alloc, piece.text, &mut tokens, &mut second, &mut room)?;
+            same = goes_on_alike(
+                alloc,
+                piece.text,
+                &mut first_tokens,
+                &mut second,
+                &mut second_tokens,
+            )?;
         }
     }
-    let more = has_more(alloc, &mut second, &mut room)?;
+    let more = has_more(alloc, &mut second, &mut second_tokens)?;
     if more {
         return Ok(false);
     }
