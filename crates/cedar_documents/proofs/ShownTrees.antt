@@ -1,5 +1,5 @@
 -- The typed policies whose leaves are a context's tokens.
-use Rattle.std.proofs.Common.{◌≡◌, List, [], ◌∷◌, map, Some, None, refl, sym, ap, ◌∙◌, subst, append-nil}
+use Rattle.std.proofs.Common.{◌≡◌, List, [], ◌∷◌, map, Some, None, refl, sym, ap, ◌∙◌}
 use Rattle.std.specs.Prelude.{if◌then◌else◌}
 use Rattle.std.specs.List.{flat_map}
 use Rattle.cedar_tokens.specs.Listing.{token_value}
@@ -13,13 +13,12 @@ use Rattle.cedar_grammar.specs.TypedTrees.{Clause, policy, set_tree, part_yield}
 use Rattle.cedar_grammar.specs.Reader.Reading.{Answer, done, stuck}
 use Rattle.cedar_grammar.specs.Reader.Lines.{set_to}
 use Rattle.cedar_grammar.proofs.Rules.Maps.{each, relabel, answer_of, set_agrees}
-use Rattle.cedar_grammar.proofs.WholeLaws.{set_sound, set_complete}
-use Rattle.cedar_grammar.proofs.Trees.Laws.{list_has_one_tree, every_tree_is_typed, typed_leaves_agree}
-use Rattle.cedar_grammar.proofs.Plain.Grammar.{plain_is_in_the_grammar}
+use Rattle.cedar_grammar.proofs.WholeLaws.{set_complete}
 use Rattle.cedar_grammar.proofs.Trees.Relabelling.{relabel_yield, each_map}
 use Rattle.cedar_layout.specs.Lookups.{Shown}
 use Rattle.cedar_tree.specs.NodeTrees.{is_node, spanned, span_of, end_of}
 use Rattle.cedar_document_rows.specs.NodeDocuments.{text_of, kind_of_shown, nodes_of}
+use Rattle.cedar_grammar.proofs.Typed.PlainLists.{policies_of}
 
 -- a token's text and its place
 abbrev pub place_of : Shown → Placed
@@ -81,22 +80,13 @@ typed_over ts f h same = go (set_to kind_of_shown greatest_depth ts) refl (sym a
     go (stuck b r) e q = absurd cc
     go (done g (a ∷ r)) e q = absurd cc
     go (done g []) e q =
-        let k = set_sound kind_of_shown greatest_depth ts g [] e in
-        let w : G kind_of_shown greatest_depth g ts =
-        record { shape = k.among; leaves = sym (k.tokens ∙ append-nil (yield g)) } in
-        let c = plain_is_in_the_grammar kind_of_shown greatest_depth ts g w in
-        let v : G kind_of_shown greatest_depth (without_trailing kind_of_shown g) ts =
-        subst (λ z. G kind_of_shown greatest_depth (without_trailing kind_of_shown g) z) same c in
-        let one = list_has_one_tree kind_of_shown greatest_depth greatest_depth ts
-        (without_trailing kind_of_shown g) g v w in
-        let t = every_tree_is_typed kind_of_shown greatest_depth ts g w in
-        let is : set_tree kind_of_shown t.0 ≡ g = sym t.1 ∙ one in
+        let h = policies_of kind_of_shown ts g e same in
         let r : relabel place_of g ≡ f = cc in
         record {
-          policies = t.0;
-          leaves = sym (typed_leaves_agree kind_of_shown t.0) ∙ (ap yield is ∙ w.leaves);
-          grammar = subst (λ z. G kind_of_shown greatest_depth z ts) (sym is) w;
-          plain = ap (without_trailing kind_of_shown) is ∙ (one ∙ sym is);
-          nodes = ap nodes_of is ∙ sym (nodes_same g)
+          policies = h.policies;
+          leaves = h.leaves;
+          grammar = h.grammar;
+          plain = h.plain;
+          nodes = ap nodes_of h.is ∙ sym (nodes_same g)
               ∙ ap (λ z. spanned (λ (t : Placed). t.text) (λ t. t.span) z) r;
         }

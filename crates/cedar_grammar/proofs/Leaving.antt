@@ -1,8 +1,7 @@
 -- Where a text leaves the grammar is where the reader refuses it.
-use Rattle.std.specs.Prelude.{◌≡◌, ◌↔◌, ℕ, Bool, true, false, IsTrue, if◌then◌else◌, List, [], ◌∷◌, ◌++◌, length}
+use Rattle.std.specs.Prelude.{◌≡◌, ◌↔◌, ℕ, Bool, true, false, IsTrue, List, [], ◌∷◌, ◌++◌, length}
 use Rattle.std.specs.List.{list_any, sum_by}
 use Rattle.std.proofs.Common.{sym, ap, ◌∙◌, inl, inr, append-nil, subst}
-use Rattle.std.proofs.lemmas.List.Elements.{filter-append}
 use Rattle.cedar_tokens.specs.Units.{is_token}
 use Rattle.cedar_tokens.specs.Split.{SplitsInto}
 use Rattle.cedar_grammar.specs.Trees.{Label, Forest}
@@ -18,6 +17,7 @@ use Rattle.cedar_grammar.proofs.Texts.Grammars.{grammars_agree}
 use Rattle.cedar_grammar.proofs.Texts.Beginnings.{beginnings_agree}
 use Rattle.cedar_grammar.proofs.Texts.Accepted.{are_tokens}
 use Rattle.cedar_tokens.proofs.UnitsSoFar.{units_length}
+use Rattle.cedar_grammar.proofs.Hopeless.{hopeless_at}
 
 module _ (front : List (List ℕ)) (are : AreTokens (λ t. t) front) where
   begins : (d : ℕ) → Begins d front ↔ BeginsByKinds kind_of d front
@@ -73,10 +73,6 @@ pub is_refused : (text : List ℕ) (at : ℕ) (deep : Bool) → LeavesGrammar te
     → IsRefused text at deep
 is_refused text at deep l = go l.before l.after l.split l.fitting l.place l.begins l.leaves
   where
-    token_first : (u : List ℕ) (us : List (List ℕ)) → is_token u ≡ true
-        → only_tokens (u ∷ us) ≡ u ∷ only_tokens us
-    token_first u us h = ap (λ b. if b then u ∷ only_tokens us else only_tokens us) h
-
     go : (before after : List (List ℕ)) → SplitsInto text (before ++ after)
         → list_any is_too_large (before ++ after) ≡ false → at ≡ sum_by length before
         → Begins greatest_depth (only_tokens before) → LeaveAfter (only_tokens before) after deep
@@ -98,19 +94,8 @@ is_refused text at deep l = go l.before l.after l.split l.fitting l.place l.begi
         )
     go before (u ∷ us) s f p b (o, n, k) =
         let t = through (only_tokens before) (are_tokens before) u o in
-        inl (record {
-          before = before;
-          token = u;
-          after = us;
-          split = s;
-          fitting = f;
-          place = p;
-          is_one = o;
-          hopeless = record {
-            split = filter-append is_token before (u ∷ us)
-                ∙ ap (λ z. only_tokens before ++ z) (token_first u us o);
-            before = (begins (only_tokens before) (are_tokens before) greatest_depth).0 b;
-            through = λ g. n ((t greatest_depth).1 g);
-            kind_is = (λ e. let x = k.0 e in (x.0, (t x.0).0 x.1), λ (d, g). k.1 (d, (t d).1 g));
-          };
-        })
+        inl (hopeless_at text before u us at deep s f p o (
+          (begins (only_tokens before) (are_tokens before) greatest_depth).0 b,
+          (λ g. n ((t greatest_depth).1 g)),
+          (λ e. let x = k.0 e in (x.0, (t x.0).0 x.1), λ (d, g). k.1 (d, (t d).1 g)),
+        ))

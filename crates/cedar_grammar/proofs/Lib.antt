@@ -1,5 +1,6 @@
 pub mod Answers
 pub mod Booleans
+pub mod Hopeless
 pub mod KindSets
 pub mod Leaving
 pub mod Plain

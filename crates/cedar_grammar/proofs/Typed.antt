@@ -6,3 +6,4 @@ pub mod PartsSame
 pub mod ClausesSame
 pub mod SameLabels
 pub mod FittingLeaves
+pub mod PlainLists

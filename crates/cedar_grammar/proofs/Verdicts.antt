@@ -8,7 +8,7 @@ use Rattle.cedar_tokens.specs.Units.{is_token}
 use Rattle.cedar_tokens.specs.Split.{SplitsInto}
 use Rattle.cedar_tokens.specs.declared.kind.Kind.{Kind}
 use Rattle.cedar_tokens.specs.TokenKinds.{kind_of}
-use Rattle.cedar_grammar.specs.Reader.Hopeless.{Hopeless, Unfinished, IsRefused}
+use Rattle.cedar_grammar.specs.Reader.Hopeless.{Hopeless, Unfinished, IsHopeless, IsRefused}
 use Rattle.cedar_grammar.specs.KindGrammar.{G}
 use Rattle.cedar_grammar.specs.Numbers.{is_too_large, IsFirstTooLarge}
 use Rattle.cedar_grammar.specs.Texts.{greatest_depth, only_tokens, Accepted}
@@ -21,6 +21,7 @@ use Rattle.cedar_grammar.proofs.Texts.Kinds.{samples}
 use Rattle.cedar_grammar.proofs.Texts.Cuts.{Large, numbers_or, unit_cut}
 use Rattle.cedar_grammar.proofs.Trees.Relabelling.{each_map}
 use Rattle.cedar_tokens.proofs.UnitsSoFar.{units_length}
+use Rattle.cedar_grammar.proofs.Hopeless.{hopeless_among}
 
 -- accepted; refused at a byte, and whether only by its depth; a number at a byte that is too large
 pub data Verdict : Type 0 where
@@ -158,22 +159,8 @@ module _ (text : List ℕ) (units : List (List ℕ)) (s : SplitsInto text units)
       ≡ sum_by length c.before =
       ap (start_after units) count ∙ ap (λ z. start_after z (length (only_tokens c.before))) c.whole
       ∙ start_is c.before t c.after c.is_one in
-      inl (record {
-        before = c.before;
-        token = t;
-        after = c.after;
-        split = subst (λ z. SplitsInto text z) c.whole s;
-        fitting = sym (ap (list_any is_too_large) c.whole) ∙ fit;
-        place = place;
-        is_one = c.is_one;
-        hopeless = subst (λ z. Hopeless kind_of greatest_depth (only_tokens z)
-            (only_tokens c.before) t (only_tokens c.after) b) c.whole
-            (subst (λ z. Hopeless kind_of z (only_tokens units) (only_tokens c.before) t
-            (only_tokens c.after) b) deep
-            (subst (λ z. Hopeless kind_of d (only_tokens units) (only_tokens c.before) t z b)
-            (sym c.rest_is)
-            (subst (λ z. Hopeless kind_of d (only_tokens units) z t rest b) (sym c.front_is) h)));
-      })
+      inl (subst (λ n. IsHopeless text n b) (sym place)
+      (hopeless_among text units s fit d deep front t rest b h))
 
   answered : list_any is_too_large units ≡ false → (x : Answer (List ℕ))
       → set_to kind_of d (only_tokens units) ≡ x → Says kind_of d (only_tokens units) x

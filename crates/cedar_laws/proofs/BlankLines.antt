@@ -16,9 +16,9 @@ use Rattle.cedar_tokens.specs.Units.{IsBlank, IsToken, is_token, is_comment}
 use Rattle.cedar_tokens.specs.Split.{Scans, SplitsInto}
 use Rattle.cedar_tokens.specs.Listing.{Decorated, Listing, gaps, decorate, listing, comments, with_first}
 use Rattle.cedar_tokens.proofs.CommentLines.{comments_nil, comments_skip}
-use Rattle.cedar_tokens.proofs.Heads.{class, class-white, class-blank, token_of, no_empty_token}
-use Rattle.cedar_tokens.proofs.FirstUnit.{comment_parts, token_class, no_both_blank, all_more, low_from_class}
-use Rattle.cedar_tokens.proofs.Lists.{All-append}
+use Rattle.cedar_tokens.proofs.Heads.{class, class-white, class-blank, token_of, no_empty_token, token_class}
+use Rattle.cedar_tokens.proofs.FirstUnit.{comment_parts, no_both_blank, low_from_class}
+use Rattle.cedar_tokens.proofs.Lists.{All-append, all_more}
 use Rattle.cedar_layout.specs.Cleaning.{last_byte_or}
 use Rattle.cedar_laws.specs.CleaningLaws.{is_solid, Thinned, no_units, unit_stays, blank_goes}
 use Rattle.cedar_layout.specs.Cleaning.{piece_lines, is_blank_line, without_blank_lines, clean_lines, clean_piece}

@@ -13,9 +13,9 @@ use Rattle.cedar_tokens.specs.Units.{BeginsWith, IsLongest, IsToken, IsUnit, bla
 use Rattle.cedar_tokens.specs.Split.{Scans, SplitsInto}
 use Rattle.cedar_tokens.specs.Listing.{listing}
 use Rattle.cedar_tokens.proofs.Prefixes.{begins_fits, begins_take}
-use Rattle.cedar_tokens.proofs.Heads.{class, class-blank, word, number, string, slot, punctuator, token_of, one_of}
+use Rattle.cedar_tokens.proofs.Heads.{class, class-blank, word, number, string, slot, punctuator, token_of, one_of, token_class}
 use Rattle.cedar_tokens.proofs.Longest.{clash, is_token-string}
-use Rattle.cedar_tokens.proofs.FirstUnit.{comment_parts, token_class, unit_nonempty, all_more}
+use Rattle.cedar_tokens.proofs.FirstUnit.{comment_parts, unit_nonempty}
 use Rattle.cedar_tokens.proofs.UnitsSoFar.{scans_concat}
 use Rattle.cedar_laws.specs.CleaningLaws.{is_solid, Thinned}
 use Rattle.cedar_layout.specs.Cleaning.{IsKept, NoneBegins, Cut, last_piece, more_pieces, clean_piece}
@@ -23,6 +23,7 @@ use Rattle.cedar_laws.proofs.Units.{Past, past, next_passes, no_slashes, punctua
 use Rattle.cedar_laws.proofs.Scanned.{begins_within, token_no_feed, string_class}
 use Rattle.cedar_laws.proofs.BlankLines.{AreUnits, units_parts, lacks, blank_is_byte, Plain, AllPlain, in_line, lined, lined_append, token_solid, comment_solid, thinned_same, thinned_append, thinned_twice, feed_other, blank_feed}
 use Rattle.cedar_layout.proofs.Seeking.{comment_kept}
+use Rattle.cedar_tokens.proofs.Lists.{all_more}
 
 quote_of_class : (b : ℕ) → class b ≡ 3 → (b == quote) ≡ true
 quote_of_class b c = grind (arith, nat_tests)

@@ -1,6 +1,6 @@
 -- Trees of the written grammar with decorated leaves:
 -- one per list, kept by equal numbers, and one for every accepted text.
-use Rattle.std.proofs.Common.{◌≡◌, ℕ, ℤ, suc, ◌≤◌, Bool, true, false, cond, ◌&&◌, List, [], ◌∷◌, length, map, refl, ap, arith, sym, ◌∙◌, subst, append-nil}
+use Rattle.std.proofs.Common.{◌≡◌, ℕ, ℤ, suc, ◌≤◌, Bool, true, false, cond, ◌&&◌, List, [], ◌∷◌, length, map, refl, ap, arith, sym, ◌∙◌, subst}
 use Rattle.cedar_tokens.specs.Units.{is_number, is_token, IsToken}
 use Rattle.cedar_tokens.specs.Listing.{Decorated, Listing, IsListing, token_value, without_zeros}
 use Rattle.cedar_tokens.specs.PlainList.{plain_list, plain_from}
@@ -22,8 +22,8 @@ use Rattle.cedar_grammar.proofs.Texts.Accepted.{kinds_of}
 use Rattle.cedar_grammar.proofs.Texts.Grammars.{grammars_agree, texts_are_tokens}
 use Rattle.cedar_grammar.proofs.Typed.SameLabels.{sets_agree, label_of_first_byte}
 use Rattle.cedar_grammar.proofs.Rules.Maps.{each, relabel, answer_of, set_agrees}
-use Rattle.cedar_grammar.proofs.WholeLaws.{set_sound, set_complete}
-use Rattle.cedar_grammar.proofs.Trees.Laws.{list_has_one_tree, leaves_are_plain, every_tree_is_typed, typed_tree_is_unique, typed_leaves_agree}
+use Rattle.cedar_grammar.proofs.WholeLaws.{set_complete}
+use Rattle.cedar_grammar.proofs.Trees.Laws.{list_has_one_tree, leaves_are_plain, typed_tree_is_unique, typed_leaves_agree}
 use Rattle.cedar_grammar.proofs.Texts.Kinds.{number_kind, trailing_agrees, plain_texts_agree}
 use Rattle.cedar_grammar.proofs.Trees.Relabelling.{relabelled, plain_each, each_map, without_relabel}
 use Rattle.cedar_grammar.proofs.Texts.Listings.{listing_texts}
@@ -42,6 +42,7 @@ use Rattle.std.specs.List.{AllByRecursion}
 use Rattle.cedar_grammar.proofs.Plain.Grammar.{plain_is_in_the_grammar}
 use Rattle.cedar_grammar.proofs.Plain.CommaPairs.{plain_is_plain}
 use Rattle.cedar_laws.proofs.Relabelled.{set_tree_map}
+use Rattle.cedar_grammar.proofs.Typed.PlainLists.{policies_of}
 
 -- ---- kinds of values
 
@@ -195,27 +196,16 @@ tree_of_texts ts all f s w y =
     go (stuck b r) e q = absurd cc
     go (done g (a ∷ r)) e q = absurd cc
     go (done g []) e q =
-        let k = set_sound kind_of_decorated greatest_depth ts g [] e in
-        let h : G kind_of_decorated greatest_depth g ts =
-        record { shape = k.among; leaves = sym (k.tokens ∙ append-nil (yield g)) } in
-        let c = plain_is_in_the_grammar kind_of_decorated greatest_depth ts g h in
-        let h2 : G kind_of_decorated greatest_depth (without_trailing kind_of_decorated g) ts =
-        subst (λ z. G kind_of_decorated greatest_depth (without_trailing kind_of_decorated g) z)
-        same c in
-        let one = list_has_one_tree kind_of_decorated greatest_depth greatest_depth ts
-        (without_trailing kind_of_decorated g) g h2 h in
-        let t = every_tree_is_typed kind_of_decorated greatest_depth ts g h in
-        let is : set_tree kind_of_decorated t.0 ≡ g = sym t.1 ∙ one in
-        let leaves : tokens_of t.0 ≡ ts =
-        sym (typed_leaves_agree kind_of_decorated t.0) ∙ (ap yield is ∙ h.leaves) in (
-          t.0,
+        let h = policies_of kind_of_decorated ts g e same in (
+          h.policies,
           record {
-            tokens = subst (λ z. AllTokens z) (sym leaves) all;
-            grammar = subst (λ z. G kind_of_decorated greatest_depth z (tokens_of t.0)) (sym is)
-                (subst (λ z. G kind_of_decorated greatest_depth g z) (sym leaves) h);
-            plain = ap (without_trailing kind_of_decorated) is ∙ (one ∙ sym is);
+            tokens = subst (λ z. AllTokens z) (sym h.leaves) all;
+            grammar = subst
+                (λ z. G kind_of_decorated greatest_depth (set_tree kind_of_decorated h.policies) z)
+                (sym h.leaves) h.grammar;
+            plain = h.plain;
           },
-          leaves,
+          h.leaves,
         )
 
 pub good_tokens : (ts : List Decorated) → AllByRecursion IsGood ts → AllTokens ts

@@ -12,13 +12,14 @@ use lib.Utf8.{scalars}
 use Rattle.cedar_tokens.specs.Bytes.{line_feed, quote, slash}
 use Rattle.cedar_tokens.specs.Units.{IsLongest, IsFirstUnit, is_string, is_comment, is_string_rest}
 use Rattle.cedar_tokens.proofs.Longest.{is_token-string}
-use Rattle.cedar_tokens.proofs.FirstUnit.{comment_parts, unit_boundary, all_more}
+use Rattle.cedar_tokens.proofs.FirstUnit.{comment_parts, unit_boundary}
 use Rattle.cedar_layout.specs.Cleaning.{IsKept, NoneBegins, Cut, last_piece, more_pieces, piece_lines, is_blank_line, without_blank_lines, clean_lines, clean_piece}
 use Rattle.cedar_laws.proofs.Ends.{scalars_skip, scalars_drop, trim_is, stays_black, stays_before}
 use Rattle.cedar_laws.proofs.CleanedLists.{kept_unit, kept_too}
 use Rattle.cedar_laws.proofs.TrimmedLists.{token_black}
 use Rattle.cedar_laws.proofs.BlankLines.{onto, feedless, lacks, lines_onto, chars_low, feed_other}
 use Rattle.cedar_laws.specs.LostBlanks.{LosesBlanks, none_left, stays, goes, LosesBlanksBetween, last_part, more_parts, EveryTextLosesBlanks}
+use Rattle.cedar_tokens.proofs.Lists.{all_more}
 
 -- ---- characters
 

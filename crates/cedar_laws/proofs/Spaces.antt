@@ -13,12 +13,13 @@ use Rattle.cedar_tokens.specs.Units.{IsUnit, blank, comment, token, is_comment, 
 use Rattle.cedar_tokens.specs.Split.{Scans, SplitsInto}
 use Rattle.cedar_tokens.specs.Listing.{comments}
 use Rattle.cedar_tokens.proofs.Prefixes.{begins_take}
-use Rattle.cedar_tokens.proofs.FirstUnit.{comment_parts, unit_boundary, all_more}
+use Rattle.cedar_tokens.proofs.FirstUnit.{comment_parts, unit_boundary}
 use Rattle.cedar_tokens.proofs.CommentLines.{comments_nil, comments_here}
 use Rattle.cedar_tokens.proofs.Gaps.{NoTokens}
 use Rattle.cedar_laws.proofs.Units.{Ended}
 use Rattle.cedar_laws.proofs.Scanned.{first_within}
 use Rattle.cedar_laws.proofs.BlankLines.{blank_no_comment, AreUnits, units_parts, comments_pass, blank_no_slash, blank_feed, feedless, feedless_append}
+use Rattle.cedar_tokens.proofs.Lists.{all_more}
 
 -- ---- UTF-8
 

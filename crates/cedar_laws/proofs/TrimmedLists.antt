@@ -1,23 +1,22 @@
 -- Trimming keeps the decorated list of every UTF-8 text that splits.
-use Rattle.std.proofs.Common.{◌≡◌, ℕ, ◌<◌, Bool, true, false, cond, not, ◌&&◌, ◌==◌, ◌⊎◌, inl, inr, List, [], ◌∷◌, ◌++◌, Some, None, length, get_or, map, take, drop, refl, ap, arith, sym, ◌∙◌, subst, nat_lt, append_assoc, append-nil, length-append}
+use Rattle.std.proofs.Common.{◌≡◌, ℕ, ◌<◌, Bool, true, false, cond, not, ◌&&◌, ◌⊎◌, inl, inr, List, [], ◌∷◌, ◌++◌, Some, None, length, get_or, map, take, drop, refl, ap, arith, sym, ◌∙◌, subst, nat_lt, append_assoc, append-nil, length-append}
 use Rattle.std.specs.List.{list_all, AllByRecursion, concat, filter}
-use Rattle.std.specs.Char.{is_whitespace, is_ascii_digit}
+use Rattle.std.specs.Char.{is_whitespace}
 use Rattle.std.specs.Str.{trim, chars, IsUtf8, encode_utf8_all, drop_trailing_whitespace}
 use Rattle.std.proofs.Math.Seq.{drop-append_seam, take-append_seam, get_or-append_seam}
-use Rattle.std.proofs.lemmas.Bool.Decides.{nat_tests, Decides-eqb, Decides-ltb}
-use Rattle.std.proofs.lemmas.List.{map-append, nil_from_length}
+use Rattle.std.proofs.lemmas.Bool.Decides.{nat_tests, Decides-ltb}
+use Rattle.std.proofs.lemmas.List.{map-append}
 use Rattle.std.proofs.lemmas.List.Elements.{filter-append}
 use Rattle.std.proofs.lemmas.Str.{IsUtf8-take, IsUtf8-append, encode_ascii, chars-append, chars-nil, IsCharBoundary-before_ascii, encodes-chars}
 use Rattle.std.proofs.lemmas.Bool.{and_parts, false_from_ne_true, not-true}
 use Rattle.std.proofs.lemmas.List.Folds.{concat-append, list_all-append}
-use Rattle.cedar_tokens.specs.Bytes.{backslash, line_feed, quote, slash}
-use Rattle.cedar_tokens.specs.Units.{IsBlank, IsToken, IsComment, IsUnit, blank, comment, token, is_token, is_comment, is_comment_byte, is_word_byte, is_string_rest, slots, punctuators}
+use Rattle.cedar_tokens.specs.Bytes.{line_feed, slash}
+use Rattle.cedar_tokens.specs.Units.{IsBlank, IsToken, IsComment, IsUnit, blank, comment, token, is_token, is_comment, is_comment_byte, is_word_byte, slots, punctuators}
 use Rattle.cedar_tokens.specs.Split.{Scans}
 use Rattle.cedar_tokens.specs.Listing.{listing, gaps, decorate, comments}
 use Rattle.cedar_tokens.specs.Inside.Newlines.{before_newline, after_newline}
-use Rattle.cedar_tokens.proofs.Heads.{class, class-white, class-blank, word, number, string, slot, punctuator, token_of, no_empty_token, one_of}
-use Rattle.cedar_tokens.proofs.Strings.{rest_test, rest_of}
-use Rattle.cedar_tokens.proofs.FirstUnit.{comment_parts, token_class, unit_nonempty, all_more, low_from_class}
+use Rattle.cedar_tokens.proofs.Heads.{class, class-white, class-blank, token_of, no_empty_token, token_class}
+use Rattle.cedar_tokens.proofs.FirstUnit.{comment_parts, unit_nonempty, low_from_class}
 use Rattle.cedar_tokens.proofs.CommentLines.{comments_nil}
 use Rattle.cedar_tokens.proofs.Lists.{All-append, All-parts}
 use Rattle.cedar_tokens.proofs.Gaps.{NoTokens}
@@ -30,28 +29,15 @@ use Rattle.cedar_laws.proofs.BlankLines.{lined, lined_append, is_feed, token_sol
 use Rattle.cedar_laws.proofs.TrimmedUnits.{trim_blank, front_blank_goes, before_free, after_free, blanks_after, same_front, token_end}
 use Rattle.cedar_laws.proofs.Ends.{trim_back, chars_trim, trim_utf8, StartsBlack, trimmed_tail, trim_same, drop_twice, drop_after, stays_black}
 use Rattle.cedar_laws.proofs.Spaces.{concat_utf8, units_comments, comment_feedless, AtFeed, no_feed, at_feed, find_feed, scans_shorter}
+use Rattle.cedar_tokens.proofs.LastBytes.{token_ends}
 
 -- ---- the last character of a token
 
 abbrev black : ℕ → Bool
 black x = nat_lt x 128 && not (is_whitespace x)
 
-abbrev EndsBlack : List ℕ → Type 0
-EndsBlack u = (front : List ℕ) × (b : ℕ) × (black b ≡ true) × (u ≡ front ++ (b ∷ []))
-
-ends_more : (b : ℕ) (u : List ℕ) → EndsBlack u → EndsBlack (b ∷ u)
-ends_more b u e = (b ∷ e.0, e.1, e.2, ap (λ x. b ∷ x) e.3)
-
-ends_all : (b : ℕ) (u : List ℕ) → black b ≡ true → list_all black u ≡ true → EndsBlack (b ∷ u)
-ends_all b [] h a = ([], b, h, refl)
-ends_all b (c ∷ u) h a =
-    let p = and_parts (black c) (list_all black u) a in ends_more b (c ∷ u) (ends_all c u p.0 p.1)
-
 word_black : (x : ℕ) → is_word_byte x ≡ true → black x ≡ true
 word_black x h = grind (arith, nat_tests)
-
-digit_black : (x : ℕ) → is_ascii_digit x ≡ true → black x ≡ true
-digit_black x h = grind (arith, nat_tests)
 
 class_black : (b : ℕ) → 0 < class b → black b ≡ true
 class_black b h = go (nat_lt b 128) refl (is_whitespace b) refl
@@ -69,34 +55,6 @@ punctuators_black : list_all (list_all black) punctuators ≡ true
 unfolding punctuators
 punctuators_black = refl
 
-ends_quote : (v : List ℕ) (escaped : Bool) → rest_test escaped v ≡ true → EndsBlack v
-ends_quote [] true h = absurd cc
-ends_quote [] false h = absurd cc
-ends_quote (b ∷ v) true h =
-    ends_more b v (ends_quote v false (and_parts (not (b == line_feed)) (is_string_rest v) h).1)
-ends_quote (b ∷ v) false h = go (b == quote) refl (ends_quote v)
-  where
-    go : (x : Bool) → (b == quote) ≡ x → ((y : Bool) → rest_test y v ≡ true → EndsBlack v)
-        → EndsBlack (b ∷ v)
-    go true e ih =
-        let z = nil_from_length v ((Decides-eqb (length v) 0).0 (rw e at h)) in
-        ([], b, rw ((Decides-eqb b quote).0 e) refl, rw z refl)
-    go false e ih = ends_more b v (ih (b == backslash) (sym (rest_of b v e) ∙ h))
-
-token_ends : (b : ℕ) (v : List ℕ) → IsToken (b ∷ v) → EndsBlack (b ∷ v)
-token_ends b v t =
-    let k = token_of b v t in
-    let l = class_black b (token_class b v k) in
-    elim k [
-      | word _ a ↦ ends_all b v l (all_more is_word_byte black word_black v a)
-      | number _ a ↦ ends_all b v l (all_more is_ascii_digit black digit_black v a)
-      | string _ a ↦ ends_more b v (ends_quote v false a)
-      | slot _ a ↦ ends_all b v l (and_parts (black b) (list_all black v)
-          (one_of (list_all black) slots (b ∷ v) slots_black a)).1
-      | punctuator _ _ a ↦ ends_all b v l (and_parts (black b) (list_all black v)
-          (one_of (list_all black) punctuators (b ∷ v) punctuators_black a)).1
-    ]
-
 -- a text that ends in a non-blank
 pub record Black (k : List ℕ) : Type 0 where
   pub first : ℕ
@@ -107,7 +65,7 @@ pub record Black (k : List ℕ) : Type 0 where
 pub token_black : (k : List ℕ) → IsToken k → IsUtf8 k → Black k
 token_black [] t u = absurd (no_empty_token t)
 token_black (b ∷ v) t u =
-    let e = token_ends b v t in
+    let e = token_ends black refl word_black class_black slots_black punctuators_black b v t in
     let p = and_parts (nat_lt e.1 128) (not (is_whitespace e.1)) e.2 in
     let l : e.1 < 128 = (Decides-ltb e.1 128).0 p.0 in
     let at : get_or (b ∷ v) (length e.0) 0 ≡ e.1 =

@@ -9,10 +9,10 @@ use Rattle.std.proofs.lemmas.Bool.{and_parts, or_cases, both_ways, not-true}
 use Rattle.cedar_tokens.specs.Bytes.{line_feed, slash, space_character}
 use Rattle.cedar_tokens.specs.Units.{BeginsWith, IsUnit, blank, comment, token, IsBlank, IsComment, IsToken, IsFirstUnit, is_word_start, is_word_byte, is_comment_byte, is_string_rest, is_one_of, slots, punctuators}
 use Rattle.cedar_tokens.proofs.Prefixes.{same_head}
-use Rattle.cedar_tokens.proofs.Heads.{class, class-blank, word, number, string, slot, punctuator, token_of, one_of, no_empty_token}
+use Rattle.cedar_tokens.proofs.Heads.{class, class-blank, word, number, string, slot, punctuator, token_of, one_of, no_empty_token, token_class}
 use Rattle.cedar_tokens.proofs.Strings.{string_end, complete}
 use Rattle.cedar_tokens.proofs.Longest.{clash, slot_is}
-use Rattle.cedar_tokens.proofs.FirstUnit.{comment_parts, token_class, no_empty_blank}
+use Rattle.cedar_tokens.proofs.FirstUnit.{comment_parts, no_empty_blank}
 use Rattle.cedar_laws.specs.Neighbours.{glues}
 use Rattle.cedar_layout.specs.Cleaning.{last_byte_or}
 use Rattle.cedar_grammar.proofs.Texts.Tests.{word_starts}

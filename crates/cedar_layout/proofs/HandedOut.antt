@@ -22,26 +22,44 @@ none_before named ts i d inside below k e h =
     let n : k < i = omega (arith, length-take i ts) in
     rw (get_or-map shown (take i ts) k d e m, get_or-take i ts k d n) (below k n)
 
+abbrev tokens_before : List WrappedToken → ℕ → List Shown
+tokens_before ts i = map shown (take i ts)
+
+abbrev tokens_after : List WrappedToken → ℕ → List Shown
+tokens_after ts i = map shown (drop (suc i) ts)
+
+-- the first named token among the others, before and after a change
+at_named : (named : Shown → Bool) (ts : List WrappedToken) (i : ℕ) (d t : WrappedToken)
+    → position (λ t. named (shown t)) ts ≡ Some i
+    → (map shown ts ≡ tokens_before ts i ++ shown (get_or ts i d) ∷ tokens_after ts i)
+    × (named (shown (get_or ts i d)) ≡ true)
+    × All (λ t. IsFalse (named t)) (tokens_before ts i)
+    × (map shown (set ts i t) ≡ tokens_before ts i ++ shown t ∷ tokens_after ts i)
+at_named named ts i d t e =
+    let p = position-Some (λ t. named (shown t)) ts i d e in
+    let in_range : i < length ts = p.0 in (
+      ap (map shown) (split_at ts i d in_range)
+          ∙ map-append shown (take i ts) (get_or ts i d ∷ drop (suc i) ts),
+      p.1,
+      none_before named ts i d (omega arith) p.2,
+      ap (map shown) (set_split ts i t in_range)
+          ∙ map-append shown (take i ts) (t ∷ drop (suc i) ts),
+    )
+
 pub handed_at : (named : Shown → Bool) (ts : List WrappedToken) (i : ℕ) (d t : WrappedToken)
     (answer : Parts) → position (λ t. named (shown t)) ts ≡ Some i
     → shown t ≡ emptied (shown (get_or ts i d)) → answer ≡ (shown (get_or ts i d)).comment
     → HandedOut named (map shown ts) (map shown (set ts i t)) answer
-handed_at named ts i d t answer e changed given =
-    let p = position-Some (λ t. named (shown t)) ts i d e in
-    let in_range : i < length ts = p.0 in
-    record {
-      before = map shown (take i ts);
-      token = shown (get_or ts i d);
-      after = map shown (drop (suc i) ts);
-      was = ap (map shown) (split_at ts i d in_range)
-          ∙ map-append shown (take i ts) (get_or ts i d ∷ drop (suc i) ts);
-      is_named = p.1;
-      is_first = none_before named ts i d (omega arith) p.2;
-      now = ap (map shown) (set_split ts i t in_range)
-          ∙ (map-append shown (take i ts) (t ∷ drop (suc i) ts)
-          ∙ ap (λ s. map shown (take i ts) ++ s ∷ map shown (drop (suc i) ts)) changed);
-      answered = given;
-    }
+handed_at named ts i d t answer e changed given = let q = at_named named ts i d t e in record {
+  before = tokens_before ts i;
+  token = shown (get_or ts i d);
+  after = tokens_after ts i;
+  was = q.0;
+  is_named = q.1;
+  is_first = q.2;
+  now = q.3 ∙ ap (λ s. tokens_before ts i ++ s ∷ tokens_after ts i) changed;
+  answered = given;
+}
 
 pub none_named : (named : Shown → Bool) (ts : List WrappedToken)
     → position (λ t. named (shown t)) ts ≡ None → Unmatched named (map shown ts) (map shown ts)
@@ -64,22 +82,16 @@ pub led_at : (named : Shown → Bool) (ts : List WrappedToken) (i : ℕ) (d t : 
     (answer : List (List ℕ)) → position (λ t. named (shown t)) ts ≡ Some i
     → shown t ≡ unled (shown (get_or ts i d)) → answer ≡ (shown (get_or ts i d)).comment.leading
     → LeadingHandedOut named (map shown ts) (map shown (set ts i t)) answer
-led_at named ts i d t answer e changed given =
-    let p = position-Some (λ t. named (shown t)) ts i d e in
-    let in_range : i < length ts = p.0 in
-    record {
-      before = map shown (take i ts);
-      token = shown (get_or ts i d);
-      after = map shown (drop (suc i) ts);
-      was = ap (map shown) (split_at ts i d in_range)
-          ∙ map-append shown (take i ts) (get_or ts i d ∷ drop (suc i) ts);
-      is_named = p.1;
-      is_first = none_before named ts i d (omega arith) p.2;
-      now = ap (map shown) (set_split ts i t in_range)
-          ∙ (map-append shown (take i ts) (t ∷ drop (suc i) ts)
-          ∙ ap (λ s. map shown (take i ts) ++ s ∷ map shown (drop (suc i) ts)) changed);
-      answered = given;
-    }
+led_at named ts i d t answer e changed given = let q = at_named named ts i d t e in record {
+  before = tokens_before ts i;
+  token = shown (get_or ts i d);
+  after = tokens_after ts i;
+  was = q.0;
+  is_named = q.1;
+  is_first = q.2;
+  now = q.3 ∙ ap (λ s. tokens_before ts i ++ s ∷ tokens_after ts i) changed;
+  answered = given;
+}
 
 -- what a call that moves a token's comments out does, in one equation
 pub shows_unled : (s t : WrappedToken) → leading_lines s.comment ≡ []

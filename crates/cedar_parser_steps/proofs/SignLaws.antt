@@ -98,7 +98,7 @@ bangs_give ts zero rest h p = absurd (omega (arith, p))
 bangs_give ts (suc n) rest h p =
     let i : suc n ≤ 4 = h.0 in
     let b = h.2 in
-    let r = signs_read K.Neg (codes "!") refl refl (λ u. refl) 3 n ts rest.now
+    let r = signs_read K.Neg (codes "!") refl refl refl 3 n ts rest.now
     (omega (arith, i)) h.1 (λ q. b (omega (arith, q))) in (
       r.row,
       choice_yes _ _ skip ts (leads_first K.Neg (λ x. is K.Neg x || is K.Dash x) n ts rest.now h.1)
@@ -112,7 +112,7 @@ dashes_give ts zero rest h p = absurd (omega (arith, p))
 dashes_give ts (suc n) rest h p =
     let i : suc n ≤ 4 = h.0 in
     let b = h.2 in
-    let r = signs_read K.Dash (codes "-") refl refl (λ u. refl) 3 n ts rest.now
+    let r = signs_read K.Dash (codes "-") refl refl refl 3 n ts rest.now
     (omega (arith, i)) h.1 (λ q. b (omega (arith, q))) in (
       r.row,
       choice_yes _ _ skip ts (leads_first K.Dash (λ x. is K.Neg x || is K.Dash x) n ts rest.now h.1)

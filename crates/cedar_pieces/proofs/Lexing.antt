@@ -23,9 +23,10 @@ use Rattle.cedar_pieces.specs.Pieces.{is_semicolon, IsPiece}
 use Rattle.cedar_pieces.specs.Inside.Steps.{LexesToSemicolon, EndsLine}
 use Rattle.cedar_pieces.proofs.Prefixes.{units_of}
 use Rattle.cedar_pieces.proofs.Lists.{piece_splits, tokenless, semicolon_token}
-use Rattle.cedar_pieces.proofs.Refusals.{tokens_cut, no_tokens, piece_tokens}
+use Rattle.cedar_pieces.proofs.Refusals.{no_tokens, piece_tokens}
 use Rattle.cedar_pieces.proofs.Semicolons.{differs, piece_whole}
 use Rattle.cedar_laws.proofs.Accepting.{other_small}
+use Rattle.cedar_grammar.proofs.Hopeless.{tokens_cut}
 
 -- what isn't a token isn't a `;`
 pub no_semicolon : (u : List ℕ) → is_token u ≡ false → is_semicolon u ≡ false

@@ -1,6 +1,6 @@
 -- Refusals of a text and of its pieces:
 -- where the text splits and its numbers fit, they are the same.
-use Rattle.std.specs.Prelude.{◌≡◌, ℕ, ◌+◌, Bool, true, false, ◌||◌, ◌&&◌, not, IsTrue, List, [], ◌∷◌, ◌++◌, ◌↔◌, length, take, drop, codes, ◌==◌, if◌then◌else◌}
+use Rattle.std.specs.Prelude.{◌≡◌, ℕ, ◌+◌, Bool, true, false, ◌||◌, ◌&&◌, not, IsTrue, List, [], ◌∷◌, ◌++◌, length, take, drop, codes, ◌==◌, if◌then◌else◌}
 use Rattle.std.specs.List.{list_any, sum_by, concat}
 use Rattle.std.specs.Str.{bytes_eq}
 use Rattle.std.specs.Char.{is_ascii_digit}
@@ -23,7 +23,7 @@ use Rattle.cedar_grammar.specs.KindGrammar.{G}
 use Rattle.cedar_grammar.specs.Numbers.{is_too_large}
 use Rattle.cedar_tokens.specs.TokenKinds.{fixed_tokens, other_kind, kind_among, kind_of}
 use Rattle.cedar_grammar.specs.Texts.{greatest_depth, only_tokens, Accepted}
-use Rattle.cedar_grammar.specs.Reader.Hopeless.{BeginsByKinds, IsHopeless, IsRefused}
+use Rattle.cedar_grammar.specs.Reader.Hopeless.{BeginsByKinds, IsRefused}
 use Rattle.cedar_grammar.specs.Trees.{Label, Forest}
 use Rattle.cedar_grammar.proofs.Booleans.{and_first as and_left, and_second as and_right, neither_first as or_left, neither_second as or_right}
 use Rattle.std.proofs.lemmas.Bool.{not-true as not_true}
@@ -33,18 +33,11 @@ use Rattle.cedar_pieces.specs.Pieces.{IsPiece, HasNoPiece, is_semicolon}
 use Rattle.cedar_pieces.proofs.Prefixes.{units_of}
 use Rattle.cedar_pieces.proofs.Lists.{piece_units, semicolon_token}
 use Rattle.cedar_pieces.proofs.Sequences.{list_parts, lists_join, no_semicolon}
+use Rattle.cedar_grammar.proofs.Hopeless.{tokens_cut, Through, hopeless_at}
 
 -- Tokens of units.
 tokens_join : (us vs : List (List ℕ)) → only_tokens (us ++ vs) ≡ only_tokens us ++ only_tokens vs
 tokens_join us vs = filter-append is_token us vs
-
-tokens_one : (u : List ℕ) (us : List (List ℕ)) → is_token u ≡ true
-    → only_tokens (u ∷ us) ≡ u ∷ only_tokens us
-tokens_one u us h = rw h refl
-
-pub tokens_cut : (us : List (List ℕ)) (t : List ℕ) (vs : List (List ℕ)) → is_token t ≡ true
-    → only_tokens (us ++ (t ∷ vs)) ≡ only_tokens us ++ (t ∷ only_tokens vs)
-tokens_cut us t vs h = tokens_join us (t ∷ vs) ∙ ap (λ z. only_tokens us ++ z) (tokens_one t vs h)
 
 -- units that aren't tokens have none
 pub no_tokens : (us : List (List ℕ)) → list_any is_token us ≡ false → only_tokens us ≡ []
@@ -174,33 +167,6 @@ module _ (front : List (List ℕ)) where
         tree = q.0;
         grammar = subst (λ z. G kind_of d q.0 z) (sym (append_assoc whole ts b.rest)) q.1;
       }
-
--- the place of a hopeless token, where further units follow
-abbrev Through : List (List ℕ) → List ℕ → Bool → Type 0
-Through front token deep = BeginsByKinds kind_of greatest_depth front
-    × (¬ (BeginsByKinds kind_of greatest_depth (front ++ (token ∷ []))))
-    × (IsTrue deep ↔ ((e : ℕ) × BeginsByKinds kind_of e (front ++ (token ∷ []))))
-
-hopeless_at : (text : List ℕ) (before : List (List ℕ)) (token : List ℕ) (after : List (List ℕ))
-    (at : ℕ) (deep : Bool) → SplitsInto text (before ++ (token ∷ after))
-    → list_any is_too_large (before ++ (token ∷ after)) ≡ false
-    → at ≡ sum_by length before → is_token token ≡ true → Through (only_tokens before) token deep
-    → IsHopeless text at deep
-hopeless_at text before token after at deep s f p o t = record {
-  before = before;
-  token = token;
-  after = after;
-  split = s;
-  fitting = f;
-  place = p;
-  is_one = o;
-  hopeless = record {
-    split = tokens_cut before token after o;
-    before = t.0;
-    through = t.1;
-    kind_is = t.2;
-  };
-}
 
 -- where the whole text splits and its numbers fit,
 -- a refusal of its piece is one of the text, at the same place

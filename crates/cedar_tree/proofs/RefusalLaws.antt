@@ -20,6 +20,7 @@ use Rattle.cedar_grammar.specs.Reader.Lines.{set_to}
 use Rattle.cedar_grammar.proofs.Answers.{Says, says}
 use Rattle.cedar_grammar.proofs.Texts.Kinds.{samples}
 use Rattle.cedar_grammar.proofs.Texts.Cuts.{whole_begins, not_hopeless, one_place, Large, numbers_or, fit_part, first_large, unit_cut, one_cut}
+use Rattle.cedar_grammar.proofs.Hopeless.{hopeless_among}
 
 -- A text that splits is accepted or refused.
 judge : (d : ℕ) → d ≡ greatest_depth → TextIsJudged
@@ -29,24 +30,10 @@ judge d deep text units s = go (numbers_or units)
         → (front : List (List ℕ)) (t : List ℕ) (rest : List (List ℕ)) (b : Bool)
         → Hopeless kind_of d (only_tokens units) front t rest b → (at : ℕ) × LeavesGrammar text at b
     hopeless fit front t rest b h =
-        let c = unit_cut units front t rest h.split in (
-          sum_by length c.before,
-          leaves_grammar text (sum_by length c.before) b (inl (record {
-            before = c.before;
-            token = t;
-            after = c.after;
-            split = subst (λ z. SplitsInto text z) c.whole s;
-            fitting = sym (ap (list_any is_too_large) c.whole) ∙ fit;
-            place = refl;
-            is_one = c.is_one;
-            hopeless = subst (λ z. Hopeless kind_of greatest_depth (only_tokens z)
-                (only_tokens c.before) t (only_tokens c.after) b) c.whole
-                (subst (λ z. Hopeless kind_of z (only_tokens units) (only_tokens c.before) t
-                (only_tokens c.after) b) deep
-                (subst (λ z. Hopeless kind_of d (only_tokens units) (only_tokens c.before) t z b)
-                (sym c.rest_is) (subst (λ z. Hopeless kind_of d (only_tokens units) z t rest b)
-                (sym c.front_is) h)));
-          })),
+        let at = sum_by length (unit_cut units front t rest h.split).before in (
+          at,
+          leaves_grammar text at b
+              (inl (hopeless_among text units s fit d deep front t rest b h)),
         )
 
     answer : list_any is_too_large units ≡ false → (x : Answer (List ℕ))

@@ -8,6 +8,7 @@ use Rattle.cedar_grammar.proofs.Readers.Languages.{Sound}
 use Rattle.cedar_grammar.proofs.Readers.Places.{Local}
 use Rattle.cedar_grammar.proofs.Readers.Ends.{Completed, Completes, Inhabited, halt_whole}
 use Rattle.cedar_grammar.proofs.Readers.Depths.{Deeper, Beyond}
+use Rattle.std.proofs.lemmas.List.{append_cancel_right}
 
 -- of two cuts of a list, the one that leaves less takes at least one more token
 longer : {A : Type 0} → (x y : List A) (a : A) (r s : List A) → x ++ (a ∷ r) ≡ y ++ s
@@ -23,21 +24,6 @@ longer (b ∷ x) (c ∷ y) a r s h k =
     let w : b ≡ c = cc in
     let i = longer x y a r s z k in
     (i.0, ap (λ u. u ∷ y) (sym w) ∙ ap (λ u. b ∷ u) i.1)
-
-cancel : {A : Type 0} → (x y v : List A) → x ++ v ≡ y ++ v → x ≡ y
-cancel [] [] v e = refl
-cancel [] (a ∷ y) v e =
-    let z = ap length e in
-    let w = length-append y v in
-    absurd (omega (arith, z, w))
-cancel (a ∷ x) [] v e =
-    let z = ap length e in
-    let w = length-append x v in
-    absurd (omega (arith, z, w))
-cancel (a ∷ x) (b ∷ y) v e =
-    let h : a ≡ b = cc in
-    let k : x ++ v ≡ y ++ v = cc in
-    ap (λ z. z ∷ x) h ∙ ap (λ z. b ∷ z) (cancel x y v k)
 
 module _ {A : Type 0} (P : ℕ → Reader A) (X : ℕ → Lang A) where
   -- the tokens are a list of the language at depth d
@@ -79,7 +65,7 @@ module _ {A : Type 0} (P : ℕ → Reader A) (X : ℕ → Lang A) where
         → P d (front ++ (a ∷ r)) ≡ stuck b (a ∷ r) → Starts d (front ++ (a ∷ [])) → ⊥
     no_list_fails d front a r b e (rest, (f, x, y)) =
         let k = (laws.local d).failure (front ++ (a ∷ r)) b (a ∷ r) e in
-        let same : k.front ≡ front = cancel k.front front (a ∷ r) (sym k.tokens) in
+        let same : k.front ≡ front = append_cancel_right k.front front (a ∷ r) (sym k.tokens) in
         let p = k.again (a ∷ rest)
         (record { first = a; left = r; right = rest; on_left = refl; on_right = refl }) in
         let q = laws.complete d f x in

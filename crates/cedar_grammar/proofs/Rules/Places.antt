@@ -1,6 +1,6 @@
 -- Where a rule's reader stops depends on the tokens through that place alone.
-use Rattle.std.specs.Prelude.{◌≡◌, ℕ, zero, suc, ◌<◌, ◌≤◌, ◌+◌, Bool, true, false, IsTrue, List, [], ◌∷◌, ◌++◌, length}
-use Rattle.std.proofs.Common.{refl, sym, ap, ◌∙◌, arith, length-append}
+use Rattle.std.specs.Prelude.{◌≡◌, ℕ, zero, suc, ◌<◌, ◌≤◌, ◌+◌, Bool, true, false, IsTrue, List, [], ◌++◌, length}
+use Rattle.std.proofs.Common.{refl, sym, ap, ◌∙◌, arith}
 use Rattle.std.proofs.lemmas.Bool.{not-true}
 use Rattle.cedar_tokens.specs.declared.kind.Kind.{Kind}
 use Rattle.cedar_tokens.specs.Kinds.{is, begins}
@@ -16,6 +16,7 @@ use Rattle.cedar_grammar.proofs.Readers.Languages.{Sound}
 use Rattle.cedar_grammar.proofs.Readers.Places.{Alike, Success, Failure, Local, both_local, tree_local, choice_local, skip_local, nest_local, repeat_local, begins_looks, token_local}
 use Rattle.cedar_grammar.proofs.Rules.Languages.{Begun, shaped_done, shaped_fails, keeps_of, takes_of, read_sound, means_begun}
 use Rattle.cedar_grammar.proofs.Booleans.{and_first, and_second}
+use Rattle.std.proofs.lemmas.List.{append_cancel_right}
 
 module _ {A : Type 0} where
   pub refuse_local : Local (refuse {A = A})
@@ -145,27 +146,13 @@ module _ {A : Type 0} (kind : A → Kind) where
                   ∙ e) w h;
             }
           where
-            cancel : (x y v : List A) → x ++ v ≡ y ++ v → x ≡ y
-            cancel [] [] v e = refl
-            cancel [] (a ∷ y) v e =
-                let z = ap length e in
-                let w = length-append y v in
-                absurd (omega (arith, z, w))
-            cancel (a ∷ x) [] v e =
-                let z = ap length e in
-                let w = length-append x v in
-                absurd (omega (arith, z, w))
-            cancel (a ∷ x) (b ∷ y) v e =
-                let h : a ≡ b = cc in
-                let k : x ++ v ≡ y ++ v = cc in
-                ap (λ z. z ∷ x) h ∙ ap (λ z. b ∷ z) (cancel x y v k)
-
             tail_again : (ts : List A) (b : Bool) (v front : List A) → ts ≡ front ++ v → (n : ℕ)
                 → tail_to kind s u P Q R n ts ≡ stuck b v → (w : List A) → Alike v w
                 → tail_to kind s u P Q R n (front ++ w) ≡ stuck b w
             tail_again ts b v front t n e w h =
                 let x = (tail_to_local p q r n).failure ts b v e in
-                let same : x.front ≡ front = cancel x.front front v (sym x.tokens ∙ t) in
+                let same : x.front ≡ front = append_cancel_right x.front front v (sym x.tokens
+                ∙ t) in
                 ap (λ z. tail_to kind s u P Q R n (z ++ w)) (sym same) ∙ x.again w h
 
   pub nested_local : (room : Bool) (k : Kind) (P : Reader A) → Local P
