@@ -9,7 +9,6 @@ use Rattle.cedar_positions.specs.declared.positions.Position.{Position}
 use Rattle.cedar_positions.specs.Positions.{BeginsLine, IsOffsetOf, IsPlaceOnLine, IsPositionAt, IsPositionOf, ends_line, lines_before, unit_count, units}
 use Rattle.cedar_positions.specs.Laws.{IsInLineEnd}
 use Rattle.cedar_positions.proofs.Lines.{BeginsLine-unique, lines_before-end, lines_before-le, units-le, units-next}
-use Rattle.cedar_tokens.specs.Bytes.{carriage_return, line_feed}
 
 -- a line has one such place
 IsPlaceOnLine-unique : (e : Encoding) (text : List ℕ) (s character a b : ℕ)
@@ -59,7 +58,7 @@ units-lt e text s i j from below within boundary =
 
 -- no line ends before its place, unless the place is inside a line's end
 no_feed : (text : List ℕ) (s at k : ℕ) → lines_before text s ≡ lines_before text at → s ≤ k → k < at
-    → get_or text k 0 ≢ line_feed
+    → get_or text k 0 ≢ 10
 no_feed text s at k same from below feed =
     let ends : ends_line text k ≡ true = grind arith in
     omega (
@@ -70,12 +69,10 @@ no_feed text s at k same from below feed =
     )
 
 no_return : (text : List ℕ) (s at k : ℕ) → ¬ (IsInLineEnd text at)
-    → lines_before text s ≡ lines_before text at → s ≤ k → k < at → get_or text k 0
-    ≢ carriage_return
+    → lines_before text s ≡ lines_before text at → s ≤ k → k < at → get_or text k 0 ≢ 13
 no_return text s at k out same from below return = elim (cases_lt (k + 1) at) [
   | inl inside ↦
-      let next : get_or text (k + 1) 0
-      ≢ line_feed = no_feed text s at (k + 1) same (omega arith) inside in
+      let next : get_or text (k + 1) 0 ≢ 10 = no_feed text s at (k + 1) same (omega arith) inside in
       let ends : ends_line text k ≡ true = grind arith in
       omega (
         arith,
@@ -86,10 +83,10 @@ no_return text s at k out same from below return = elim (cases_lt (k + 1) at) [
   | inr last ↦
       let end : k + 1 ≡ at = omega arith in
       let place : k ≡ at - 1 = omega arith in
-      let next : get_or text (k + 1) 0 ≢ line_feed = λ feed. out (
+      let next : get_or text (k + 1) 0 ≢ 10 = λ feed. out (
         omega arith,
-        subst (λ n. get_or text n 0 ≡ carriage_return) place return,
-        subst (λ n. get_or text n 0 ≡ line_feed) end feed,
+        subst (λ n. get_or text n 0 ≡ 13) place return,
+        subst (λ n. get_or text n 0 ≡ 10) end feed,
       ) in
       let ends : ends_line text k ≡ true = grind arith in
       omega (

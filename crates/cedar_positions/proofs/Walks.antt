@@ -5,13 +5,12 @@ use Rattle.std.specs.Str.{IsCharBoundary}
 use Rattle.std.proofs.lemmas.Bool.{cases_lt}
 use Rattle.cedar_positions.specs.declared.positions.Encoding.{Encoding}
 use Rattle.cedar_positions.specs.Positions.{IsOnLine, units}
-use Rattle.cedar_tokens.specs.Bytes.{carriage_return, line_feed}
 
 -- the line continues to i, and this is the last place before i
 pub record Walked (e : Encoding) (text : List ℕ) (s character i last : ℕ) : Type 0 where
   pub from : s ≤ i
-  pub no_feed : (k : ℕ) → s ≤ k → k < i → get_or text k 0 ≢ line_feed
-  pub no_return : (k : ℕ) → s ≤ k → k < i → get_or text k 0 ≢ carriage_return
+  pub no_feed : (k : ℕ) → s ≤ k → k < i → get_or text k 0 ≢ 10
+  pub no_return : (k : ℕ) → s ≤ k → k < i → get_or text k 0 ≢ 13
   pub on : IsOnLine text s last
   pub before : last ≤ i
   pub reached : units e (slice_range text s last) ≤ character
@@ -63,19 +62,17 @@ Walked-kept e text s character i last w above = record {
 -- where the line continues
 pub Walked-next : (e : Encoding) (text : List ℕ) (s character i last next : ℕ)
     → Walked e text s character i last → IsPlaceUpTo e text s character i next
-    → get_or text i 0 ≢ line_feed → get_or text i 0 ≢ carriage_return
-    → Walked e text s character (i + 1) next
+    → get_or text i 0 ≢ 10 → get_or text i 0 ≢ 13 → Walked e text s character (i + 1) next
 Walked-next e text s character i last next w p feed return = record {
   from = omega (arith, w.from);
   no_feed = λ k above upto. elim (cases_lt k i) [
     | inl below ↦ w.no_feed k above below
-    | inr rest ↦ let same : k ≡ i = omega arith in subst (λ n. get_or text n 0 ≢ line_feed)
-        (sym same) feed
+    | inr rest ↦ let same : k ≡ i = omega arith in subst (λ n. get_or text n 0 ≢ 10) (sym same) feed
   ];
   no_return = λ k above upto. elim (cases_lt k i) [
     | inl below ↦ w.no_return k above below
     | inr rest ↦ let same : k ≡ i = omega arith in
-        subst (λ n. get_or text n 0 ≢ carriage_return) (sym same) return
+        subst (λ n. get_or text n 0 ≢ 13) (sym same) return
   ];
   on = p.on;
   before = omega (arith, p.before);
