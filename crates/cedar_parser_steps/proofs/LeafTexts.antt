@@ -1,5 +1,5 @@
 -- The tree of nodes for a row that begins with a token or a node, and the span of the row.
-use Rattle.std.specs.Prelude.{◌≡◌, ℕ, ◌&&◌, Bool, true, false, List, [], ◌∷◌, ◌++◌, Option, Some, None, if◌then◌else◌}
+use Rattle.std.specs.Prelude.{◌≡◌, ℕ, ◌&&◌, ◌||◌, Bool, true, false, List, [], ◌∷◌, ◌++◌, Option, Some, None, if◌then◌else◌}
 use Rattle.std.proofs.Common.{refl, sym, ap, ◌∙◌, append-nil}
 use Rattle.std.proofs.lemmas.Bool.{or_parts}
 use Rattle.cedar_tokens.specs.Units.{is_number}
@@ -36,7 +36,9 @@ pub value_is_fixed : (t : Lexeme) (k : Kind) → IsRight t → t.kind ≡ k → 
     → token_value t.text.now ≡ fixed_text k
 value_is_fixed t k r e h =
     let same : kind_of t.text.now ≡ k = sym r.0 ∙ e in
-    own_text t k r e (or_parts _ _ (or_parts _ _ h).1).0
+    let no_number = (or_parts (is K.Identifier k) (is K.Number k)
+    (or_parts (is K.Identifier k || is K.Number k) (is K.Str k) h).0).1 in
+    own_text t k r e no_number
     ∙ (text_is_fixed t.text.now (ap is_open same ∙ h) ∙ ap fixed_text same)
 
 -- Rows without their trailing commas.
