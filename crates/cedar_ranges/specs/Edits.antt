@@ -30,23 +30,19 @@ edited text span bytes = before text span ++ (bytes ++ after text span)
 -- the line feeds that make an empty line after a text: none at its start, one at the start of a line, and otherwise two
 abbrev pub feeds_after : List ℕ → List ℕ
 feeds_after [] = []
-feeds_after (b ∷ bs) = if last_byte_or b bs == line_feed then line_feed ∷ [] else line_feed ∷
-    (line_feed ∷ [])
+feeds_after (b ∷ bs) = if last_byte_or b bs == line_feed then line_feed ∷ [] else line_feed ∷ (line_feed ∷ [])
 
 -- the bytes are part of the output of the text
 abbrev pub StandsInOutput : ℕ → ℤ → List ℕ → List ℕ → Type 0
-StandsInOutput width indent text bytes = (whole : List ℕ) → IsOutputOf width indent text whole
-    → (front back : List ℕ) × (whole ≡ front ++ (bytes ++ back))
+StandsInOutput width indent text bytes = (whole : List ℕ) → IsOutputOf width indent text whole → (front back : List ℕ) × (whole ≡ front ++ (bytes ++ back))
 
 -- the bytes are the output of the text in the span, as it appears in that of the text, after an empty line
-pub record LaysOut (width : ℕ) (indent : ℤ) (text : List ℕ) (span : Span) (bytes : List ℕ) : Type 0
-  where
-    pub out : List ℕ
-    pub output : IsOutputOf width indent (within text span) out
-    pub stands : StandsInOutput width indent text out
-    pub after_feeds : bytes ≡ feeds_after (before text span) ++ out
+pub record LaysOut (width : ℕ) (indent : ℤ) (text : List ℕ) (span : Span) (bytes : List ℕ) : Type 0 where
+  pub out : List ℕ
+  pub output : IsOutputOf width indent (within text span) out
+  pub stands : StandsInOutput width indent text out
+  pub after_feeds : bytes ≡ feeds_after (before text span) ++ out
 
 -- the policies in the span, if any, are laid out; otherwise the result is empty
 abbrev pub LaysOutPolicies : ℕ → ℤ → List ℕ → Span → List ℕ → Type 0
-LaysOutPolicies width indent text span bytes = ((span.start ≡ span.end) × (bytes ≡ [])) ⊎
-    ((span.start < span.end) × LaysOut width indent text span bytes)
+LaysOutPolicies width indent text span bytes = ((span.start ≡ span.end) × (bytes ≡ [])) ⊎ ((span.start < span.end) × LaysOut width indent text span bytes)
