@@ -15,8 +15,7 @@ last_byte_or c (d ∷ ds) = last_byte_or d ds
 -- the lines of a piece, each up to and including its `\n`; what follows the last `\n` is the last line
 abbrev pub piece_lines : List ℕ → List (List ℕ)
 piece_lines [] = [] ∷ []
-piece_lines (b ∷ bs) = if b == line_feed then (line_feed ∷ []) ∷ piece_lines bs else with_first b
-    (piece_lines bs)
+piece_lines (b ∷ bs) = if b == line_feed then (line_feed ∷ []) ∷ piece_lines bs else with_first b (piece_lines bs)
 
 -- it ends in a line feed and is otherwise only blanks
 abbrev pub is_blank_line : List ℕ → Bool
@@ -48,8 +47,7 @@ NoneBegins (b ∷ m) r = BeginsNone IsKept (b ∷ (m ++ r)) × NoneBegins m r
 -- y is x without the blank lines of its pieces: x is cut at its strings and comments, which stay
 pub data Cut : List ℕ → List ℕ → Type 0 where
   last_piece : (m : List ℕ) → NoneBegins m [] → Cut m (clean_piece m)
-  more_pieces : (m s r y : List ℕ) → NoneBegins m (s ++ r) → IsLongest IsKept (s ++ r) s → Cut r y
-      → Cut (m ++ (s ++ r)) (clean_piece m ++ (s ++ y))
+  more_pieces : (m s r y : List ℕ) → NoneBegins m (s ++ r) → IsLongest IsKept (s ++ r) s → Cut r y → Cut (m ++ (s ++ r)) (clean_piece m ++ (s ++ y))
 
 -- y is the cleaned text of x
 pub record IsCleaned (x y : List ℕ) : Type 0 where
@@ -69,5 +67,4 @@ pub record StandsFirst (K : List ℕ → Type 0) (text : List ℕ) (from : ℕ) 
 
 -- the place of the leftmost text of the kind K at or after a place; `None` if there is none
 abbrev pub FindsFirst : (List ℕ → Type 0) → List ℕ → ℕ → Option Span → Type 0
-FindsFirst K text from result = MatchOption result ((k : ℕ) → from ≤ k → BeginsNone K (drop k text))
-    (StandsFirst K text from)
+FindsFirst K text from result = MatchOption result ((k : ℕ) → from ≤ k → BeginsNone K (drop k text)) (StandsFirst K text from)

@@ -15,8 +15,7 @@ HaveNoFeed units = list_any (λ u. list_any (λ b. b == line_feed) u) units ≡ 
 
 -- the last unit is the only line feed
 abbrev pub EndInFeed : List (List ℕ) → Type 0
-EndInFeed units = (front : List (List ℕ)) × (units ≡ front ++ ((line_feed ∷ []) ∷ []))
-    × HaveNoFeed front
+EndInFeed units = (front : List (List ℕ)) × (units ≡ front ++ ((line_feed ∷ []) ∷ [])) × HaveNoFeed front
 
 -- a token begins here, or no unit: the text ends here, or has its fault here
 abbrev pub BeginsNoBlank : List ℕ → Type 0

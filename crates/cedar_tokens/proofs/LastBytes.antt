@@ -1,4 +1,5 @@
--- The last byte of a token passes each test that its first byte and the bytes of words and strings' ends pass.
+-- The last byte of a token passes each test that its first byte, the bytes of words
+-- and the quote pass.
 use Rattle.std.proofs.Common.{◌≡◌, ℕ, ◌<◌, Bool, true, false, not, ◌==◌, List, [], ◌∷◌, ◌++◌, length, refl, ap, arith, sym, ◌∙◌}
 use Rattle.std.specs.List.{list_all}
 use Rattle.std.specs.Char.{is_ascii_digit}
