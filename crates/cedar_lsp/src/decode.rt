@@ -1,232 +1,413 @@
-//! Messages of the client, from JSON.
-use cedar_server::{
-    Change, ClientMessage, ClientOptions, Id, Indentation, Notification, Position, Range, Request,
+//! Messages of the client, from JSON. Every body is a message of the server: one that can't be read is `Unread`.
+use crate::params::{
+    Changing, ContentChange, Message, OfDocument, Opening, Place, Selecting, Span, Typing, Whole,
 };
+use cedar_server::{
+    Change, ClientMessage, ClientOptions, Encoding, Fault, Id, Notification, Position, Range,
+    Request, Unread, Wishes,
+};
+use serde::{Deserialize, Deserializer, Format};
 use serde_json::Value;
 use std::alloc::{AllocError, Global};
+use std::num::saturating_f64_to_i64;
 
-/// A message as it was read.
-#[derive(Drop)]
-pub enum Decoded {
-    Message(ClientMessage),
-    /// Not a message of the protocol. The answer names the request, if it is known.
-    Refused { id: Option<Id>, fault: Fault },
-    /// A response from the client, or a notification that can't be read.
-    Nothing,
+// What tells the kind of a message.
+#[derive(Drop, Deserialize)]
+struct Head {
+    jsonrpc: Option<Value>,
+    #[serde(default)]
+    id: Name,
+    method: Option<Value>,
+    #[serde(default)]
+    result: Member,
+    #[serde(default)]
+    error: Member,
 }
 
-/// Why a message is rejected.
+// The id of a message.
+#[derive(Drop)]
+enum Name {
+    // A notification has none.
+    Absent,
+    Null,
+    Id(Id),
+    // It is no whole number and no text.
+    Other,
+}
+
+impl Default for Name {
+    fn default() -> Name {
+        Name::Absent
+    }
+}
+
+impl<'de> Deserialize<'de> for Name {
+    fn deserialize<F: Format>(
+        alloc: Global,
+        from: &mut Deserializer<'de, '_, F>,
+    ) -> Result<Name, F::Error> {
+        let value = Value::deserialize(alloc, from)?;
+        Ok(match value {
+            Value::Null => Name::Null,
+            Value::String(text) => Name::Id(Id::Text(text)),
+            value => match integer(&value) {
+                Some(number) => Name::Id(Id::Number(number)),
+                None => Name::Other,
+            },
+        })
+    }
+}
+
+// A member whose value isn't needed.
 #[derive(Clone, Copy, PartialEq, Eq)]
-pub enum Fault {
-    /// It isn't JSON, or has no length.
-    Parse,
-    /// It is neither a request nor a notification.
-    NoRequest,
-    /// Out of memory while making the answer.
-    OutOfMemory,
+enum Member {
+    Absent,
+    Present,
+}
+
+impl Default for Member {
+    fn default() -> Member {
+        Member::Absent
+    }
+}
+
+impl<'de> Deserialize<'de> for Member {
+    fn deserialize<F: Format>(
+        _alloc: Global,
+        from: &mut Deserializer<'de, '_, F>,
+    ) -> Result<Member, F::Error> {
+        from.skip()?;
+        Ok(Member::Present)
+    }
 }
 
 /// The message in a body.
-pub fn decode(alloc: Global, body: &[u8]) -> Result<Decoded, AllocError> {
-    match Value::from_slice(alloc, body) {
-        Ok(value) => message_of(alloc, &value),
+pub fn decode(alloc: Global, body: &[u8]) -> Result<ClientMessage, AllocError> {
+    if let Ok(text) = str::from_utf8(body) {
+        if let Some(head) = read::<Head>(alloc, text)? {
+            return message_of(alloc, head, text);
+        }
+    }
+    // (a text like it says which document the message is about)
+    let lossy = String::from_utf8_lossy(alloc, body)?;
+    let text = without_surrogates(alloc, lossy.as_str())?;
+    match read::<Head>(alloc, text.as_str())? {
+        Some(head) => unread_of(alloc, head, text.as_str()),
+        None => {
+            let fault = Some(fault_of(alloc, text.as_str())?);
+            Ok(ClientMessage::Unread(Unread::AnyText { fault }))
+        }
+    }
+}
+
+// A value, if the text is one of its type.
+fn read<'de, T: Deserialize<'de>>(alloc: Global, text: &'de str) -> Result<Option<T>, AllocError> {
+    match serde_json::from_str::<T>(alloc, text) {
+        Ok(value) => Ok(Some(value)),
         Err(error) if error.is_memory() => Err(AllocError),
-        Err(_) => Ok(Decoded::Refused {
-            id: None,
-            fault: Fault::Parse,
-        }),
+        Err(_) => Ok(None),
     }
 }
 
-// The message that a value represents.
-fn message_of(alloc: Global, value: &Value) -> Result<Decoded, AllocError> {
-    if value.get("jsonrpc").and_then(Value::as_str) != Some("2.0") {
-        return Ok(Decoded::Refused {
-            id: None,
-            fault: Fault::NoRequest,
-        });
+// Why a text is no message.
+fn fault_of(alloc: Global, text: &str) -> Result<Fault, AllocError> {
+    match Value::from_str(alloc, text) {
+        Ok(_) => Ok(Fault::NoMessage),
+        Err(error) if error.is_memory() => Err(AllocError),
+        Err(_) => Ok(Fault::Parse),
     }
-    let method = value.get("method").and_then(Value::as_str);
-    let id = match value.get("id") {
-        Some(id) => id_of(alloc, id)?,
-        None => None,
+}
+
+// The message with this head.
+fn message_of(alloc: Global, head: Head, text: &str) -> Result<ClientMessage, AllocError> {
+    let is_plain = head.jsonrpc.as_ref().and_then(Value::as_str) == Some("2.0");
+    if !is_plain || head.method.as_ref().and_then(Value::as_str).is_none() {
+        return unread_of(alloc, head, text);
+    }
+    let Head { id, method, .. } = head;
+    let method = method.as_ref().and_then(Value::as_str).unwrap_or("");
+    match id {
+        Name::Id(id) if !is_about_text(method) => Ok(ClientMessage::Request {
+            id,
+            request: request_of(alloc, method, text)?,
+        }),
+        Name::Null | Name::Other if !is_about_text(method) => {
+            Ok(ClientMessage::Unread(Unread::NoText { id: None }))
+        }
+        Name::Absent | Name::Null => match notification_of(alloc, method, text)? {
+            Some(notification) => Ok(ClientMessage::Notification(notification)),
+            None => about(alloc, text),
+        },
+        Name::Id(_) | Name::Other => about(alloc, text),
+    }
+}
+
+// What a message with this head is that can't be read.
+fn unread_of(alloc: Global, head: Head, text: &str) -> Result<ClientMessage, AllocError> {
+    let is_response = head.result == Member::Present || head.error == Member::Present;
+    let Head { id, method, .. } = head;
+    let method = method.as_ref().and_then(Value::as_str);
+    if method.is_some_and(is_about_text) {
+        return about(alloc, text);
+    }
+    Ok(match id {
+        Name::Id(_) | Name::Null if is_response => ClientMessage::Response,
+        Name::Id(id) => ClientMessage::Unread(Unread::NoText { id: Some(id) }),
+        _ if method.is_some() => ClientMessage::Unread(Unread::NoText { id: None }),
+        _ => ClientMessage::Unread(Unread::AnyText {
+            fault: Some(Fault::NoMessage),
+        }),
+    })
+}
+
+// A notification that can't be read, about the document that it names. A name with a replaced character may be another's.
+fn about(alloc: Global, text: &str) -> Result<ClientMessage, AllocError> {
+    let unread = match read::<Message<OfDocument>>(alloc, text)? {
+        Some(Message { params }) if !params.text_document.uri.contains('\u{fffd}') => {
+            Unread::TextOf {
+                uri: params.text_document.uri,
+            }
+        }
+        _ => Unread::AnyText { fault: None },
     };
-    let is_request = value.get("id").is_some();
-    let params = value.get("params").unwrap_or(&Value::Null);
-    match (method, id) {
-        (Some(method), Some(id)) => Ok(Decoded::Message(ClientMessage::Request {
-            id,
-            request: request_of(alloc, method, params)?,
-        })),
-        (Some(method), None) if !is_request => notification_of(alloc, method, params),
-        (None, _) if is_request && is_response(value) => Ok(Decoded::Nothing),
-        (_, id) => Ok(Decoded::Refused {
-            id,
-            fault: Fault::NoRequest,
-        }),
-    }
+    Ok(ClientMessage::Unread(unread))
 }
 
-// Whether a value without a method answers a request.
-fn is_response(value: &Value) -> bool {
-    value.get("result").is_some() || value.get("error").is_some()
+// Whether a notification with this method says what the text of a document is.
+fn is_about_text(method: &str) -> bool {
+    matches!(
+        method,
+        "textDocument/didOpen" | "textDocument/didChange" | "textDocument/didClose"
+    )
 }
 
-// The id of a request: a whole number or a text.
-fn id_of(alloc: Global, value: &Value) -> Result<Option<Id>, AllocError> {
+// A whole number. Some clients write it as a float.
+fn integer(value: &Value) -> Option<i64> {
     if let Some(number) = value.as_i64() {
-        return Ok(Some(Id::Number(number)));
+        return Some(number);
     }
-    Ok(text_of(alloc, Some(value))?.map(Id::Text))
+    whole_of(value.as_f64()?)
 }
 
-// A copy of a text.
-fn text_of(alloc: Global, value: Option<&Value>) -> Result<Option<String>, AllocError> {
-    match value.and_then(Value::as_str) {
-        Some(text) => Ok(Some(String::from_str(alloc, text)?)),
-        None => Ok(None),
-    }
+// The largest number below which a float has every whole number.
+const EXACT: f64 = 9007199254740992.0;
+
+// The whole number that a float is.
+fn whole_of(float: f64) -> Option<i64> {
+    let is_whole = float.trunc() == float && float.abs() <= EXACT;
+    is_whole.then_some(saturating_f64_to_i64(float))
 }
 
 // The request with this method.
-fn request_of(alloc: Global, method: &str, params: &Value) -> Result<Request, AllocError> {
+fn request_of(alloc: Global, method: &str, text: &str) -> Result<Request, AllocError> {
     match method {
-        "initialize" => Ok(initialize(params)),
+        "initialize" => initialize(alloc, text),
         "shutdown" => Ok(Request::Shutdown),
-        "textDocument/formatting" => formatting(alloc, params),
-        "textDocument/rangeFormatting" => range_formatting(alloc, params),
+        "textDocument/formatting" | "textDocument/willSaveWaitUntil" => formatting(alloc, text),
+        "textDocument/rangeFormatting" => range_formatting(alloc, text),
+        "textDocument/onTypeFormatting" => on_type_formatting(alloc, text),
         _ => Ok(Request::Other),
     }
 }
 
 // What the client says about itself. Other options are ignored.
-fn initialize(params: &Value) -> Request {
-    let mut counts_utf8 = false;
-    if let Some(encodings) = params
+fn initialize(alloc: Global, text: &str) -> Result<Request, AllocError> {
+    let params = match read::<Message<Value>>(alloc, text)? {
+        Some(message) => message.params,
+        None => Value::Null,
+    };
+    let mut encodings = Vec::new(alloc);
+    if let Some(names) = params
         .pointer("/capabilities/general/positionEncodings")
         .and_then(Value::as_array)
     {
-        for encoding in encodings {
-            if encoding.as_str() == Some("utf-8") {
-                counts_utf8 = true;
+        for name in names {
+            if let Some(encoding) = encoding_of(name) {
+                encodings.push(encoding)?;
             }
         }
     }
-    Request::Initialize(ClientOptions {
-        counts_utf8,
-        line_width: number_at(params, "/initializationOptions/lineWidth"),
-    })
+    Ok(Request::Initialize(ClientOptions {
+        encodings,
+        formats_on_save: params
+            .pointer("/initializationOptions/formatOnSave")
+            .and_then(Value::as_bool)
+            == Some(true),
+        wishes: Wishes {
+            line_width: count_at(&params, "/initializationOptions/lineWidth"),
+            indent_width: count_at(&params, "/initializationOptions/indentWidth")
+                .and_then(|columns| u16::try_from(columns).ok()),
+        },
+    }))
+}
+
+// The unit with this name, if the server knows it.
+fn encoding_of(name: &Value) -> Option<Encoding> {
+    match name.as_str()? {
+        "utf-8" => Some(Encoding::Utf8),
+        "utf-16" => Some(Encoding::Utf16),
+        _ => None,
+    }
 }
 
 // A whole number that isn't negative.
-fn number_at(value: &Value, path: &str) -> Option<usize> {
-    let number = value.pointer(path)?.as_u64()?;
+fn count_at(value: &Value, path: &str) -> Option<usize> {
+    let number = integer(value.pointer(path)?)?;
     usize::try_from(number).ok()
 }
 
-fn formatting(alloc: Global, params: &Value) -> Result<Request, AllocError> {
-    let uri = text_of(alloc, params.pointer("/textDocument/uri"))?;
-    Ok(match (uri, indentation(params)) {
-        (Some(uri), Some(indentation)) => Request::Formatting { uri, indentation },
-        _ => Request::Malformed,
-    })
-}
-
-fn range_formatting(alloc: Global, params: &Value) -> Result<Request, AllocError> {
-    let uri = text_of(alloc, params.pointer("/textDocument/uri"))?;
-    let range = params.get("range").and_then(range_of);
-    Ok(match (uri, range, indentation(params)) {
-        (Some(uri), Some(range), Some(indentation)) => Request::RangeFormatting {
-            uri,
-            range,
-            indentation,
+fn formatting(alloc: Global, text: &str) -> Result<Request, AllocError> {
+    Ok(match read::<Message<OfDocument>>(alloc, text)? {
+        Some(Message { params }) => Request::Formatting {
+            uri: params.text_document.uri,
         },
-        _ => Request::Malformed,
+        None => Request::Malformed,
     })
 }
 
-// How the client indents. A tab has at most 65535 columns, so that a short message can't ask for a huge layout.
-fn indentation(params: &Value) -> Option<Indentation> {
-    let tab_size = number_at(params, "/options/tabSize")?;
-    Some(Indentation {
-        tab_size: u16::try_from(tab_size).ok()?,
-        inserts_spaces: params.pointer("/options/insertSpaces")?.as_bool()?,
-    })
-}
-
-fn range_of(value: &Value) -> Option<Range> {
-    Some(Range {
-        start: position_of(value.get("start")?)?,
-        end: position_of(value.get("end")?)?,
-    })
-}
-
-fn position_of(value: &Value) -> Option<Position> {
-    Some(Position {
-        line: number_at(value, "/line")?,
-        character: number_at(value, "/character")?,
-    })
-}
-
-// The notification with this method; nothing for one that can't be read.
-fn notification_of(alloc: Global, method: &str, params: &Value) -> Result<Decoded, AllocError> {
-    let notification = match method {
-        "exit" => Some(Notification::Exit),
-        "textDocument/didOpen" => did_open(alloc, params)?,
-        "textDocument/didChange" => did_change(alloc, params)?,
-        "textDocument/didClose" => did_close(alloc, params)?,
-        _ => Some(Notification::Other),
+fn range_formatting(alloc: Global, text: &str) -> Result<Request, AllocError> {
+    let Some(Message { params }) = read::<Message<Selecting>>(alloc, text)? else {
+        return Ok(Request::Malformed);
     };
-    Ok(match notification {
-        Some(notification) => Decoded::Message(ClientMessage::Notification(notification)),
-        None => Decoded::Nothing,
+    Ok(match range_of(&params.range) {
+        Some(range) => Request::RangeFormatting {
+            uri: params.text_document.uri,
+            range,
+        },
+        None => Request::Malformed,
     })
 }
 
-fn did_open(alloc: Global, params: &Value) -> Result<Option<Notification>, AllocError> {
-    let uri = text_of(alloc, params.pointer("/textDocument/uri"))?;
-    let text = text_of(alloc, params.pointer("/textDocument/text"))?;
-    Ok(match (uri, text) {
-        (Some(uri), Some(text)) => Some(Notification::DidOpen { uri, text }),
-        _ => None,
+// The layout of the policy that a `;` just ended: of the range of that character.
+fn on_type_formatting(alloc: Global, text: &str) -> Result<Request, AllocError> {
+    let Some(Message { params }) = read::<Message<Typing>>(alloc, text)? else {
+        return Ok(Request::Malformed);
+    };
+    Ok(match position_of(&params.position) {
+        Some(end) => Request::RangeFormatting {
+            uri: params.text_document.uri,
+            range: Range {
+                start: Position {
+                    line: end.line,
+                    character: end.character.saturating_sub(1),
+                },
+                end,
+            },
+        },
+        None => Request::Malformed,
     })
 }
 
-fn did_change(alloc: Global, params: &Value) -> Result<Option<Notification>, AllocError> {
-    let uri = text_of(alloc, params.pointer("/textDocument/uri"))?;
-    let changes = changes_of(alloc, params)?;
-    Ok(match (uri, changes) {
-        (Some(uri), Some(changes)) => Some(Notification::DidChange { uri, changes }),
-        _ => None,
+fn range_of(span: &Span) -> Option<Range> {
+    Some(Range {
+        start: position_of(&span.start)?,
+        end: position_of(&span.end)?,
     })
 }
 
-// The changes, if all can be read.
-fn changes_of(alloc: Global, params: &Value) -> Result<Option<Vec<Change>>, AllocError> {
-    let Some(values) = params.get("contentChanges").and_then(Value::as_array) else {
+fn position_of(place: &Place) -> Option<Position> {
+    Some(Position {
+        line: count_of(place.line)?,
+        character: count_of(place.character)?,
+    })
+}
+
+fn count_of(whole: Whole) -> Option<usize> {
+    match whole {
+        Whole::Integer(number) => usize::try_from(number).ok(),
+        Whole::Float(float) => usize::try_from(whole_of(float)?).ok(),
+    }
+}
+
+// The notification with this method, if it can be read.
+fn notification_of(
+    alloc: Global,
+    method: &str,
+    text: &str,
+) -> Result<Option<Notification>, AllocError> {
+    match method {
+        "exit" => Ok(Some(Notification::Exit)),
+        "textDocument/didOpen" => did_open(alloc, text),
+        "textDocument/didChange" => did_change(alloc, text),
+        "textDocument/didClose" => did_close(alloc, text),
+        _ => Ok(Some(Notification::Other)),
+    }
+}
+
+fn did_open(alloc: Global, text: &str) -> Result<Option<Notification>, AllocError> {
+    let Some(Message { params }) = read::<Message<Opening>>(alloc, text)? else {
+        return Ok(None);
+    };
+    let document = params.text_document;
+    Ok(Some(Notification::DidOpen {
+        uri: document.uri,
+        version: document.version.as_ref().and_then(integer),
+        text: document.text,
+    }))
+}
+
+fn did_change(alloc: Global, text: &str) -> Result<Option<Notification>, AllocError> {
+    let Some(Message { params }) = read::<Message<Changing>>(alloc, text)? else {
         return Ok(None);
     };
     let mut changes = Vec::new(alloc);
-    for value in values {
-        let Some(change) = change_of(alloc, value)? else {
+    for content in params.content_changes {
+        let Some(change) = change_of(content) else {
             return Ok(None);
         };
         changes.push(change)?;
     }
-    Ok(Some(changes))
+    let document = params.text_document;
+    Ok(Some(Notification::DidChange {
+        uri: document.uri,
+        version: document.version.as_ref().and_then(integer),
+        changes,
+    }))
 }
 
-fn change_of(alloc: Global, value: &Value) -> Result<Option<Change>, AllocError> {
-    let Some(text) = text_of(alloc, value.get("text"))? else {
-        return Ok(None);
-    };
-    Ok(match value.get("range") {
-        None | Some(Value::Null) => Some(Change::Whole(text)),
-        Some(range) => range_of(range).map(|range| Change::Part { range, text }),
-    })
+fn change_of(content: ContentChange) -> Option<Change> {
+    let text = content.text;
+    match content.range {
+        None => Some(Change::Whole(text)),
+        Some(span) => range_of(&span).map(|range| Change::Part { range, text }),
+    }
 }
 
-fn did_close(alloc: Global, params: &Value) -> Result<Option<Notification>, AllocError> {
-    let uri = text_of(alloc, params.pointer("/textDocument/uri"))?;
-    Ok(uri.map(|uri| Notification::DidClose { uri }))
+fn did_close(alloc: Global, text: &str) -> Result<Option<Notification>, AllocError> {
+    let message = read::<Message<OfDocument>>(alloc, text)?;
+    Ok(message.map(|it| Notification::DidClose {
+        uri: it.params.text_document.uri,
+    }))
+}
+
+// The same text, with the character U+FFFD in place of each escape of a surrogate. JSON has no character for one alone.
+fn without_surrogates(alloc: Global, text: &str) -> Result<String, AllocError> {
+    let mut result = String::new(alloc);
+    // (a backslash comes before each part but the first, and is itself escaped if the part before it is empty)
+    let mut is_escape = false;
+    for (index, part) in text.split('\\').enumerate() {
+        if index > 0 {
+            result.push('\\')?;
+        }
+        match part.get(SURROGATE..) {
+            Some(rest) if is_escape && begins_surrogate(part.as_bytes()) => {
+                result.push_str("ufffd")?;
+                result.push_str(rest)?;
+            }
+            _ => result.push_str(part)?,
+        }
+        is_escape = !(is_escape && part.is_empty());
+    }
+    Ok(result)
+}
+
+// The bytes of an escaped unit after its backslash: `u` and four digits.
+const SURROGATE: usize = 5;
+
+// Whether what follows a backslash is the escape of a surrogate: `u`, and a number from D800 to DFFF.
+fn begins_surrogate(bytes: &[u8]) -> bool {
+    matches!(
+        bytes,
+        [b'u', b'd' | b'D', b'8'..=b'9' | b'a'..=b'f' | b'A'..=b'F', _, _, ..]
+    )
 }

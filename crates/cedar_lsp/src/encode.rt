@@ -1,26 +1,30 @@
 //! Messages to the client, as JSON with their heads.
-use crate::decode::Fault;
-use cedar_server::{Answer, Diagnosis, Edit, Encoding, Failure, Id, Range, ServerMessage};
+use cedar_server::{Answer, Diagnosis, Edit, Encoding, Failure, Fault, Id, Range, ServerMessage};
 use serde_json::{Value, json};
 use std::alloc::{AllocError, Global};
 
 /// A message of the server.
-pub fn told(alloc: Global, message: ServerMessage) -> Result<String, AllocError> {
+pub fn encode(alloc: Global, message: ServerMessage) -> Result<String, AllocError> {
     match message {
         ServerMessage::Response { id, answer } => response(alloc, id, answer),
-        ServerMessage::Diagnostics { uri, diagnosis } => diagnostics(alloc, uri, diagnosis),
+        ServerMessage::Rejection { id, fault } => rejection(alloc, id, fault),
+        ServerMessage::Diagnostics {
+            uri,
+            version,
+            diagnosis,
+        } => diagnostics(alloc, uri, version, diagnosis),
+        ServerMessage::Notice { uri } => notice(alloc, uri),
     }
 }
 
-/// The answer to a message that is rejected.
-pub fn failed(alloc: Global, id: Option<Id>, fault: Fault) -> Result<String, AllocError> {
+// The answer to a message that is rejected.
+fn rejection(alloc: Global, id: Option<Id>, fault: Fault) -> Result<String, AllocError> {
     let (code, message) = match fault {
-        Fault::Parse => (
-            -32700,
-            "the message is no JSON, or its head names no length that can be read",
+        Fault::Parse => (-32700, "the message is no JSON, or its length can't be read"),
+        Fault::NoMessage => (
+            -32600,
+            "the message is no request, no notification and no response",
         ),
-        Fault::NoRequest => (-32600, "the message is no request and no notification"),
-        Fault::OutOfMemory => (-32603, "out of memory"),
     };
     let id = match id {
         Some(id) => id_value(id),
@@ -53,7 +57,10 @@ fn error(alloc: Global, id: Value, code: i64, message: &str) -> Result<String, A
 
 fn response(alloc: Global, id: Id, answer: Answer) -> Result<String, AllocError> {
     let result = match answer {
-        Answer::Ready(encoding) => capabilities(alloc, encoding)?,
+        Answer::Ready {
+            encoding,
+            formats_on_save,
+        } => capabilities(alloc, encoding, formats_on_save)?,
         Answer::Nothing => Value::Null,
         Answer::NoEdit => json!(in alloc; [])?,
         Answer::Edit(edit) => {
@@ -77,10 +84,19 @@ fn words_of(failure: Failure) -> (i64, &'static str) {
         Failure::MethodNotFound => (-32601, "the server has no such method"),
         Failure::InvalidParams => (-32602, "the parameters can't be read"),
         Failure::NotOpen => (-32602, "the document isn't open"),
+        Failure::Lost => (
+            -32803,
+            "the document's text is lost, since a message about it couldn't be read; open it again",
+        ),
+        Failure::OutOfMemory => (-32603, "out of memory"),
     }
 }
 
-fn capabilities(alloc: Global, encoding: Encoding) -> Result<Value, AllocError> {
+fn capabilities(
+    alloc: Global,
+    encoding: Encoding,
+    formats_on_save: bool,
+) -> Result<Value, AllocError> {
     let encoding = match encoding {
         Encoding::Utf16 => "utf-16",
         Encoding::Utf8 => "utf-8",
@@ -88,9 +104,10 @@ fn capabilities(alloc: Global, encoding: Encoding) -> Result<Value, AllocError> 
     json!(in alloc; {
         "capabilities": {
             "positionEncoding": encoding,
-            "textDocumentSync": {"openClose": true, "change": 2},
+            "textDocumentSync": {"openClose": true, "change": 2, "willSaveWaitUntil": formats_on_save},
             "documentFormattingProvider": true,
             "documentRangeFormattingProvider": true,
+            "documentOnTypeFormattingProvider": {"firstTriggerCharacter": ";"},
         },
         "serverInfo": {"name": "cedar-lsp"},
     })
@@ -111,6 +128,7 @@ fn range_value(alloc: Global, range: Range) -> Result<Value, AllocError> {
 fn diagnostics(
     alloc: Global,
     uri: String,
+    version: Option<i64>,
     diagnosis: Option<Diagnosis>,
 ) -> Result<String, AllocError> {
     let list = match diagnosis {
@@ -120,12 +138,28 @@ fn diagnostics(
         }
         None => json!(in alloc; [])?,
     };
-    let value = json!(in alloc; {
-        "jsonrpc": "2.0",
-        "method": "textDocument/publishDiagnostics",
-        "params": {"uri": uri, "diagnostics": list},
-    })?;
+    let params = match version {
+        Some(version) => {
+            json!(in alloc; {"uri": uri, "version": version, "diagnostics": list})?
+        }
+        None => json!(in alloc; {"uri": uri, "diagnostics": list})?,
+    };
+    notification(alloc, "textDocument/publishDiagnostics", params)
+}
+
+fn notification(alloc: Global, method: &str, params: Value) -> Result<String, AllocError> {
+    let value = json!(in alloc; {"jsonrpc": "2.0", "method": method, "params": params})?;
     framed(alloc, &value)
+}
+
+// A warning that is shown to the user.
+fn notice(alloc: Global, uri: Option<String>) -> Result<String, AllocError> {
+    let message = match uri {
+        Some(uri) => format!(in alloc; "Cedar: a message about {uri} can't be read, so its text is unknown. It is neither checked nor formatted until it is opened again.")?,
+        None => String::from_str(alloc, "Cedar: a message can't be read, so the texts of the open documents are unknown. They are neither checked nor formatted until they are opened again.")?,
+    };
+    let params = json!(in alloc; {"type": 2, "message": message})?;
+    notification(alloc, "window/showMessage", params)
 }
 
 fn diagnosis_value(alloc: Global, diagnosis: Diagnosis) -> Result<Value, AllocError> {

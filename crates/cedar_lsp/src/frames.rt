@@ -13,21 +13,31 @@ const BODY_LIMIT: u64 = 64 * 1024 * 1024;
 pub enum Frame {
     /// A message with this body.
     Body(Vec<u8>),
-    /// A message without a length, or with a body that is too long. The input goes on after it.
-    Unread,
-    /// A head that doesn't end. Where the next message begins is unknown.
-    Lost,
+    /// A message whose body is too long to be read. The input goes on after it.
+    TooLong,
+    /// A head without a length, or with one that can't be trusted. Where the next message begins is unknown.
+    Broken,
     /// The input ends, maybe inside a message.
     End,
 }
 
 // The head of a message.
-#[derive(Drop)]
 enum Head {
     Length(u64),
-    NoLength,
-    TooLong,
+    Broken,
     End,
+}
+
+// A line of a head.
+#[derive(Clone, Copy, PartialEq, Eq)]
+enum Line {
+    Empty,
+    /// The length of the body, in bytes.
+    Length(u64),
+    /// Another field.
+    Other,
+    /// No field, or a length that is no number.
+    Broken,
 }
 
 /// The next message.
@@ -35,11 +45,10 @@ pub fn next_frame<R: Read>(alloc: Global, input: &mut R) -> io::Result<Frame> {
     match next_head(alloc, input)? {
         Head::Length(length) if length > BODY_LIMIT => {
             skip(input, length)?;
-            Ok(Frame::Unread)
+            Ok(Frame::TooLong)
         }
         Head::Length(length) => read_body(alloc, input, length),
-        Head::NoLength => Ok(Frame::Unread),
-        Head::TooLong => Ok(Frame::Lost),
+        Head::Broken => Ok(Frame::Broken),
         Head::End => Ok(Frame::End),
     }
 }
@@ -47,7 +56,8 @@ pub fn next_frame<R: Read>(alloc: Global, input: &mut R) -> io::Result<Frame> {
 // The next head. Empty lines before it are skipped.
 fn next_head<R: Read>(alloc: Global, input: &mut R) -> io::Result<Head> {
     let mut line = Vec::new(alloc);
-    let mut head = None;
+    let mut length = None;
+    let mut is_begun = false;
     for _ in 0..HEAD_LIMIT {
         let Some(byte) = next_byte(input)? else {
             return Ok(Head::End);
@@ -56,19 +66,27 @@ fn next_head<R: Read>(alloc: Global, input: &mut R) -> io::Result<Head> {
             line.push(byte)?;
             continue;
         }
-        let field = line.as_slice().trim_ascii();
-        if !field.is_empty() {
-            head = Some(match (length_in(field), head) {
-                (Some(length), _) => Head::Length(length),
-                (None, Some(found)) => found,
-                (None, None) => Head::NoLength,
-            });
-        } else if let Some(found) = head {
-            return Ok(found);
+        match line_in(line.as_slice()) {
+            Line::Empty if is_begun => return Ok(head_with(length)),
+            Line::Empty => {}
+            Line::Length(bytes) if length.is_none() => {
+                length = Some(bytes);
+                is_begun = true;
+            }
+            Line::Other => is_begun = true,
+            Line::Length(_) | Line::Broken => return Ok(Head::Broken),
         }
         line.clear();
     }
-    Ok(Head::TooLong)
+    Ok(Head::Broken)
+}
+
+// A head that ends, with its length.
+fn head_with(length: Option<u64>) -> Head {
+    match length {
+        Some(length) => Head::Length(length),
+        None => Head::Broken,
+    }
 }
 
 // The next byte.
@@ -78,18 +96,33 @@ fn next_byte<R: Read>(input: &mut R) -> io::Result<Option<u8>> {
     Ok(if count == 0 { None } else { Some(byte[0]) })
 }
 
-// The length that a line gives. Whatever comes before the field's name is the rest of a body of unknown length.
-fn length_in(line: &[u8]) -> Option<u64> {
-    const NAME: &[u8] = b"content-length:";
-    for start in 0..line.len() {
-        let rest = &line[start..];
-        let name = rest.get(..NAME.len())?;
-        if name.eq_ignore_ascii_case(NAME) {
-            let value = str::from_utf8(rest.get(NAME.len()..)?).ok()?;
-            return value.trim().parse::<u64>().ok();
-        }
+// What a line of a head says.
+fn line_in(bytes: &[u8]) -> Line {
+    let bytes = bytes.trim_ascii();
+    if bytes.is_empty() {
+        return Line::Empty;
     }
-    None
+    let Ok(line) = str::from_utf8(bytes) else {
+        return Line::Broken;
+    };
+    match line.split_once(':') {
+        Some((name, value)) if name.trim().eq_ignore_ascii_case("content-length") => {
+            length_in(value.trim())
+        }
+        Some(_) => Line::Other,
+        None => Line::Broken,
+    }
+}
+
+// The length that a field gives.
+fn length_in(value: &str) -> Line {
+    if !value.bytes().all(|byte| byte.is_ascii_digit()) {
+        return Line::Broken;
+    }
+    match value.parse::<u64>() {
+        Ok(length) => Line::Length(length),
+        Err(_) => Line::Broken,
+    }
 }
 
 // A body. It is read as it arrives, so no more memory is requested than twice what was sent.

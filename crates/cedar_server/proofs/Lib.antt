@@ -1,2 +1,4 @@
-pub mod Documents
+pub mod Losing
+pub mod Maps
+pub mod Talks
 pub mod Whole

@@ -1,5 +1,5 @@
 -- The answers to requests for a layout.
-use Rattle.std.specs.Prelude.{ℕ, ℤ, pos, if◌then◌else◌, List, string_bytes}
+use Rattle.std.specs.Prelude.{ℕ, ℤ, List, string_bytes}
 use Rattle.cedar_tokens.specs.declared.token.Span.{Span}
 use Rattle.cedar_grammar.specs.Texts.{Accepted}
 use Rattle.cedar_laws.specs.Canonical.{IsOutputOf}
@@ -15,11 +15,6 @@ use Rattle.cedar_positions.specs.Positions.{IsOffsetOf, IsPositionAt}
 use Rattle.cedar_server.specs.declared.messages.Answer.{Answer}
 use Rattle.cedar_server.specs.declared.messages.Answer.TheVariants as answer
 use Rattle.cedar_server.specs.declared.messages.Edit.{Edit}
-use Rattle.cedar_server.specs.declared.messages.Indentation.{Indentation}
-
--- the columns of a level: the client's tab size if it inserts spaces, and otherwise two
-abbrev pub indent_of : Indentation → ℤ
-indent_of n = if n.inserts_spaces then pos n.tab_size else pos 2
 
 -- the answer for a text, at a width and an indentation: an edit that, applied to the text, gives its output; no edit if the text
 -- is its own output; and nothing if it is refused

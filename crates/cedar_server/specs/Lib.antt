@@ -1,3 +1,4 @@
 pub mod Diagnoses
 pub mod Layouts
 pub mod Sessions
+pub mod Talks

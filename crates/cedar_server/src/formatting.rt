@@ -1,31 +1,15 @@
 //! The answers to requests for a layout.
 ghost use Rattle.std.specs.Prelude.{◌≡◌, ℕ, List, IfOk};
 ghost use Rattle.cedar_positions.specs.Changes.{Puts};
-ghost use Rattle.cedar_server.specs.Layouts.{LaysOut, LaysOutPart, indent_of};
+ghost use Rattle.cedar_server.specs.Layouts.{LaysOut, LaysOutPart};
 
-use crate::messages::{Answer, Edit, Indentation};
+use crate::messages::{Answer, Edit};
 use cedar_policy_formatter::token::Span;
 use cedar_policy_formatter::{Config, FormatError, policies_str_to_pretty};
 use cedar_positions::laws::positions_are_found;
 use cedar_positions::{Encoding, Range, offset_at, position_at};
 use cedar_ranges::format_range;
 use std::alloc::{AllocError, Global};
-
-/// The configuration that a client asks for: a level is a tab of its size if it inserts spaces, and otherwise two columns.
-pub(crate) fn config_of(line_width: usize, indentation: Indentation) -> Config
-    ensures width { result.line_width ≡ line_width }
-    ensures indent { result.indent_width ≡ indent_of indentation }
-{
-    let indent_width = if indentation.inserts_spaces {
-        indentation.tab_size as isize
-    } else {
-        2
-    };
-    Config {
-        line_width,
-        indent_width,
-    }
-}
 
 /// The edit that makes the output of a text, if it isn't its own output.
 pub(crate) fn format_whole(

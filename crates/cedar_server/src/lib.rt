@@ -2,14 +2,18 @@
 #![tactic(auto)]
 
 mod diagnosis;
+mod documents;
 mod formatting;
 mod messages;
 mod server;
+mod session;
 
 pub use cedar_policy_formatter::FormatError;
 pub use cedar_positions::{Change, Encoding, Position, Range, offset_at, position_at};
+pub use documents::{Document, Documents};
 pub use messages::{
-    Answer, ClientMessage, ClientOptions, Diagnosis, Edit, Failure, Id, Indentation, Notification,
-    Request, ServerMessage,
+    Answer, ClientMessage, ClientOptions, Diagnosis, Edit, Failure, Fault, Id, Notification,
+    Request, ServerMessage, Unread, Wishes,
 };
-pub use server::{Documents, Phase, Server};
+pub use server::{Phase, Server};
+pub use session::{Client, Received, serve};

@@ -9,22 +9,24 @@ pub enum Id {
     Text(String),
 }
 
-/// What a client says about itself.
+/// The layout that somebody asks for. What it leaves open is for others to say.
 #[derive(Clone, Copy, Debug, PartialEq, Eq)]
-pub struct ClientOptions {
-    /// It can count characters in bytes of UTF-8.
-    pub counts_utf8: bool,
-    /// The width of a line that it wants, in columns.
+pub struct Wishes {
+    /// The width of a line, in columns.
     pub line_width: Option<usize>,
+    /// The indentation of a level, in columns.
+    pub indent_width: Option<u16>,
 }
 
-/// How the client indents in an editor.
-#[derive(Clone, Copy, Debug, PartialEq, Eq)]
-pub struct Indentation {
-    /// The columns of a tab.
-    pub tab_size: u16,
-    /// Whether a level is indented by spaces, as many as a tab has columns.
-    pub inserts_spaces: bool,
+/// What a client says about itself.
+#[derive(Debug, Drop)]
+pub struct ClientOptions {
+    /// The units that it can count characters in, the one it prefers first. None means UTF-16.
+    pub encodings: Vec<Encoding>,
+    /// Whether it is to ask for the layout of a document before it saves it.
+    pub formats_on_save: bool,
+    /// The layout that its user asks for. It goes before that of a project.
+    pub wishes: Wishes,
 }
 
 /// A request, which wants an answer.
@@ -33,16 +35,9 @@ pub enum Request {
     Initialize(ClientOptions),
     Shutdown,
     /// The layout of a whole document.
-    Formatting {
-        uri: String,
-        indentation: Indentation,
-    },
+    Formatting { uri: String },
     /// The layout of the policies touched by a range.
-    RangeFormatting {
-        uri: String,
-        range: Range,
-        indentation: Indentation,
-    },
+    RangeFormatting { uri: String, range: Range },
     /// One of these, with parameters that can't be read.
     Malformed,
     /// Any other request.
@@ -53,12 +48,43 @@ pub enum Request {
 #[derive(Debug, Drop)]
 pub enum Notification {
     Exit,
-    DidOpen { uri: String, text: String },
+    /// The document has this text. `version` counts its texts, if the client counts them.
+    DidOpen {
+        uri: String,
+        version: Option<i64>,
+        text: String,
+    },
     /// The changes are applied one after the other.
-    DidChange { uri: String, changes: Vec<Change> },
-    DidClose { uri: String },
+    DidChange {
+        uri: String,
+        version: Option<i64>,
+        changes: Vec<Change>,
+    },
+    DidClose {
+        uri: String,
+    },
     /// Any other notification.
     Other,
+}
+
+/// Why a message is rejected.
+#[derive(Clone, Copy, Debug, PartialEq, Eq)]
+pub enum Fault {
+    /// It isn't JSON, or is too long to be read.
+    Parse,
+    /// It is JSON, but no request, no notification and no response.
+    NoMessage,
+}
+
+/// A message that can't be read, and what it may be about.
+#[derive(Debug, Drop)]
+pub enum Unread {
+    /// No text of a document: it is a request, with this id if that can be read, or another notification.
+    NoText { id: Option<Id> },
+    /// The text of this document.
+    TextOf { uri: String },
+    /// The text of any document. With a fault it is rejected; a notification isn't answered.
+    AnyText { fault: Option<Fault> },
 }
 
 /// A message to the server.
@@ -66,6 +92,9 @@ pub enum Notification {
 pub enum ClientMessage {
     Request { id: Id, request: Request },
     Notification(Notification),
+    /// A response to the server, which asks nothing.
+    Response,
+    Unread(Unread),
 }
 
 /// A new text for a range of a document.
@@ -88,13 +117,20 @@ pub enum Failure {
     InvalidParams,
     /// It names a document that isn't open.
     NotOpen,
+    /// It names a document whose text is lost, since a message about it couldn't be read.
+    Lost,
+    /// There wasn't enough memory for the answer.
+    OutOfMemory,
 }
 
 /// The answer to a request.
 #[derive(Debug, Drop)]
 pub enum Answer {
-    /// The server is ready, and counts characters this way.
-    Ready(Encoding),
+    /// The server is ready, and counts characters in this unit. `formats_on_save` is what the client said.
+    Ready {
+        encoding: Encoding,
+        formats_on_save: bool,
+    },
     /// There is nothing to say: after `shutdown`, and if a document to be formatted is refused.
     Nothing,
     /// The document, or its part, is already formatted.
@@ -121,9 +157,20 @@ pub enum ServerMessage {
         id: Id,
         answer: Answer,
     },
-    /// What is wrong with a document: nothing if it is accepted, or no longer open.
+    /// A message was rejected, with its id if that is known.
+    Rejection {
+        id: Option<Id>,
+        fault: Fault,
+    },
+    /// What is wrong with a document: nothing if it is accepted, lost, or no longer open. `version` is that of its text.
     Diagnostics {
         uri: String,
+        version: Option<i64>,
         diagnosis: Option<Diagnosis>,
+    },
+    /// A notice for the user, since a message couldn't be read: the text of this document is lost, or those of all that were
+    /// open.
+    Notice {
+        uri: Option<String>,
     },
 }

@@ -1,20 +1,21 @@
 //! The server.
-ghost use Rattle.std.specs.Prelude.{◌≡◌, ◌∷◌, [], IfOk, OnErr, string_bytes};
-ghost use Rattle.cedar_server.specs.Layouts.{LaysOut, LaysOutPart, indent_of};
-ghost use Rattle.cedar_server.specs.Sessions.{Changes, Closes, Diagnoses, Gives, HasNoDocuments, IsSame, LaysOutDocument, Opens, Starts, Steps, Takes, TakesExit, Turns, encoding_of};
+ghost use Rattle.std.specs.Prelude.{◌≡◌, ◌∷◌, [], ◌↔◌, IfOk, IsTrue, OnErr, OnOk, option_map, string_bytes};
+ghost use Rattle.cedar_server.specs.Layouts.{LaysOut, LaysOutPart};
+ghost use Rattle.cedar_server.specs.Sessions.{AddsJudgement, Changes, Closes, GiveText, Gives, HasNoDocuments, IsSame, IsUnjudged, LaysOutDocument, Loses, LosesAll, Misses, Opens, Receives, Sets, Settles, Starts, Steps, Takes, TakesExit, Turns, document_of, first_or_utf16, indent_for, lost, rejection_of, state_of, width_for};
 
 use crate::diagnosis::diagnose;
-use crate::formatting::{config_of, format_part, format_whole};
-use crate::messages::{
-    Answer, ClientMessage, ClientOptions, Diagnosis, Failure, Id, Indentation, Notification,
-    Request, ServerMessage,
+use crate::documents::{
+    Document, Documents, all_lost, clear_texts, cleared, diagnosed, given_text, put,
 };
+use crate::formatting::{format_part, format_whole};
+use crate::messages::{
+    Answer, ClientMessage, ClientOptions, Failure, Fault, Id, Notification, Request, ServerMessage,
+    Unread, Wishes,
+};
+use cedar_policy_formatter::Config;
 use cedar_positions::{Change, Encoding, Range, changed_text};
 use std::alloc::{AllocError, Global};
 use std::collections::BTreeMap;
-
-/// The text of each open document, by its URI.
-pub type Documents = BTreeMap<String, String>;
 
 /// How far the session is.
 #[derive(Clone, Copy, PartialEq, Eq, Debug)]
@@ -35,97 +36,173 @@ pub struct Server {
     pub phase: Phase,
     /// The unit it counts characters in.
     pub encoding: Encoding,
-    /// The columns of a line.
-    pub line_width: usize,
+    /// The layout that the client asks for.
+    pub wishes: Wishes,
     pub documents: Documents,
+    /// The URIs of the documents that changed since what is wrong with them was told.
+    pub unjudged: Vec<String>,
 }
 
-// The columns of a line if the client names none.
+// The columns of a line, and of a level, if neither the client nor the project asks for others.
 const LINE_WIDTH: usize = 80;
+
+const INDENT_WIDTH: u16 = 2;
 
 impl Server {
     /// A server that waits for `initialize`.
     pub fn new(alloc: Global) -> Server
         ensures phase { result.phase ≡ Phase.Starting }
         ensures documents { HasNoDocuments result }
+        ensures unjudged { result.unjudged.items ≡ [] }
     {
         Server {
             phase: Phase::Starting,
             encoding: Encoding::Utf16,
-            line_width: LINE_WIDTH,
+            wishes: Wishes {
+                line_width: None,
+                indent_width: None,
+            },
             documents: BTreeMap::new(alloc),
+            unjudged: Vec::new(alloc),
         }
     }
 
     /// What the server says in response to a message, in order: the answer to a request, and what is wrong with a document
-    /// that was opened, changed or closed. The only error is out of memory, and then nothing has changed.
+    /// that was opened, or was closed or lost. What is wrong with a document that changed is left to `settle`.
+    ///
+    /// `project` is the layout that the project of the message's document asks for. A message that can't be read makes the
+    /// documents that it may be about lost: nothing is said about them until the client gives their whole text again.
+    ///
+    /// A request whose answer is out of memory is answered so. Otherwise the only error is out of memory. In both cases nothing
+    /// has changed.
     pub fn step(
         &mut self,
         alloc: Global,
         message: ClientMessage,
+        project: Wishes,
     ) -> Result<Vec<ServerMessage>, AllocError>
-        ensures ok { IfOk result (λ told. Steps message self.old self.new told.items) }
+        ensures ok { IfOk result (λ told. Steps message project self.old self.new told.items) }
         ensures err { OnErr result (IsSame self.old self.new) }
     {
         match message {
-            ClientMessage::Request { id, request } => {
-                let answer = self.answer(alloc, &request)?;
+            ClientMessage::Request { id, request } => self.respond(alloc, id, request, project),
+            ClientMessage::Notification(notification) => self.take(alloc, notification),
+            ClientMessage::Response => Ok(Vec::new(alloc)),
+            ClientMessage::Unread(unread) => self.miss(alloc, unread),
+        }
+    }
+
+    // Answers a request.
+    fn respond(
+        &mut self,
+        alloc: Global,
+        id: Id,
+        request: Request,
+        project: Wishes,
+    ) -> Result<Vec<ServerMessage>, AllocError>
+        ensures ok { IfOk result (λ told. Steps (ClientMessage.Request id request) project self.old self.new told.items) }
+        ensures err { OnErr result (IsSame self.old self.new) }
+    {
+        match self.answer(alloc, &request, project) {
+            Ok(answer) => {
                 let told = tell(alloc, ServerMessage::Response { id, answer })?;
-                self.turn(&request);
+                self.turn(request);
                 Ok(told)
             }
-            ClientMessage::Notification(notification) => self.take(alloc, notification),
+            Err(AllocError) => {
+                let answer = Answer::Failure(Failure::OutOfMemory);
+                tell(alloc, ServerMessage::Response { id, answer })
+            }
+        }
+    }
+
+    /// What is wrong with each document that changed since that was told, in the order in which they changed. The only error
+    /// is out of memory, and then nothing has changed.
+    pub fn settle(&mut self, alloc: Global) -> Result<Vec<ServerMessage>, AllocError>
+        ensures ok { IfOk result (λ told. Settles self.old self.new told.items) }
+        ensures err { OnErr result (IsSame self.old self.new) }
+    {
+        let mut told = Vec::new(alloc);
+        for uri in &self.unjudged {
+            self.judge(alloc, uri.as_str(), &mut told)?;
+        }
+        self.unjudged.clear();
+        Ok(told)
+    }
+
+    // Tells what is wrong with a document, if it has a text.
+    fn judge(
+        &self,
+        alloc: Global,
+        uri: &str,
+        told: &mut Vec<ServerMessage>,
+    ) -> Result<(), AllocError>
+        ensures { OnOk result (AddsJudgement self.now uri.now told.old.items told.new.items) }
+    {
+        match self.documents.get(uri) {
+            Some(Document::Text { version, text }) => {
+                let diagnosis = diagnose(alloc, text.as_str(), self.encoding)?;
+                let message = diagnosed(alloc, uri, *version, diagnosis)?;
+                told.push(message)?;
+                Ok(())
+            }
+            Some(Document::Lost) | None => Ok(()),
         }
     }
 
     // The answer to a request.
-    fn answer(&self, alloc: Global, request: &Request) -> Result<Answer, AllocError>
-        ensures { IfOk result (Gives self.now.phase request.now self.now) }
+    fn answer(
+        &self,
+        alloc: Global,
+        request: &Request,
+        project: Wishes,
+    ) -> Result<Answer, AllocError>
+        ensures { IfOk result (Gives self.now.phase request.now project self.now) }
     {
         match self.phase {
             Phase::Starting => Ok(match request {
-                Request::Initialize(options) => Answer::Ready(encoding_of(*options)),
+                Request::Initialize(options) => Answer::Ready {
+                    encoding: first_or_utf16(&options.encodings),
+                    formats_on_save: options.formats_on_save,
+                },
                 _ => Answer::Failure(Failure::NotInitialized),
             }),
-            Phase::Running => self.answer_running(alloc, request),
+            Phase::Running => self.answer_running(alloc, request, project),
             Phase::ShutDown | Phase::Ended { .. } => Ok(Answer::Failure(Failure::InvalidRequest)),
         }
     }
 
     // The answer to a request between `initialize` and `shutdown`.
-    fn answer_running(&self, alloc: Global, request: &Request) -> Result<Answer, AllocError>
-        ensures { IfOk result (Gives Phase.Running request.now self.now) }
+    fn answer_running(
+        &self,
+        alloc: Global,
+        request: &Request,
+        project: Wishes,
+    ) -> Result<Answer, AllocError>
+        ensures { IfOk result (Gives Phase.Running request.now project self.now) }
     {
         match request {
             Request::Initialize(_) => Ok(Answer::Failure(Failure::InvalidRequest)),
             Request::Shutdown => Ok(Answer::Nothing),
-            Request::Formatting { uri, indentation } => {
-                self.format(alloc, uri.as_str(), *indentation)
+            Request::Formatting { uri } => self.format(alloc, uri.as_str(), project),
+            Request::RangeFormatting { uri, range } => {
+                self.format_range(alloc, uri.as_str(), *range, project)
             }
-            Request::RangeFormatting {
-                uri,
-                range,
-                indentation,
-            } => self.format_range(alloc, uri.as_str(), *range, *indentation),
             Request::Malformed => Ok(Answer::Failure(Failure::InvalidParams)),
             Request::Other => Ok(Answer::Failure(Failure::MethodNotFound)),
         }
     }
 
     // The answer to a request for the layout of a document.
-    fn format(
-        &self,
-        alloc: Global,
-        uri: &str,
-        indentation: Indentation,
-    ) -> Result<Answer, AllocError>
-        ensures { IfOk result (LaysOutDocument uri.now (LaysOut self.now.encoding self.now.line_width (indent_of indentation)) self.now) }
+    fn format(&self, alloc: Global, uri: &str, project: Wishes) -> Result<Answer, AllocError>
+        ensures { IfOk result (LaysOutDocument (document_of self.now uri.now) (LaysOut self.now.encoding (width_for self.now.wishes project) (indent_for self.now.wishes project))) }
     {
         match self.documents.get(uri) {
-            Some(text) => {
-                let config = config_of(self.line_width, indentation);
+            Some(Document::Text { text, .. }) => {
+                let config = config_for(self.wishes, project);
                 format_whole(alloc, text.as_str(), &config, self.encoding)
             }
+            Some(Document::Lost) => Ok(Answer::Failure(Failure::Lost)),
             None => Ok(Answer::Failure(Failure::NotOpen)),
         }
     }
@@ -136,25 +213,26 @@ impl Server {
         alloc: Global,
         uri: &str,
         range: Range,
-        indentation: Indentation,
+        project: Wishes,
     ) -> Result<Answer, AllocError>
-        ensures { IfOk result (LaysOutDocument uri.now (LaysOutPart self.now.encoding self.now.line_width (indent_of indentation) range) self.now) }
+        ensures { IfOk result (LaysOutDocument (document_of self.now uri.now) (LaysOutPart self.now.encoding (width_for self.now.wishes project) (indent_for self.now.wishes project) range)) }
     {
         match self.documents.get(uri) {
-            Some(text) => {
-                let config = config_of(self.line_width, indentation);
+            Some(Document::Text { text, .. }) => {
+                let config = config_for(self.wishes, project);
                 format_part(alloc, text.as_str(), range, &config, self.encoding)
             }
+            Some(Document::Lost) => Ok(Answer::Failure(Failure::Lost)),
             None => Ok(Answer::Failure(Failure::NotOpen)),
         }
     }
 
     // What a request changes, once it is answered.
-    fn turn(&mut self, request: &Request)
-        ensures { Turns self.old.phase request.now self.old self.new }
+    fn turn(&mut self, request: Request)
+        ensures { Turns self.old.phase request self.old self.new }
     {
         match (self.phase, request) {
-            (Phase::Starting, Request::Initialize(options)) => self.start(*options),
+            (Phase::Starting, Request::Initialize(options)) => self.start(options),
             (Phase::Running, Request::Shutdown) => self.phase = Phase::ShutDown,
             _ => {}
         }
@@ -165,8 +243,8 @@ impl Server {
         ensures { Starts options self.old self.new }
     {
         self.phase = Phase::Running;
-        self.encoding = encoding_of(options);
-        self.line_width = options.line_width.unwrap_or(LINE_WIDTH);
+        self.encoding = first_or_utf16(&options.encodings);
+        self.wishes = options.wishes;
     }
 
     // Handles a notification.
@@ -212,67 +290,206 @@ impl Server {
         ensures err { OnErr result (IsSame self.old self.new) }
     {
         match notification {
-            Notification::DidOpen { uri, text } => self.open(alloc, uri, text),
-            Notification::DidChange { uri, changes } => self.change(alloc, uri, changes),
+            Notification::DidOpen { uri, version, text } => self.open(alloc, uri, version, text),
+            Notification::DidChange {
+                uri,
+                version,
+                changes,
+            } => self.change(alloc, uri, version, changes),
             Notification::DidClose { uri } => self.close(alloc, uri),
             Notification::Exit => self.take_exit(alloc, &Notification::Exit, 1),
             Notification::Other => Ok(Vec::new(alloc)),
         }
     }
 
-    // Gives a document a text.
+    // Gives a document a text, and tells what is wrong with it.
     fn open(
         &mut self,
         alloc: Global,
         uri: String,
+        version: Option<i64>,
         text: String,
     ) -> Result<Vec<ServerMessage>, AllocError>
-        ensures ok { IfOk result (λ told. Opens (string_bytes uri) (string_bytes text) self.old self.new told.items) }
+        ensures ok { IfOk result (λ told. Opens (string_bytes uri) version (string_bytes text) self.old self.new told.items) }
         ensures err { OnErr result (IsSame self.old self.new) }
     {
         let diagnosis = diagnose(alloc, text.as_str(), self.encoding)?;
-        let told = tell_diagnosis(alloc, uri.as_str(), diagnosis)?;
-        self.documents.insert(uri, text)?;
+        let message = diagnosed(alloc, uri.as_str(), version, diagnosis)?;
+        let told = tell(alloc, message)?;
+        self.set(uri, Document::Text { version, text })?;
         Ok(told)
     }
 
-    // Applies the changes to a document. One that isn't open is ignored.
+    // Puts a document into a state.
+    fn set(&mut self, uri: String, document: Document) -> Result<(), AllocError>
+        ensures ok { OnOk result (Sets (string_bytes uri) (Some (state_of document)) self.old self.new) }
+        ensures unjudged { self.new.unjudged ≡ self.old.unjudged }
+        ensures err { OnErr result (IsSame self.old self.new) }
+    {
+        put(&mut self.documents, uri, document)
+    }
+
+    // Applies the changes to a document, whose text is then to be judged. One that isn't open is ignored, and so is one that is
+    // lost, unless a change gives the whole text.
     fn change(
         &mut self,
         alloc: Global,
         uri: String,
+        version: Option<i64>,
         changes: Vec<Change>,
     ) -> Result<Vec<ServerMessage>, AllocError>
-        ensures ok { IfOk result (λ told. Changes (string_bytes uri) changes.items self.old self.new told.items) }
+        ensures ok { IfOk result (λ told. Changes (string_bytes uri) version changes.items self.old self.new told.items) }
         ensures err { OnErr result (IsSame self.old self.new) }
     {
-        let Some(old) = self.documents.get(uri.as_str()) else {
-            return Ok(Vec::new(alloc));
-        };
-        let new = changed_text(alloc, old.as_str(), changes, self.encoding)?;
-        let told = self.open(alloc, uri, new)?;
-        Ok(told)
+        match self.changed(alloc, uri.as_str(), changes)? {
+            Some(text) => self.receive(alloc, uri, version, text),
+            None => Ok(Vec::new(alloc)),
+        }
     }
 
-    // Closes a document, and clears what was reported about it.
+    // The text that changes give to a document, if they give one.
+    fn changed(
+        &self,
+        alloc: Global,
+        uri: &str,
+        changes: Vec<Change>,
+    ) -> Result<Option<String>, AllocError>
+        ensures { IfOk result (λ text. GiveText self.now.encoding changes.items (document_of self.now uri.now) (option_map string_bytes text)) }
+    {
+        match self.documents.get(uri) {
+            Some(Document::Text { text, .. }) => {
+                let new = changed_text(alloc, text.as_str(), changes, self.encoding)?;
+                Ok(Some(new))
+            }
+            Some(Document::Lost) => given_text(alloc, changes, self.encoding),
+            None => Ok(None),
+        }
+    }
+
+    // Gives a document a text that is to be judged.
+    fn receive(
+        &mut self,
+        alloc: Global,
+        uri: String,
+        version: Option<i64>,
+        text: String,
+    ) -> Result<Vec<ServerMessage>, AllocError>
+        ensures ok { IfOk result (λ told. Receives (string_bytes uri) version (string_bytes text) self.old self.new told.items) }
+        ensures err { OnErr result (IsSame self.old self.new) }
+    {
+        if self.is_unjudged(uri.as_str()) {
+            self.set(uri, Document::Text { version, text })?;
+            return Ok(Vec::new(alloc));
+        }
+        // (nothing can fail after the text is set)
+        self.unjudged.reserve(1)?;
+        let name = String::from_str(alloc, uri.as_str())?;
+        self.set(uri, Document::Text { version, text })?;
+        self.unjudged.push(name)?;
+        Ok(Vec::new(alloc))
+    }
+
+    // Whether a document is among those to be judged.
+    fn is_unjudged(&self, uri: &str) -> bool
+        ensures { IsTrue result ↔ IsUnjudged self.now uri.now }
+    {
+        for name in &self.unjudged {
+            if name.as_str() == uri {
+                return true;
+            }
+        }
+        false
+    }
+
+    // Closes a document, and clears what was told about it.
     fn close(&mut self, alloc: Global, uri: String) -> Result<Vec<ServerMessage>, AllocError>
         ensures ok { IfOk result (λ told. Closes (string_bytes uri) self.old self.new told.items) }
         ensures err { OnErr result (IsSame self.old self.new) }
     {
-        let told = tell_diagnosis(alloc, uri.as_str(), None)?;
+        let message = cleared(alloc, uri.as_str())?;
+        let told = tell(alloc, message)?;
         self.documents.remove(uri.as_str());
+        Ok(told)
+    }
+
+    // Handles a message that can't be read.
+    fn miss(&mut self, alloc: Global, unread: Unread) -> Result<Vec<ServerMessage>, AllocError>
+        ensures ok { IfOk result (λ told. Misses self.old.phase unread self.old self.new told.items) }
+        ensures err { OnErr result (IsSame self.old self.new) }
+    {
+        match (self.phase, unread) {
+            (Phase::Ended { .. }, _) => Ok(Vec::new(alloc)),
+            (_, Unread::NoText { id }) => reject(alloc, id, Some(Fault::NoMessage)),
+            (Phase::Running, Unread::TextOf { uri }) => self.lose(alloc, uri),
+            (Phase::Running, Unread::AnyText { fault }) => self.lose_all(alloc, fault),
+            (_, Unread::TextOf { .. }) => Ok(Vec::new(alloc)),
+            (_, Unread::AnyText { fault }) => reject(alloc, None, fault),
+        }
+    }
+
+    // A document is lost.
+    fn lose(&mut self, alloc: Global, uri: String) -> Result<Vec<ServerMessage>, AllocError>
+        ensures ok { IfOk result (λ told. Loses (string_bytes uri) self.old self.new told.items) }
+        ensures err { OnErr result (IsSame self.old self.new) }
+    {
+        if self.is_lost(uri.as_str()) {
+            return Ok(Vec::new(alloc));
+        }
+        let message = cleared(alloc, uri.as_str())?;
+        let mut told = tell(alloc, message)?;
+        let name = String::from_str(alloc, uri.as_str())?;
+        told.push(ServerMessage::Notice { uri: Some(name) })?;
+        self.set(uri, Document::Lost)?;
+        Ok(told)
+    }
+
+    // Whether a document is lost.
+    fn is_lost(&self, uri: &str) -> bool
+        ensures { IsTrue result ↔ (document_of self.now uri.now ≡ Some lost) }
+    {
+        matches!(self.documents.get(uri), Some(Document::Lost))
+    }
+
+    // Every document is lost.
+    fn lose_all(
+        &mut self,
+        alloc: Global,
+        fault: Option<Fault>,
+    ) -> Result<Vec<ServerMessage>, AllocError>
+        ensures ok { IfOk result (λ told. LosesAll fault self.old self.new told.items) }
+        ensures err { OnErr result (IsSame self.old self.new) }
+    {
+        let mut told = reject(alloc, None, fault)?;
+        let mut cleared = clear_texts(alloc, &self.documents)?;
+        if !cleared.is_empty() {
+            cleared.push(ServerMessage::Notice { uri: None })?;
+        }
+        told.append(&mut cleared)?;
+        self.documents = all_lost(alloc, &self.documents)?;
         Ok(told)
     }
 }
 
 // The unit that a client's characters are counted in.
-fn encoding_of(options: ClientOptions) -> Encoding
-    ensures { result ≡ encoding_of options }
+fn first_or_utf16(encodings: &[Encoding]) -> Encoding
+    ensures { result ≡ first_or_utf16 encodings.now }
 {
-    if options.counts_utf8 {
-        Encoding::Utf8
-    } else {
-        Encoding::Utf16
+    match encodings.first() {
+        Some(encoding) => *encoding,
+        None => Encoding::Utf16,
+    }
+}
+
+// The configuration for what the client and the project ask for.
+fn config_for(client: Wishes, project: Wishes) -> Config
+    ensures width { result.line_width ≡ width_for client project }
+    ensures indent { result.indent_width ≡ indent_for client project }
+{
+    let line_width = client.line_width.or(project.line_width);
+    let indent_width = client.indent_width.or(project.indent_width);
+    Config {
+        line_width: line_width.unwrap_or(LINE_WIDTH),
+        indent_width: indent_width.unwrap_or(INDENT_WIDTH) as isize,
     }
 }
 
@@ -285,15 +502,16 @@ fn tell(alloc: Global, message: ServerMessage) -> Result<Vec<ServerMessage>, All
     Ok(told)
 }
 
-// Only what is wrong with a document.
-fn tell_diagnosis(
+// Only the rejection of a message, or nothing without a fault.
+fn reject(
     alloc: Global,
-    uri: &str,
-    diagnosis: Option<Diagnosis>,
+    id: Option<Id>,
+    fault: Option<Fault>,
 ) -> Result<Vec<ServerMessage>, AllocError>
-    ensures { IfOk result (λ told. Diagnoses (λ d. d ≡ diagnosis) uri.now told.items) }
+    ensures { IfOk result (λ told. told.items ≡ rejection_of id fault) }
 {
-    let uri = String::from_str(alloc, uri)?;
-    let told = tell(alloc, ServerMessage::Diagnostics { uri, diagnosis })?;
-    Ok(told)
+    match fault {
+        Some(fault) => tell(alloc, ServerMessage::Rejection { id, fault }),
+        None => Ok(Vec::new(alloc)),
+    }
 }
