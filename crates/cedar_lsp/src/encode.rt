@@ -84,6 +84,7 @@ fn capabilities(alloc: Global, encoding: Encoding) -> Result<Value, AllocError> 
     let encoding = match encoding {
         Encoding::Utf16 => "utf-16",
         Encoding::Utf8 => "utf-8",
+        Encoding::Utf32 => "utf-32",
     };
     json!(in alloc; {
         "capabilities": {
