@@ -1,0 +1,5 @@
+pub mod Applying
+pub mod CommonLines
+pub mod Parts
+pub mod Placing
+pub mod Returning
