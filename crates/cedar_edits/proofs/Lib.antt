@@ -3,3 +3,4 @@ pub mod CommonLines
 pub mod Parts
 pub mod Placing
 pub mod Returning
+pub mod Turning

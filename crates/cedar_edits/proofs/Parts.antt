@@ -9,8 +9,8 @@ use Rattle.cedar_tokens.specs.declared.token.Span.{Span}
 use Rattle.cedar_positions.specs.Laws.{CanBeNamed}
 use Rattle.cedar_edits.specs.declared.edits.Edit.{Edit}
 use Rattle.cedar_edits.specs.Edits.{IsNamedPart, within}
-use Rattle.cedar_edits.specs.Lines.{BeginApart, EndApart, IsLeast}
-use Rattle.cedar_edits.specs.Inside.Trims.{EndLines, Replaces, StartLines, StartsLine}
+use Rattle.cedar_edits.specs.Lines.{BeginApart, EndApart, IsLeast, Replaces}
+use Rattle.cedar_edits.specs.Inside.Trims.{EndLines, StartLines, StartsLine}
 
 -- a character begins where a line does
 pub line_boundary : (bytes : List ℕ) (n : ℕ) → IsUtf8 bytes → n ≤ length bytes → StartsLine bytes n

@@ -1,6 +1,6 @@
 //! Parts of a text and their replacements.
 ghost use Rattle.std.specs.Prelude.{◌≡◌, IfOk, string_bytes};
-ghost use Rattle.cedar_edits.specs.Edits.{AreInOrder, edited_by};
+ghost use Rattle.cedar_edits.specs.Edits.{AreInOrder, IsPartOf, edited, edited_by};
 
 use cedar_tokens::token::Span;
 use std::alloc::{AllocError, Global};
@@ -14,6 +14,20 @@ pub struct Edit {
     pub span: Span,
     /// What replaces them.
     pub text: String,
+}
+
+impl Edit {
+    /// The text with this edit applied. The span lies in the text, on character boundaries. The only error is out of memory.
+    pub fn apply(&self, alloc: Global, text: &str) -> Result<String, AllocError>
+        requires { IsPartOf text.now self.now.span }
+        ensures { IfOk result (λ r. string_bytes r ≡ edited text.now self.now.span (string_bytes self.now.text)) }
+    {
+        let mut result = String::new(alloc);
+        result.push_str(&text[..self.span.start])?;
+        result.push_str(self.text.as_str())?;
+        result.push_str(&text[self.span.end..])?;
+        Ok(result)
+    }
 }
 
 /// The text with all of these edits applied. The spans are in order and in the text, at places that a client can name. The only

@@ -1,8 +1,8 @@
 //! Edits of whole lines.
 ghost use Rattle.std.specs.Prelude.{◌≡◌, ◌≤◌, ◌↔◌, length, IfOk, IfSome, IsTrue, MatchOption, string_bytes};
 ghost use Rattle.cedar_edits.specs.Edits.{IsNamedPart, within};
-ghost use Rattle.cedar_edits.specs.Lines.{IsLeast};
-ghost use Rattle.cedar_edits.specs.Inside.Trims.{EndLines, Replaces, StartLines, StartsLine};
+ghost use Rattle.cedar_edits.specs.Lines.{IsLeast, Replaces};
+ghost use Rattle.cedar_edits.specs.Inside.Trims.{EndLines, StartLines, StartsLine};
 
 use crate::edits::Edit;
 use cedar_tokens::token::Span;

@@ -1,7 +1,7 @@
 use Rattle.std.proofs.Common.{◌≡◌, [], ◌∷◌, cond, ap, ◌∙◌, arith, rules}
 use Rattle.cedar_ranges.specs.Edits.{feeds_after}
 use Rattle.cedar_ranges.proofs.LastBytes.{feeds_by_test}
-use Rattle.cedar_ranges.proofs.edits.push_feeds.Goals as goal
+use Rattle.cedar_ranges.proofs.format.push_feeds.Goals as goal
 use Rattle.cedar_tokens.specs.Bytes.{line_feed}
 
 pub returns-then-ends_with : goal.returns-then-ends_with
