@@ -55,11 +55,7 @@ fn response(alloc: Global, id: Id, answer: Answer) -> Result<String, AllocError>
     let result = match answer {
         Answer::Ready(encoding) => capabilities(alloc, encoding)?,
         Answer::Nothing => Value::Null,
-        Answer::NoEdit => json!(in alloc; [])?,
-        Answer::Edit(edit) => {
-            let edit = edit_value(alloc, edit)?;
-            json!(in alloc; [edit])?
-        }
+        Answer::Edits(edits) => edits_value(alloc, edits)?,
         Answer::Failure(failure) => {
             let (code, message) = words_of(failure);
             return error(alloc, id_value(id), code, message);
@@ -95,6 +91,14 @@ fn capabilities(alloc: Global, encoding: Encoding) -> Result<Value, AllocError> 
         },
         "serverInfo": {"name": "cedar-lsp"},
     })
+}
+
+fn edits_value(alloc: Global, edits: Vec<Edit>) -> Result<Value, AllocError> {
+    let mut values = Vec::new(alloc);
+    for edit in edits {
+        values.push(edit_value(alloc, edit)?)?;
+    }
+    Ok(Value::Array(values))
 }
 
 fn edit_value(alloc: Global, edit: Edit) -> Result<Value, AllocError> {

@@ -1,2 +1,2 @@
 pub mod Documents
-pub mod Whole
+pub mod Layouts
