@@ -246,6 +246,7 @@ fn encoding_of(name: &Value) -> Option<Encoding> {
     match name.as_str()? {
         "utf-8" => Some(Encoding::Utf8),
         "utf-16" => Some(Encoding::Utf16),
+        "utf-32" => Some(Encoding::Utf32),
         _ => None,
     }
 }

@@ -62,11 +62,7 @@ fn response(alloc: Global, id: Id, answer: Answer) -> Result<String, AllocError>
             formats_on_save,
         } => capabilities(alloc, encoding, formats_on_save)?,
         Answer::Nothing => Value::Null,
-        Answer::NoEdit => json!(in alloc; [])?,
-        Answer::Edit(edit) => {
-            let edit = edit_value(alloc, edit)?;
-            json!(in alloc; [edit])?
-        }
+        Answer::Edits(edits) => edits_value(alloc, edits)?,
         Answer::Failure(failure) => {
             let (code, message) = words_of(failure);
             return error(alloc, id_value(id), code, message);
@@ -100,6 +96,7 @@ fn capabilities(
     let encoding = match encoding {
         Encoding::Utf16 => "utf-16",
         Encoding::Utf8 => "utf-8",
+        Encoding::Utf32 => "utf-32",
     };
     json!(in alloc; {
         "capabilities": {
@@ -111,6 +108,14 @@ fn capabilities(
         },
         "serverInfo": {"name": "cedar-lsp"},
     })
+}
+
+fn edits_value(alloc: Global, edits: Vec<Edit>) -> Result<Value, AllocError> {
+    let mut values = Vec::new(alloc);
+    for edit in edits {
+        values.push(edit_value(alloc, edit)?)?;
+    }
+    Ok(Value::Array(values))
 }
 
 fn edit_value(alloc: Global, edit: Edit) -> Result<Value, AllocError> {

@@ -4,7 +4,7 @@ use Rattle.std.specs.Prelude.{slice_range}
 use Rattle.std.specs.Str.{IsCharBoundary}
 use Rattle.std.proofs.lemmas.Bool.{cases_lt}
 use Rattle.cedar_positions.specs.declared.positions.Encoding.{Encoding}
-use Rattle.cedar_positions.specs.declared.positions.Encoding.TheVariants.{Utf16, Utf8}
+use Rattle.cedar_positions.specs.declared.positions.Encoding.TheVariants.{Utf16, Utf8, Utf32}
 use Rattle.cedar_positions.specs.declared.positions.Position.{Position}
 use Rattle.cedar_positions.specs.Positions.{BeginsLine, IsOffsetOf, IsPlaceOnLine, IsPositionAt, IsPositionOf, ends_line, lines_before, unit_count, units}
 use Rattle.cedar_positions.specs.Laws.{IsInLineEnd}
@@ -42,6 +42,8 @@ IsOffsetOf-unique e text p a b (inr found) (inr other) =
 -- a byte that begins a character adds a unit or more
 begins-unit : (e : Encoding) (b : ℕ) → (128 ≤ b → 192 ≤ b) → 0 < unit_count e b
 begins-unit Utf8 b h = omega arith
+begins-unit Utf32 b h = elim (cases_lt b
+    128) [ inl low ↦ grind arith | inr high ↦ let top : 192 ≤ b = h high in grind arith ]
 begins-unit Utf16 b h = elim (cases_lt b
     128) [ inl low ↦ grind arith | inr high ↦ let top : 192 ≤ b = h high in grind arith ]
 
@@ -98,7 +100,7 @@ no_return text s at k out same from below return = elim (cases_lt (k + 1) at) [
 ]
 
 -- a place is the byte of its position
-own_place : (e : Encoding) (text : List ℕ) (at : ℕ) (p : Position) → IsCharBoundary text at
+pub own_place : (e : Encoding) (text : List ℕ) (at : ℕ) (p : Position) → IsCharBoundary text at
     → ¬ (IsInLineEnd text at) → IsPositionOf e text at p → IsOffsetOf e text p at
 own_place e text at p boundary out position = inr (
   position.start,

@@ -1,5 +1,5 @@
 -- Lines and units of a text.
-use Rattle.std.proofs.Common.{◌≡◌, ℕ, zero, suc, ◌+◌, ◌-◌, ◌<◌, ◌≤◌, true, false, List, length, get_or, take, drop, sum_by, ap, subst, ◌∙◌, inl, inr, arith, add-one}
+use Rattle.std.proofs.Common.{◌≡◌, ℕ, zero, suc, ◌+◌, ◌-◌, ◌<◌, ◌≤◌, true, false, cond, List, length, get_or, take, drop, sum_by, ap, subst, ◌∙◌, inl, inr, arith, add-one}
 use Rattle.std.specs.Prelude.{slice_range}
 use Rattle.std.proofs.lemmas.Bool.{cases_lt}
 use Rattle.std.proofs.lemmas.List.{get_or-drop}
@@ -74,3 +74,12 @@ units-le e text s i (suc j) from upto within = elim (cases_lt j i) [
 -- only an ASCII character ends a line
 pub ends_line-ascii : (text : List ℕ) (i : ℕ) → ends_line text i ≡ true → get_or text i 0 < 128
 ends_line-ascii text i ends = grind arith
+
+-- each line that ends takes a byte or more
+pub lines_before-within : (text : List ℕ) (n : ℕ) → lines_before text n ≤ n
+lines_before-within text zero = omega arith
+lines_before-within text (suc n) = elim (ends_line text n) as
+    (λ b. (cond b 1 0) + lines_before text n ≤ suc n) [
+      | true ↦ omega (arith, lines_before-within text n)
+      | false ↦ omega (arith, lines_before-within text n)
+    ]

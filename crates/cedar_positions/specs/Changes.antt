@@ -1,7 +1,8 @@
 -- Changes of a text.
-use Rattle.std.specs.Prelude.{◌≡◌, ℕ, List, [], ◌∷◌, ◌++◌, take, drop, max, string_bytes}
+use Rattle.std.specs.Prelude.{◌≡◌, ◌≤◌, ℕ, List, [], ◌∷◌, ◌++◌, take, drop, slice_range, max, string_bytes}
 use Rattle.cedar_positions.specs.declared.changes.Change.{Change}
 use Rattle.cedar_positions.specs.declared.changes.Change.TheVariants.{Whole, Part}
+use Rattle.cedar_positions.specs.declared.changes.Edit.{Edit}
 use Rattle.cedar_positions.specs.declared.changes.Range.{Range}
 use Rattle.cedar_positions.specs.declared.positions.Encoding.{Encoding}
 use Rattle.cedar_positions.specs.Positions.{IsOffsetOf}
@@ -23,3 +24,14 @@ Makes e (Part r text) old new = Puts e r (string_bytes text) old new
 abbrev pub MakeInTurn : Encoding → List Change → List ℕ → List ℕ → Type 0
 MakeInTurn e [] old new = new ≡ old
 MakeInTurn e (c ∷ cs) old new = (mid : List ℕ) × Makes e c old mid × MakeInTurn e cs mid new
+
+-- from the byte `from` of the old text on, the new one has each edit's text in place of its range: the ranges are in the old
+-- text, in order, and don't overlap
+abbrev pub PutsAllFrom : Encoding → List Edit → List ℕ → ℕ → List ℕ → Type 0
+PutsAllFrom e [] old from new = new ≡ drop from old
+PutsAllFrom e (edit ∷ edits) old from new = (a b : ℕ) × (rest : List ℕ) × IsOffsetOf e old edit.range.start a × IsOffsetOf e old edit.range.end b × (from ≤ a) × (a ≤ b)
+    × PutsAllFrom e edits old b rest × (new ≡ slice_range old from a ++ (string_bytes edit.text ++ rest))
+
+-- the new text has each edit's text in place of its range, and is otherwise the old one
+abbrev pub PutsAll : Encoding → List Edit → List ℕ → List ℕ → Type 0
+PutsAll e edits old new = PutsAllFrom e edits old 0 new

@@ -2,7 +2,8 @@
 use Rattle.std.specs.Prelude.{◌≡◌, ◌≢◌, ◌⊎◌, ℕ, zero, suc, ◌+◌, ◌<◌, ◌≤◌, Bool, ◌==◌, ◌&&◌, ◌||◌, not, nat_lt, if◌then◌else◌, List, length, sum_by, slice_index, slice_range}
 use Rattle.std.specs.Str.{IsCharBoundary}
 use Rattle.cedar_positions.specs.declared.positions.Encoding.{Encoding}
-use Rattle.cedar_positions.specs.declared.positions.Encoding.TheVariants.{Utf16, Utf8}
+use Rattle.cedar_positions.specs.declared.positions.Encoding.TheVariants.{Utf16, Utf8, Utf32}
+use Rattle.cedar_positions.specs.declared.positions.Line.{Line}
 use Rattle.cedar_positions.specs.declared.positions.Position.{Position}
 
 -- the byte at i is the last one of a line: a line feed, or a carriage return that no line feed follows
@@ -20,10 +21,18 @@ pub record BeginsLine (text : List ℕ) (line s : ℕ) : Type 0 where
   pub lines : lines_before text s ≡ line
   pub first : (k : ℕ) → k < s → lines_before text k < line
 
+-- the line of a place: the last one that begins at or before it
+pub record IsLineAt (text : List ℕ) (at : ℕ) (line : Line) : Type 0 where
+  pub begins : BeginsLine text line.number line.start
+  pub before : line.start ≤ at
+  pub number : lines_before text at ≡ line.number
+
 -- the units that a byte adds: in UTF-8 always one; in UTF-16 two for the first byte of a character of four bytes, one for
--- that of any other, and none for the other bytes of a character
+-- that of any other, and none for the other bytes of a character; in UTF-32 one for the first byte of a character, and none
+-- for the others
 abbrev pub unit_count : Encoding → ℕ → ℕ
 unit_count Utf8 b = 1
+unit_count Utf32 b = if nat_lt b 128 || not (nat_lt b 192) then 1 else 0
 unit_count Utf16 b = if nat_lt b 128 then 1 else (if nat_lt b 192 then 0 else (if nat_lt b 240 then 1 else 2))
 
 -- the units of a part of a text

@@ -21,6 +21,15 @@ pub enum Change {
     Part { range: Range, text: String },
 }
 
+/// A new text for a range.
+///
+/// The ranges of several edits are positions in the same text, each after the one before it, and don't overlap.
+#[derive(Debug, Drop)]
+pub struct Edit {
+    pub range: Range,
+    pub text: String,
+}
+
 /// The text after these changes, each applied to the result of the one before it. The only error is out of memory.
 pub fn changed_text(
     alloc: Global,

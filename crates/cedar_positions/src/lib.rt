@@ -5,5 +5,5 @@ mod changes;
 pub mod laws;
 mod positions;
 
-pub use changes::{Change, Range, changed_text};
-pub use positions::{Encoding, Position, offset_at, position_at};
+pub use changes::{Change, Edit, Range, changed_text};
+pub use positions::{Encoding, Line, Position, line_from, offset_at, position_at, position_on};

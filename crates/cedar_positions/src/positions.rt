@@ -1,7 +1,7 @@
 //! Positions in a text.
 ghost use Rattle.std.specs.Prelude.{◌≡◌, ◌<◌, ◌≤◌, length, IfSome, IfNone, MatchOption};
 ghost use Rattle.std.specs.Str.{IsCharBoundary};
-ghost use Rattle.cedar_positions.specs.Positions.{BeginsLine, IsOffsetOf, IsPlaceOnLine, IsPositionAt, ends_line, lines_before, unit_count, units};
+ghost use Rattle.cedar_positions.specs.Positions.{BeginsLine, IsLineAt, IsOffsetOf, IsPlaceOnLine, IsPositionAt, IsPositionOf, ends_line, lines_before, unit_count, units};
 
 /// The unit in which the characters of a line are counted.
 #[derive(Clone, Copy, PartialEq, Eq, Debug)]
@@ -10,6 +10,8 @@ pub enum Encoding {
     Utf16,
     /// The bytes of UTF-8.
     Utf8,
+    /// Characters.
+    Utf32,
 }
 
 /// A place in a text: its line and the units before it on that line, both from 0.
@@ -21,6 +23,21 @@ pub struct Position {
     pub character: usize,
 }
 
+/// A line of a text: its number, and the byte where it begins, both from 0.
+#[derive(Clone, Copy, PartialEq, Eq, Debug)]
+pub struct Line {
+    pub number: usize,
+    pub start: usize,
+}
+
+impl Line {
+    /// The first line.
+    pub const FIRST: Line = Line {
+        number: 0,
+        start: 0,
+    };
+}
+
 /// The position of the byte `at` of the text, counted from 0.
 ///
 /// A byte inside a character has the position where that character begins, and one past the end that where the text ends. A
@@ -29,11 +46,32 @@ pub fn position_at(text: &str, at: usize, encoding: Encoding) -> Position
     ensures { IsPositionAt encoding text.now at result }
 {
     let kept = text.floor_char_boundary(at);
+    let line = line_from(text, Line::FIRST, kept);
+    position_on(text, line, kept, encoding)
+}
+
+/// The line of the byte `at`, counted from 0, found by walking on from where `from` begins, or from the start if that is past it.
+///
+/// So the lines of many bytes in ascending order are found in one walk along the text.
+pub fn line_from(text: &str, from: Line, at: usize) -> Line
+    requires begins { BeginsLine text.now from.number from.start }
+    requires inside { at ≤ length text.now }
+    ensures { IsLineAt text.now at result }
+{
+    let from = if from.start <= at { from } else { Line::FIRST };
+    walk(text.as_bytes(), from, at)
+}
+
+/// The position of the byte `at`, counted from 0, which is on this line.
+pub fn position_on(text: &str, line: Line, at: usize, encoding: Encoding) -> Position
+    requires line { IsLineAt text.now at line }
+    requires inside { at ≤ length text.now }
+    ensures { IsPositionOf encoding text.now at result }
+{
     let bytes = text.as_bytes();
-    let (line, start) = line_at(bytes, kept);
     Position {
-        line,
-        character: units(&bytes[start..kept], encoding),
+        line: line.number,
+        character: units(&bytes[line.start..at], encoding),
     }
 }
 
@@ -70,6 +108,7 @@ fn unit_count(byte: u8, encoding: Encoding) -> usize
 {
     match encoding {
         Encoding::Utf8 => 1,
+        Encoding::Utf32 => { if byte < 0x80 || byte >= 0xc0 { 1 } else { 0 } }
         Encoding::Utf16 => {
             if byte < 0x80 {
                 1
@@ -95,22 +134,22 @@ fn units(bytes: &[u8], encoding: Encoding) -> usize
     count
 }
 
-// The number of the line at a place, and where it begins.
-fn line_at(bytes: &[u8], at: usize) -> (usize, usize)
-    requires { at ≤ length bytes.now }
-    ensures line { lines_before bytes.now at ≡ result.0 }
-    ensures begins { BeginsLine bytes.now result.0 result.1 }
-    ensures before { result.1 ≤ at }
+// The line of the byte `at`, found by walking on from where `from` begins.
+fn walk(bytes: &[u8], from: Line, at: usize) -> Line
+    requires begins { BeginsLine bytes.now from.number from.start }
+    requires order { from.start ≤ at }
+    requires inside { at ≤ length bytes.now }
+    ensures { IsLineAt bytes.now at result }
 {
-    let mut line = 0;
-    let mut start = 0;
-    for i in 0..at {
+    let mut number = from.number;
+    let mut start = from.start;
+    for i in from.start..at {
         if ends_line(bytes, i) {
-            line += 1;
+            number += 1;
             start = i + 1;
         }
     }
-    (line, start)
+    Line { number, start }
 }
 
 // Where a line begins; `None` for one past the last.

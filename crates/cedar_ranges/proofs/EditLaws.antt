@@ -12,13 +12,13 @@ use Rattle.cedar_pieces.specs.Pieces.{IsPiece}
 use Rattle.cedar_cst.specs.PolicyReaders.{EndsPiece}
 use Rattle.cedar_policy_formatter.specs.Compared.{HaveEqualLists}
 use Rattle.cedar_ranges.specs.Pieces.{ArePieces, IsTouchedSpan}
-use Rattle.cedar_ranges.specs.Edits.{IsPartOf, edited, within, feeds_after, LaysOut, LaysOutPolicies}
+use Rattle.cedar_edits.specs.Edits.{IsPartOf, edited, within}
+use Rattle.cedar_ranges.specs.Edits.{feeds_after, LaysOut, LaysOutPolicies}
 use Rattle.cedar_ranges.specs.Inside.Parts.{HoldsPieces}
-use Rattle.cedar_cst.proofs.Places.{place_accepted, place_boundary}
+use Rattle.cedar_cst.proofs.Places.{place_accepted}
 use Rattle.cedar_ranges.proofs.Chains.{chain_parts, chain_place, chain_piece}
 use Rattle.cedar_ranges.proofs.Keeping.{Alike, equal_lists, laid_out_alike, same_alike}
 use Rattle.cedar_ranges.proofs.Standing.{stands_in_output}
-use Rattle.cedar_cst.proofs.Readers.{ends_inside, ends_more}
 
 -- a range touches whole pieces
 pub touched_pieces : (text : List ℕ) (range span : Span) → IsTouchedSpan text range span
@@ -56,29 +56,6 @@ ends_order : (text : List ℕ) (range span : Span) → IsTouchedSpan text range 
     → span.start ≤ span.end
 ends_order text range span t = omega (arith, t.end)
 
--- so the span is a part of the text
-pub part_of_text : (text : List ℕ) (range span : Span) → IsUtf8 text → Accepted text
-    → IsTouchedSpan text range span → IsPartOf text span
-part_of_text text range span u a t = record {
-  order = order;
-  inside = ends_inside text span.end (last held.pieces);
-  first = place_boundary text span.start held.first u a;
-  last = place_boundary text span.end (last held.pieces) u a;
-}
-  where
-    order : span.start ≤ span.end
-    order = ends_order text range span t
-
-    held : HoldsPieces text span
-    held = touched_pieces text range span t
-
-    last : (span.start ≡ span.end) ⊎ IsPiece (drop span.start text) (span.end - span.start)
-        → EndsPiece text span.end
-    last (inl e) = subst (EndsPiece text) e held.first
-    last (inr p) =
-        let e : span.start + (span.end - span.start) ≡ span.end = omega (arith, order) in
-        subst (EndsPiece text) e (ends_more text span.start (span.end - span.start) held.first p)
-
 -- ---- edits
 
 -- the pieces of a span that is not empty
@@ -93,29 +70,28 @@ pieces_accepted text span a h l = (place_accepted (drop span.start text) (span.e
 
 -- what is laid out for a span
 pub lays_out : (w : ℕ) (i : ℤ) (text : List ℕ) (span : Span) (out bytes : List ℕ) → IsUtf8 text
-    → Accepted text → HoldsPieces text span → span.start < span.end
+    → HoldsPieces text span → span.start < span.end
     → IsOutputOf w i (within text span) out → bytes ≡ feeds_after (take span.start text) ++ out
     → LaysOut w i text span bytes
-lays_out w i text span out bytes u a h l o e = record {
+lays_out w i text span out bytes u h l o e = record {
   out = out;
   output = o;
-  stands = stands_in_output w i text span.start (span.end - span.start) out u a h.first
-      (pieces_of text span h l) o;
+  stands = λ whole is_whole. stands_in_output w i text span.start (span.end - span.start) out u
+      is_whole.accepted h.first (pieces_of text span h l) o whole is_whole;
   after_feeds = e;
 }
 
 -- the text with the edit applied is accepted and has the list of the text
 pub edit_alike : (w : ℕ) (i : ℤ) (text : List ℕ) (range span : Span) (bytes : List ℕ) → IsUtf8 text
-    → Accepted text → IsTouchedSpan text range span → LaysOutPolicies w i text span bytes
-    → Alike text (edited text span bytes)
-edit_alike w i text range span bytes u a t (inl (e, n)) =
+    → Accepted text → IsPartOf text span → IsTouchedSpan text range span
+    → LaysOutPolicies w i text span bytes → Alike text (edited text span bytes)
+edit_alike w i text range span bytes u a part t (inl (e, n)) =
     let same : text ≡ edited text span bytes =
     sym (take-append-drop span.start text) ∙ (ap (λ k. take span.start text ++ drop k text) e
     ∙ ap (λ z. take span.start text ++ (z ++ drop span.end text)) (sym n)) in
     subst (Alike text) same (same_alike text a)
-edit_alike w i text range span bytes u a t (inr (l, k)) =
+edit_alike w i text range span bytes u a part t (inr (l, k)) =
     let h = touched_pieces text range span t in
-    let part = part_of_text text range span u a t in
     let end : span.start + (span.end - span.start) ≡ span.end = omega (arith, l) in
     let alike = laid_out_alike w i text span.start (span.end - span.start) k.out a h.first
     (pieces_of text span h l)

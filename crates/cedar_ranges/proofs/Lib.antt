@@ -7,3 +7,6 @@ pub mod ListLaws
 pub mod EditLaws
 pub mod LastBytes
 pub mod OnlyMemory
+pub mod LineEnds
+pub mod Named
+pub mod Wholes

@@ -2,11 +2,12 @@
 use Rattle.std.proofs.Common.{◌≡◌, ◌≤◌, ◌<◌, ◌+◌, ℕ, List, [], ◌∷◌, ◌++◌, length, take, drop, refl, ap, sym, ◌∙◌, subst, arith, inl, inr, append_assoc, append-nil}
 use Rattle.std.specs.Prelude.{◌⊎◌}
 use Rattle.std.specs.List.{sum_by}
-use Rattle.std.proofs.lemmas.List.{drop-drop}
+use Rattle.std.proofs.lemmas.List.{drop-drop, length-take-le}
 use Rattle.std.proofs.lemmas.List.Sums.{sum_by-append, sum_by-cons}
 use Rattle.cedar_tokens.specs.declared.token.Span.{Span}
-use Rattle.cedar_pieces.specs.Pieces.{IsFirstPiece}
-use Rattle.cedar_ranges.specs.Pieces.{ArePieces, EachPiece, Touches, StartsAfter, EndsBefore}
+use Rattle.cedar_parser_steps.specs.Tokens.{HasTokens}
+use Rattle.cedar_pieces.specs.Pieces.{HasNoPiece, IsFirstPiece}
+use Rattle.cedar_ranges.specs.Pieces.{ArePieces, EachPiece, IsTouchedSpan, Touches, StartsAfter, EndsBefore}
 use Rattle.cedar_ranges.specs.Inside.Growing.{Grows}
 use Rattle.cedar_ranges.proofs.Chains.{chain_more, each_more}
 
@@ -171,3 +172,33 @@ module _ (text : List ℕ) (range span : Span) (at : ℕ) (t : TouchedSoFar text
       subst (λ s. TouchedSoFar text range s (at + length p)) (sym e) (piece_touched h)
   touched_more new (inr (inr (h, e))) =
       subst (λ s. TouchedSoFar text range s (at + length p)) (sym e) (piece_left h)
+
+-- one more piece by its length
+pub touched_piece : (text : List ℕ) (range span : Span) (at n : ℕ)
+    → TouchedSoFar text range span at → IsFirstPiece (drop at text) n
+    → n ≤ length (drop at text) → (new : Span)
+    → Grows range span (record { start = at; end = at + n }) new → TouchedSoFar text range new (at + n)
+touched_piece text range span at n t first inside new grows =
+    let p = take n (drop at text) in
+    let size : length p ≡ n = length-take-le n (drop at text) inside in
+    subst (λ k. TouchedSoFar text range new (at + k)) size (touched_more text range span at t p
+    (subst (IsFirstPiece (drop at text)) (sym size) first)
+    (ap (λ k. take k (drop at text)) (sym size)) new
+    (subst (λ k. Grows range span (record { start = at; end = at + k }) new) (sym size) grows))
+
+-- at the end
+pub all_touched : (text : List ℕ) (range span : Span) (at : ℕ) → TouchedSoFar text range span at
+    → (HasTokens (drop at text) → HasNoPiece (drop at text)) → IsTouchedSpan text range span
+all_touched text range span at t no_more = record {
+  before = t.before;
+  touched = t.touched;
+  after = t.after;
+  rest = drop at text;
+  pieces = t.pieces;
+  no_more = no_more;
+  start = t.start;
+  end = t.end;
+  passed = t.passed;
+  met = t.met;
+  left = t.left;
+}

@@ -1,31 +1,15 @@
 -- A text with some of its policies laid out.
-use Rattle.std.specs.Prelude.{◌≡◌, ◌≤◌, ◌<◌, ◌-◌, ◌⊎◌, ◌==◌, ℕ, ℤ, List, [], ◌∷◌, ◌++◌, length, take, drop, if◌then◌else◌}
-use Rattle.std.specs.Str.{IsCharBoundary}
+use Rattle.std.specs.Prelude.{◌≡◌, ◌<◌, ◌⊎◌, ◌==◌, ℕ, ℤ, List, [], ◌∷◌, ◌++◌, if◌then◌else◌}
 use Rattle.cedar_tokens.specs.Bytes.{line_feed}
 use Rattle.cedar_tokens.specs.declared.token.Span.{Span}
 use Rattle.cedar_layout.specs.Cleaning.{last_byte_or}
 use Rattle.cedar_laws.specs.Canonical.{IsOutputOf}
-
--- the span lies in the text, on character boundaries
-pub record IsPartOf (text : List ℕ) (span : Span) : Type 0 where
-  pub order : span.start ≤ span.end
-  pub inside : span.end ≤ length text
-  pub first : IsCharBoundary text span.start
-  pub last : IsCharBoundary text span.end
-
--- what a text has before a span, in it and after it
-abbrev pub before : List ℕ → Span → List ℕ
-before text span = take span.start text
-
-abbrev pub within : List ℕ → Span → List ℕ
-within text span = take (span.end - span.start) (drop span.start text)
-
-abbrev pub after : List ℕ → Span → List ℕ
-after text span = drop span.end text
-
--- the text with these bytes in place of the span, and all others unchanged
-abbrev pub edited : List ℕ → Span → List ℕ → List ℕ
-edited text span bytes = before text span ++ (bytes ++ after text span)
+use Rattle.cedar_tree.specs.declared.error.FormatError.{FormatError}
+use Rattle.cedar_tree.specs.Refusals.{Refuses}
+use Rattle.cedar_edits.specs.Edits.{before, edited, within}
+use Rattle.cedar_edits.specs.Returns.{with_returns}
+use Rattle.cedar_ranges.specs.Keeping.{InLineEnds}
+use Rattle.cedar_ranges.specs.Pieces.{IsTouchedSpan}
 
 -- the line feeds that make an empty line after a text: none at its start, one at the start of a line, and otherwise two
 abbrev pub feeds_after : List ℕ → List ℕ
@@ -46,3 +30,24 @@ pub record LaysOut (width : ℕ) (indent : ℤ) (text : List ℕ) (span : Span) 
 -- the policies in the span, if any, are laid out; otherwise the result is empty
 abbrev pub LaysOutPolicies : ℕ → ℤ → List ℕ → Span → List ℕ → Type 0
 LaysOutPolicies width indent text span bytes = ((span.start ≡ span.end) × (bytes ≡ [])) ⊎ ((span.start < span.end) × LaysOut width indent text span bytes)
+
+-- the result is the output of the text, in the text's line ends
+pub record IsFormattedOf (width : ℕ) (indent : ℤ) (text result : List ℕ) : Type 0 where
+  pub out : List ℕ
+  pub output : IsOutputOf width indent text out
+  pub ends : InLineEnds text out (with_returns out) result
+
+-- the result is the text with the policies laid out that the range touches, in the text's line ends, and all other bytes unchanged
+pub record IsFormattedAt (width : ℕ) (indent : ℤ) (text : List ℕ) (range : Span) (result : List ℕ) : Type 0 where
+  pub span : Span
+  pub touched : IsTouchedSpan text range span
+  pub bytes : List ℕ
+  pub layout : LaysOutPolicies width indent text span bytes
+  pub ends : InLineEnds text (edited text span bytes) (edited text span (with_returns bytes)) result
+
+-- the range touches policies of the text, which are refused by themselves, and why: the place is counted from their start
+pub record IsRefusedAt (text : List ℕ) (range : Span) (why : FormatError) : Type 0 where
+  pub span : Span
+  pub touched : IsTouchedSpan text range span
+  pub some : span.start < span.end
+  pub refused : Refuses (within text span) why

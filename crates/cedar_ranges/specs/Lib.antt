@@ -1,3 +1,4 @@
+pub mod Keeping
 pub mod Pieces
 pub mod Edits
 pub mod Laws

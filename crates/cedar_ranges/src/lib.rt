@@ -1,11 +1,12 @@
-//! Formatting of a part of a text: the policies touched by a range, and the edit that lays them out.
+//! Edits that format a text, or a part of it: the policies touched by a range.
 #![tactic(auto)]
 
-mod edits;
+mod ends;
+mod format;
 mod laws;
+mod pieces;
+mod touched;
 
-pub use edits::{Edit, format_range};
+pub use cedar_edits::{Edit, apply_edits};
+pub use format::{format_range, format_text};
 pub use laws::edits_keep_the_output;
-
-#[cfg(test)]
-mod tests;

@@ -9,11 +9,11 @@ mod server;
 mod session;
 
 pub use cedar_policy_formatter::FormatError;
-pub use cedar_positions::{Change, Encoding, Position, Range, offset_at, position_at};
+pub use cedar_positions::{Change, Edit, Encoding, Position, Range, offset_at, position_at};
 pub use documents::{Document, Documents};
 pub use messages::{
-    Answer, ClientMessage, ClientOptions, Diagnosis, Edit, Failure, Fault, Id, Notification,
-    Request, ServerMessage, Unread, Wishes,
+    Answer, ClientMessage, ClientOptions, Diagnosis, Failure, Fault, Id, Notification, Request,
+    ServerMessage, Unread, Wishes,
 };
 pub use server::{Phase, Server};
 pub use session::{Client, Received, serve};

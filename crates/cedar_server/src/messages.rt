@@ -1,6 +1,6 @@
 //! What a client and the server say.
 use cedar_policy_formatter::FormatError;
-use cedar_positions::{Change, Encoding, Range};
+use cedar_positions::{Change, Edit, Encoding, Range};
 
 /// The id of a request, as its client chose it.
 #[derive(Debug, PartialEq, Drop)]
@@ -97,13 +97,6 @@ pub enum ClientMessage {
     Unread(Unread),
 }
 
-/// A new text for a range of a document.
-#[derive(Debug, Drop)]
-pub struct Edit {
-    pub range: Range,
-    pub text: String,
-}
-
 /// Why a request fails.
 #[derive(Clone, Copy, Debug, PartialEq, Eq)]
 pub enum Failure {
@@ -131,12 +124,10 @@ pub enum Answer {
         encoding: Encoding,
         formats_on_save: bool,
     },
-    /// There is nothing to say: after `shutdown`, and if a document to be formatted is refused.
+    /// There is nothing to say: after `shutdown`, and if what is to be formatted is refused.
     Nothing,
-    /// The document, or its part, is already formatted.
-    NoEdit,
-    /// This edit formats it.
-    Edit(Edit),
+    /// These edits format the document, or a part of it; there are none if it is formatted.
+    Edits(Vec<Edit>),
     Failure(Failure),
 }
 

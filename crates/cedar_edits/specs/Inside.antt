@@ -1,0 +1,3 @@
+-- Definitions used only by private contracts.
+pub mod Before
+pub mod Trims

@@ -1,0 +1,4 @@
+pub mod Edits
+pub mod Inside
+pub mod Lines
+pub mod Returns

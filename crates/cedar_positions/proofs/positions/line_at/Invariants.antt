@@ -1,7 +1,0 @@
-use Rattle.std.proofs.Common.{◌≡◌, ◌≤◌}
-use Rattle.cedar_positions.specs.Positions.{BeginsLine, lines_before}
-use Rattle.cedar_positions.proofs.positions.line_at.Given as goal
-
-abbrev pub invariant-loop-i : goal.invariant-loop-i
-invariant-loop-i l = (lines_before l.bytes l.i ≡ l.line) × BeginsLine l.bytes l.line l.start
-    × (l.start ≤ l.i) × (l.line ≤ l.i)

@@ -1,0 +1,41 @@
+//! The part of a text that a range touches.
+ghost use Rattle.std.specs.Prelude.{IfOk};
+ghost use Rattle.cedar_edits.specs.Edits.{IsNamedPart};
+ghost use Rattle.cedar_ranges.specs.Pieces.{IsTouchedSpan};
+ghost use Rattle.cedar_ranges.specs.Inside.Growing.{Grows};
+
+use cedar_pieces::pieces::read_piece;
+use cedar_policy_formatter::token::Span;
+use std::alloc::{AllocError, Global};
+
+// The span of the pieces touched by the range.
+pub(crate) fn touched_span(alloc: Global, text: &str, range: Span) -> Result<Span, AllocError>
+    ensures span { IfOk result (λ span. IsTouchedSpan text.now range span) }
+    ensures part { IfOk result (λ span. IsNamedPart text.now span) }
+{
+    let mut lexemes = Vec::new(alloc);
+    let mut at = 0;
+    let mut span = Span { start: 0, end: 0 };
+    'pieces: while let Some(len) = read_piece(&text[at..], &mut lexemes)? {
+        let end = at + len;
+        span = with_piece(span, Span { start: at, end }, range);
+        at = end;
+    }
+    Ok(span)
+}
+
+// The span of the pieces touched so far, with one more piece after them.
+fn with_piece(span: Span, piece: Span, range: Span) -> Span
+    ensures { Grows range span piece result }
+{
+    if piece.end <= range.start {
+        Span {
+            start: piece.end,
+            end: piece.end,
+        }
+    } else if piece.start < range.end || piece.start <= range.start {
+        span.to(piece.end)
+    } else {
+        span
+    }
+}
