@@ -2,6 +2,9 @@ mod SampleTokens
 mod Deciding
 mod KindLists
 mod NameLists
+mod Groups
+mod Listings
+mod Tokens
 mod Following
 mod Splits
 mod Begun
