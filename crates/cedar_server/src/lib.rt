@@ -3,6 +3,7 @@
 
 mod diagnosis;
 mod formatting;
+mod marks;
 mod messages;
 mod server;
 
