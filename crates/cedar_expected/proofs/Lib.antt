@@ -6,9 +6,9 @@ mod Groups
 mod Listings
 mod Tokens
 mod Following
-mod Splits
+pub mod Splits
 mod Begun
 mod Rests
 mod Probed
 mod FirstUnits
-mod RightAfter
+pub mod RightAfter

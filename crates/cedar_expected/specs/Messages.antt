@@ -4,6 +4,7 @@ use Rattle.std.specs.Borrow.{Bor}
 use Rattle.std.specs.Char.{encode_utf8, is_control}
 use Rattle.std.specs.Int.{is_in_range}
 use Rattle.std.specs.Fmt.{digits}
+use Rattle.cedar_tokens.specs.Bytes.{line_feed, carriage_return}
 use Rattle.cedar_tokens.specs.declared.kind.Kind.TheVariants as K
 use Rattle.cedar_expected.specs.declared.kinds.Name.{Name}
 use Rattle.cedar_expected.specs.declared.kinds.Name.TheVariants.{Policy, Condition, Word, Expression, Operand, FlatOperand, Identifier, Operator, ArithmeticOrLogical, Token}
@@ -50,9 +51,12 @@ is_hidden c = is_control c || is_format c
 abbrev pub escaped : ℕ → List ℕ
 escaped c = codes "\\u{" ++ digits 16 false c ++ codes "}"
 
+abbrev pub tab : ℕ
+tab = 9
+
 -- a character in a message: a hidden one is escaped
 abbrev pub shown_character : ℕ → List ℕ
-shown_character c = if c == 10 then codes "\\n" else (if c == 13 then codes "\\r" else (if c == 9 then codes "\\t" else (if is_hidden c then escaped c else encode_utf8 c)))
+shown_character c = if c == line_feed then codes "\\n" else (if c == carriage_return then codes "\\r" else (if c == tab then codes "\\t" else (if is_hidden c then escaped c else encode_utf8 c)))
 
 -- so many characters in a message, and dots in place of any more
 abbrev pub shown : ℕ → List ℕ → List ℕ
