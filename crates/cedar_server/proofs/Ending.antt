@@ -1,8 +1,7 @@
 -- Where units begin, and where the last token of some units ends.
-use Rattle.std.proofs.Common.{◌≡◌, ◌<◌, ◌≤◌, ◌+◌, true, false, ℕ, List, [], ◌∷◌, ◌++◌, Option, Some, None, MatchOption, length, map, take, drop, refl, ap, sym, ◌∙◌, arith, subst, append_assoc, append-nil}
+use Rattle.std.proofs.Common.{◌≡◌, ◌<◌, ◌≤◌, ◌+◌, true, false, ℕ, List, [], ◌∷◌, ◌++◌, Option, Some, None, length, refl, ap, ◌∙◌, arith, append_assoc, append-nil}
 use Rattle.std.specs.List.{sum_by}
-use Rattle.std.specs.Str.{IsUtf8, IsCharBoundary}
-use Rattle.std.proofs.lemmas.List.{length-drop}
+use Rattle.std.specs.Str.{IsUtf8}
 use Rattle.std.proofs.lemmas.List.Elements.{filter-append}
 use Rattle.cedar_tokens.specs.Units as U
 use Rattle.cedar_tokens.specs.Units.{is_token, IsToken, IsFirstUnit, BeginsNoUnit}
@@ -11,12 +10,11 @@ use Rattle.cedar_tokens.specs.UnitSteps.{unit_text}
 use Rattle.cedar_tokens.specs.declared.units.Unit.{Unit}
 use Rattle.cedar_tokens.proofs.FirstUnit.{unit_nonempty}
 use Rattle.cedar_tokens.proofs.UnitsSoFar.{texts, texts_more, EndsAt, whole, stuck, units_length}
-use Rattle.cedar_tree.specs.declared.error.FormatError.{FormatError}
-use Rattle.cedar_tree.specs.declared.error.FormatError.TheVariants.{UnknownCharacter, UnfinishedString, NumberTooLarge, Grammar, TooDeep}
+use Rattle.cedar_tree.specs.declared.error.FormatError.TheVariants.{Grammar, TooDeep}
 use Rattle.cedar_tree.specs.Refusals.{Refuses}
 use Rattle.cedar_grammar.specs.Texts.{only_tokens, LeaveAfter}
 use Rattle.cedar_grammar.specs.Numbers.{IsFirstTooLarge}
-use Rattle.cedar_expected.proofs.Splits.{Cut, cut}
+use Rattle.cedar_expected.proofs.Splits.{cut}
 use Rattle.cedar_server.specs.Marks.{EndsLastToken}
 use Rattle.cedar_server.specs.Inside.Ends.{HasUnitAt, EndsLast}
 

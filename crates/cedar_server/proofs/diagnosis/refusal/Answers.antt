@@ -1,5 +1,4 @@
-use Rattle.std.proofs.Common.{◌<◌, ◌++◌, [], ◌∷◌, length, arith, ap, subst}
-use Rattle.cedar_tree.specs.Refusals.{Refuses, OutOfMemoryOr}
+use Rattle.std.proofs.Common.{◌<◌, ◌++◌, [], ◌∷◌, length, arith, ap}
 use Rattle.cedar_cst.specs.PolicyReaders.{HasPolicies, HasRead}
 use Rattle.cedar_cst.proofs.Readers.{ends_inside}
 use Rattle.cedar_expected.proofs.RightAfter.{policies_accepted}

@@ -1,5 +1,4 @@
-use Rattle.std.proofs.Common.{◌≡◌, ◌<◌, arith, inl, inr, Some}
-use Rattle.cedar_server.specs.Inside.Ends.{EndsLastOf}
+use Rattle.std.proofs.Common.{arith, inl}
 use Rattle.cedar_server.proofs.Ending.{last_nonempty}
 use Rattle.cedar_server.proofs.marks.last_character.Goals as goal
 

@@ -1,7 +1,5 @@
-use Rattle.std.proofs.Common.{◌≡◌, ◌≢◌, rules, refl, subst, sym}
+use Rattle.std.proofs.Common.{◌≡◌, ◌≢◌, rules}
 use Rattle.cedar_tokens.specs.declared.lexer.UnitKind.TheVariants.{Token}
-use Rattle.cedar_tokens.specs.UnitSteps.{unit_text}
-use Rattle.cedar_tokens.specs.Units.{IsToken}
 use Rattle.cedar_tokens.proofs.Streaming.{no_token}
 use Rattle.cedar_tokens.proofs.UnitsSoFar.{texts, place_more, so_far}
 use Rattle.cedar_server.proofs.Ending.{last_here, last_before, ended}

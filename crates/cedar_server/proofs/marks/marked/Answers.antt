@@ -1,4 +1,4 @@
-use Rattle.std.proofs.Common.{◌≡◌, ◌≤◌, length, arith, inl, inr, subst, sym}
+use Rattle.std.proofs.Common.{arith, inl, inr, subst, sym}
 use Rattle.cedar_tree.specs.declared.error.FormatError.TheVariants.{Grammar}
 use Rattle.cedar_tree.specs.Refusals.{Refuses}
 use Rattle.cedar_server.specs.Marks.{Marks}
