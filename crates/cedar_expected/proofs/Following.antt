@@ -10,7 +10,7 @@ use Rattle.cedar_grammar.specs.Beginnings.{Begins}
 use Rattle.cedar_grammar.specs.Texts.{greatest_depth, only_tokens}
 use Rattle.cedar_grammar.proofs.Texts.Accepted.{are_tokens}
 use Rattle.cedar_expected.specs.Expectations.{CanFollow, AreAllAfter}
-use Rattle.cedar_expected.specs.Inside.Samples.{all_kinds, sample}
+use Rattle.cedar_expected.specs.Samples.{all_kinds, sample}
 use Rattle.cedar_expected.proofs.SampleTokens.{sample_token, sample_kind}
 use Rattle.cedar_expected.proofs.Deciding.{can_begin, begins, with_token, kind_decides}
 use Rattle.cedar_expected.proofs.KindLists.{all_listed, filter_has, has_filter, filter_ordered}

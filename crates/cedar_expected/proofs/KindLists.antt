@@ -17,7 +17,7 @@ use Rattle.cedar_tokens.specs.Kinds.{is, code}
 use Rattle.cedar_grammar.proofs.KindSets.{every_kind}
 use Rattle.cedar_grammar.proofs.Booleans.{and_first as and_left, and_second as and_right}
 use Rattle.cedar_parser_steps.proofs.Steps.{kind_test, kind_is, is_itself}
-use Rattle.cedar_expected.specs.Inside.Samples.{all_kinds}
+use Rattle.cedar_expected.specs.Samples.{all_kinds}
 
 is_decides : (a b : Kind) → Decides (is a b) (a ≡ b)
 is_decides a b = (λ e. kind_is a b e, λ e. is_itself a b e)

@@ -2,10 +2,13 @@ mod SampleTokens
 mod Deciding
 mod KindLists
 mod NameLists
+mod Groups
+mod Listings
+mod Tokens
 mod Following
-mod Splits
+pub mod Splits
 mod Begun
 mod Rests
 mod Probed
 mod FirstUnits
-mod RightAfter
+pub mod RightAfter

@@ -19,7 +19,7 @@ use Rattle.cedar_tree.specs.Laws.{AcceptedIsNotRefused}
 use Rattle.cedar_parser_steps.specs.Tokens.{HasTokens}
 use Rattle.cedar_expected.specs.Expectations.{IsList, AreAllAfter}
 use Rattle.cedar_expected.specs.Inside.Beginnings.{IsPlaceOf, OfTokens, TokensBegin, TokensBeginWith, HasTree, KindsFollow}
-use Rattle.cedar_expected.specs.Inside.Samples.{all_kinds, sample}
+use Rattle.cedar_expected.specs.Samples.{all_kinds, sample}
 use Rattle.cedar_expected.proofs.Splits.{more_units, more_split, more_tokens, more_fit}
 use Rattle.cedar_expected.proofs.Begun.{list_begins, accepted_list, list_accepted, leaves_end, end_leaves, refused_begins}
 use Rattle.cedar_expected.proofs.Following.{follows, is_follows, all_after}

@@ -39,7 +39,8 @@ use Rattle.cedar_tokens.proofs.UnitsSoFar.{scan_utf8}
 text_of : Placed → List ℕ
 text_of t = t.text
 
-policies_accepted : (text : List ℕ) (ps : List (Node Policy)) → HasPolicies text ps → Accepted text
+pub policies_accepted : (text : List ℕ) (ps : List (Node Policy)) → HasPolicies text ps
+    → Accepted text
 unfolding text_of
 policies_accepted text ps h = (
   relabel text_of h.tree,

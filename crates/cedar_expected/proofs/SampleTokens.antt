@@ -5,7 +5,7 @@ use Rattle.cedar_tokens.specs.Units.{IsToken, slots, punctuators}
 use Rattle.cedar_tokens.specs.declared.kind.Kind.{Kind}
 use Rattle.cedar_tokens.specs.declared.kind.Kind.TheVariants as K
 use Rattle.cedar_tokens.specs.TokenKinds.{kind_of}
-use Rattle.cedar_expected.specs.Inside.Samples.{sample}
+use Rattle.cedar_expected.specs.Samples.{sample}
 
 pub sample_token : (k : Kind) → IsToken (sample k)
 unfolding slots punctuators

@@ -1,5 +1,5 @@
 -- Definitions used only by private contracts.
-pub mod Samples
+pub mod Separators
 pub mod Beginnings
 pub mod Firsts
 pub mod Leaving

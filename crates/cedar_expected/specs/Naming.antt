@@ -1,5 +1,6 @@
 -- What a message names: kinds of tokens that share a word, or one kind.
-use Rattle.std.specs.Prelude.{Bool, ◌||◌, IsTrue, List, Contains, All, Any}
+use Rattle.std.specs.Prelude.{◌≡◌, Bool, not, ◌||◌, IsTrue, List, [], ◌∷◌, ◌++◌, Contains, All, Any}
+use Rattle.std.specs.List.{filter}
 use Rattle.cedar_tokens.specs.declared.kind.Kind.{Kind}
 use Rattle.cedar_tokens.specs.declared.kind.Kind.TheVariants as K
 use Rattle.cedar_tokens.specs.Kinds.{is, is_boolean, is_ident, is_any_word, is_effect, is_cond_word, is_comparison}
@@ -40,7 +41,26 @@ names (Token k) x = is k x
 abbrev pub AreIn : List Kind → Name → Type 0
 AreIn kinds name = (k : Kind) → IsTrue (names name k) → Contains kinds k
 
--- each name names only kinds of the list, and each kind of the list has a name
+-- the names of several kinds: of two that share kinds, the one with more of them comes first
+abbrev pub groups : List Name
+groups = Word ∷ Expression ∷ Operand ∷ FlatOperand ∷ Operator ∷ ArithmeticOrLogical ∷ Identifier ∷ Policy ∷ Condition ∷ []
+
+-- the name of a kind of the list: of the groups and the kind alone, the first that names it and only kinds of the list
+pub record IsNameOf (kinds : List Kind) (kind : Kind) (name : Name) : Type 0 where
+  pub named : IsTrue (names name kind)
+  pub within : AreIn kinds name
+  pub before : List Name
+  pub after : List Name
+  pub place : before ++ name ∷ after ≡ groups ++ Token kind ∷ []
+  pub first : All (λ group. IsTrue (names group kind) → ¬ (AreIn kinds group)) before
+
+-- the names of some kinds of the list: that of the first of them, and those of the others that it doesn't name
+abbrev pub AreNamesOf : List Kind → List Kind → List Name → Type 0
+AreNamesOf kinds some [] = some ≡ []
+AreNamesOf kinds some (name ∷ more) = (first : Kind) × (others : List Kind) × (some ≡ first ∷ others) × IsNameOf kinds first name × AreNamesOf kinds (filter (λ k. not (names name k)) others) more
+
+-- each name names only kinds of the list, and each kind of the list has a name; which names these are, and their order
 pub record AreNamed (kinds : List Kind) (all : List Name) : Type 0 where
   pub within : All (AreIn kinds) all
   pub named : (k : Kind) → Contains kinds k → Any (λ name. IsTrue (names name k)) all
+  pub exact : AreNamesOf kinds kinds all

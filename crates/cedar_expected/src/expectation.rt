@@ -11,7 +11,8 @@ pub struct Expected<'src> {
     /// The kinds of the tokens that could come there: all that come next in some accepted list beginning with the tokens
     /// before the place.
     pub kinds: Kinds,
-    /// The names of these kinds in a message.
+    /// The names of these kinds in a message: that of the first kind, then those of the kinds that it doesn't name, in the
+    /// order of `Kind`.
     pub names: Vec<Name>,
     /// Whether the text could end there: whether the tokens before the place are an accepted list. Never true if no token is
     /// there.

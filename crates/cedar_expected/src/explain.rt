@@ -9,7 +9,7 @@ use std::alloc::{AllocError, Global};
 /// A sentence for people about the refusal `error` of `text`, without the place. If the text leaves the grammar, it says
 /// what was expected there.
 pub fn explain(alloc: Global, text: &str, error: FormatError) -> Result<String, AllocError>
-    ensures { IfOk result (λ said. IsSaid error (string_bytes said)) }
+    ensures { IfOk result (λ said. IsSaid text.now error (string_bytes said)) }
 {
     if let FormatError::Grammar { .. } = error {
         if let Some(expected) = expected(alloc, text)? {

@@ -1,6 +1,7 @@
 //! Sets of kinds of tokens, and how a message names them.
-ghost use Rattle.std.specs.Prelude.{◌≡◌, ◌↔◌, Contains, Any, IsTrue, IfOk};
-ghost use Rattle.cedar_expected.specs.Naming.{names, AreIn, AreNamed, is_flat, is_opening, is_arithmetic_or_logical, is_relational};
+ghost use Rattle.std.specs.Prelude.{◌≡◌, ◌↔◌, Contains, IsTrue, IfOk};
+ghost use Rattle.std.specs.List.{list_any};
+ghost use Rattle.cedar_expected.specs.Naming.{names, groups, AreIn, AreNamed, IsNameOf, is_flat, is_opening, is_arithmetic_or_logical, is_relational};
 
 use crate::samples::all_kinds;
 use cedar_grammar::kind::begins_expression;
@@ -82,8 +83,7 @@ impl Kinds {
     /// The name that a message uses for a kind of the set: for several kinds all in the set, or for this kind alone.
     pub fn name(&self, kind: Kind) -> Name
         requires { Contains self.now.items.items kind }
-        ensures named { IsTrue (names result kind) }
-        ensures within { AreIn self.now.items.items result }
+        ensures { IsNameOf self.now.items.items kind result }
     {
         for group in groups() {
             if group.has(kind) && self.have_all(group) {
@@ -94,7 +94,8 @@ impl Kinds {
     }
 }
 
-/// The names of the kinds: each names only kinds of the set, and each kind of the set has one.
+/// The names of the kinds: each names only kinds of the set, and each kind of the set has one. A kind that a name before
+/// names gets no other.
 pub fn names_of(alloc: Global, kinds: &Kinds) -> Result<Vec<Name>, AllocError>
     ensures { IfOk result (λ names. AreNamed kinds.now.items.items names.items) }
 {
@@ -109,7 +110,7 @@ pub fn names_of(alloc: Global, kinds: &Kinds) -> Result<Vec<Name>, AllocError>
 
 // Whether one of the names names tokens of this kind.
 fn is_named(all: &[Name], kind: Kind) -> bool
-    ensures { IsTrue result ↔ Any (λ name. IsTrue (names name kind)) all.now }
+    ensures { result ≡ list_any (λ name. names name kind) all.now }
 {
     for name in all {
         if name.has(kind) {
@@ -120,7 +121,9 @@ fn is_named(all: &[Name], kind: Kind) -> bool
 }
 
 // The names of several kinds; of two that share kinds, the one with more of them comes first.
-fn groups() -> [Name; 9] {
+fn groups() -> [Name; 9]
+    ensures { result ≡ groups }
+{
     [
         Name::Word,
         Name::Expression,

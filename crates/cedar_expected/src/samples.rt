@@ -1,6 +1,6 @@
 //! All kinds of tokens, and a token of each.
 ghost use Rattle.std.specs.Prelude.{◌≡◌};
-ghost use Rattle.cedar_expected.specs.Inside.Samples.{all_kinds, sample};
+ghost use Rattle.cedar_expected.specs.Samples.{all_kinds, sample};
 
 use cedar_tokens::kind::Kind;
 

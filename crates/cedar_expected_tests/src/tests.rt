@@ -48,7 +48,7 @@ const ROW: Row = Row {
     message: "",
 };
 
-static ROWS: [Row; 38] = [
+static ROWS: [Row; 39] = [
     // Scopes and annotations.
     Row {
         name: "end after the scope",
@@ -400,6 +400,15 @@ permit(principal,action,resource) when { true } 1;"#,
         ),
         kinds: ". [ OPS }",
         message: r#"expected an operator, '.', '}' or '[', found '"0123456789\n0123456789 0123456...'"#,
+        ..ROW
+    },
+    Row {
+        name: "hidden characters",
+        text: "permit(principal,action,resource) \"\u{202e}\u{feff}\u{7f}\";",
+        at: 34,
+        found: Some("\"\u{202e}\u{feff}\u{7f}\""),
+        kinds: "when unless ;",
+        message: r#"expected a condition or ';', found '"\u{202e}\u{feff}\u{7f}"'"#,
         ..ROW
     },
 ];

@@ -1,5 +1,7 @@
 //! Messages to the client, as JSON with their heads.
-use cedar_server::{Answer, Diagnosis, Edit, Encoding, Failure, Fault, Id, Range, ServerMessage};
+use cedar_server::{
+    Answer, Diagnosis, Edit, Encoding, Failure, Fault, FormatError, Id, Range, ServerMessage,
+};
 use serde_json::{Value, json};
 use std::alloc::{AllocError, Global};
 
@@ -172,7 +174,20 @@ fn diagnosis_value(alloc: Global, diagnosis: Diagnosis) -> Result<Value, AllocEr
     json!(in alloc; {
         "range": range,
         "severity": 1,
+        "code": code_of(diagnosis.error),
         "source": "cedar",
         "message": diagnosis.message,
     })
+}
+
+// The kind of a refusal.
+fn code_of(error: FormatError) -> &'static str {
+    match error {
+        FormatError::UnknownCharacter { .. } => "unknown-character",
+        FormatError::UnfinishedString { .. } => "unfinished-string",
+        FormatError::NumberTooLarge { .. } => "number-too-large",
+        FormatError::Grammar { .. } => "grammar",
+        FormatError::TooDeep { .. } => "too-deep",
+        FormatError::NoDocument | FormatError::Unsound | FormatError::OutOfMemory => "internal",
+    }
 }

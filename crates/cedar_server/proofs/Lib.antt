@@ -1,3 +1,4 @@
+pub mod Ending
 pub mod Layouts
 pub mod Losing
 pub mod Maps

@@ -1,3 +1,5 @@
+pub mod Inside
+pub mod Marks
 pub mod Diagnoses
 pub mod Layouts
 pub mod Sessions

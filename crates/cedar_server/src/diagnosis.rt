@@ -1,15 +1,17 @@
 //! What is wrong with a document.
-ghost use Rattle.std.specs.Prelude.{◌≡◌, IfOk};
-ghost use Rattle.cedar_server.specs.Diagnoses.{IsDiagnosis, byte_of};
+ghost use Rattle.std.specs.Prelude.{IfOk, MatchOption};
+ghost use Rattle.cedar_grammar.specs.Texts.{Accepted};
+ghost use Rattle.cedar_tree.specs.Refusals.{Refuses};
+ghost use Rattle.cedar_server.specs.Diagnoses.{IsDiagnosis};
 
+use crate::marks::marked;
 use crate::messages::Diagnosis;
-use cedar_policy_formatter::cst::laws::tree_is_of_accepted;
-use cedar_policy_formatter::cst::parse_policies;
+use cedar_policy_formatter::cst::PolicyReader;
 use cedar_policy_formatter::{FormatError, explain};
 use cedar_positions::{Encoding, Range, position_at};
 use std::alloc::{AllocError, Global};
 
-/// Why the text is refused, and where; nothing if it is accepted.
+/// Why the text is refused, and the part of it that this is about; nothing if it is accepted.
 pub(crate) fn diagnose(
     alloc: Global,
     text: &str,
@@ -17,35 +19,32 @@ pub(crate) fn diagnose(
 ) -> Result<Option<Diagnosis>, AllocError>
     ensures { IfOk result (λ d. IsDiagnosis encoding text.now d) }
 {
-    tree_is_of_accepted();
-    match parse_policies(alloc, text) {
-        Ok(_) => Ok(None),
-        Err(FormatError::OutOfMemory) => Err(AllocError),
-        Err(error) => {
-            let place = position_at(text, byte_of(error), encoding);
-            let message = explain(alloc, text, error)?;
-            Ok(Some(Diagnosis {
-                range: Range {
-                    start: place,
-                    end: place,
-                },
-                error,
-                message,
-            }))
-        }
-    }
+    let Some(error) = refusal(alloc, text)? else {
+        return Ok(None);
+    };
+    let part = marked(text, error);
+    let message = explain(alloc, text, error)?;
+    Ok(Some(Diagnosis {
+        range: Range {
+            start: position_at(text, part.start, encoding),
+            end: position_at(text, part.end, encoding),
+        },
+        error,
+        message,
+    }))
 }
 
-// The byte of a refusal.
-fn byte_of(error: FormatError) -> usize
-    ensures { result ≡ byte_of error }
+// Why the text is refused, if it is. Memory is held for one policy at a time.
+fn refusal(alloc: Global, text: &str) -> Result<Option<FormatError>, AllocError>
+    ensures { IfOk result (λ refusal. MatchOption refusal (Accepted text.now) (Refuses text.now)) }
 {
-    match error {
-        FormatError::UnknownCharacter { at }
-        | FormatError::UnfinishedString { at }
-        | FormatError::NumberTooLarge { at }
-        | FormatError::Grammar { at }
-        | FormatError::TooDeep { at } => at,
-        FormatError::NoDocument | FormatError::Unsound | FormatError::OutOfMemory => 0,
+    let mut reader = PolicyReader::new(text);
+    'policies: loop {
+        match reader.next(alloc) {
+            Ok(Some(_)) => {}
+            Ok(None) => return Ok(None),
+            Err(FormatError::OutOfMemory) => return Err(AllocError),
+            Err(error) => return Ok(Some(error)),
+        }
     }
 }

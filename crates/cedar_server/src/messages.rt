@@ -134,8 +134,10 @@ pub enum Answer {
 /// Why a document is refused, and where.
 #[derive(Debug, Drop)]
 pub struct Diagnosis {
-    /// The place of the refusal.
+    /// The part of the document that the refusal is about: the character, number or token at its place, an unfinished string
+    /// up to the end of its line, or the last character of the last token of a document that ends too early.
     pub range: Range,
+    /// The refusal, with its place in bytes.
     pub error: FormatError,
     /// What is wrong, in words.
     pub message: String,

@@ -4,7 +4,7 @@ use Rattle.std.specs.List.{filter}
 use Rattle.std.proofs.lemmas.List.{take_all}
 use Rattle.cedar_tokens.specs.declared.kind.Kind.TheVariants as K
 use Rattle.cedar_expected.specs.Inside.Beginnings.{TokensBeginWith}
-use Rattle.cedar_expected.specs.Inside.Samples.{all_kinds, sample}
+use Rattle.cedar_expected.specs.Samples.{all_kinds, sample}
 use Rattle.cedar_expected.proofs.Following.{follows, grown_by, not_grown}
 use Rattle.cedar_expected.proofs.Probed.{sample_follows, kinds_follow}
 use Rattle.cedar_expected.proofs.SampleTokens.{sample_token}

@@ -4,7 +4,7 @@ use Rattle.std.proofs.lemmas.List.Elements.{All-more, All-contains}
 use Rattle.std.proofs.lemmas.List.{take_all}
 use Rattle.cedar_tokens.specs.declared.kind.Kind.TheVariants as K
 use Rattle.cedar_expected.specs.Naming.{names}
-use Rattle.cedar_expected.specs.Inside.Samples.{all_kinds}
+use Rattle.cedar_expected.specs.Samples.{all_kinds}
 use Rattle.cedar_expected.proofs.KindLists.{all_listed}
 use Rattle.cedar_expected.proofs.kinds.Kinds.have_all.Goals as goal
 use Rattle.cedar_expected.proofs.kinds.Kinds.have_all.Goals.{else-has-via-then-has+else-not-contains, else-has-via-else-has}
