@@ -11,7 +11,7 @@ pub returns-in-Some-Text : goal.returns-in-Some-Text
 returns-in-Some-Text c =
     let s = c.args.self.now in
     let uri = c.args.uri.now in
-    let version = c.in-Some-Text.version in
+    let version = c.in-Some-Text.field-0-0 in
     let text = string_bytes c.in-Some-Text.text in
     let Lays : ℕ → ℤ → List ℕ → Answer → Type 0 = λ w i text a. LaysOut s.encoding w i text a in
     let found : document_of s uri ≡ Some (known version text) =
