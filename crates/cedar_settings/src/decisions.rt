@@ -1,0 +1,203 @@
+//! Which settings decide about the layout of a file.
+ghost use Rattle.std.specs.Prelude.{◌≡◌, ◌++◌, IfOk, OnOk, map, reverse};
+ghost use Rattle.cedar_settings.specs.Decisions.{applied_at, applying, applying_from, deciding, indent_setting, problems_from, problems_in, tab_columns, width_setting};
+ghost use Rattle.cedar_settings.specs.Settings.{entries_of};
+
+use crate::files::ConfigFile;
+use crate::lines::{Entry, Fault, Key, Value};
+use std::alloc::{AllocError, Global};
+
+/// The columns of a tab whose width isn't set.
+const TAB_COLUMNS: usize = 2;
+
+/// The columns of a line without a limit.
+const MOST_COLUMNS: usize = 65535;
+
+/// A line that applies to a file, and the number of its file, from 0 for the nearest one.
+#[derive(Clone, Copy, PartialEq, Eq, Debug)]
+pub struct Applied {
+    pub file: usize,
+    pub entry: Entry,
+}
+
+/// A setting of a layout, in columns, and where it was taken from.
+#[derive(Clone, Copy, PartialEq, Eq, Debug)]
+pub struct Setting {
+    pub columns: usize,
+    /// The number of its file, from 0 for the nearest one.
+    pub file: usize,
+    /// The number of its line, from 1.
+    pub line: usize,
+}
+
+/// A line that is ignored, and why.
+#[derive(Clone, Copy, PartialEq, Eq, Debug)]
+pub struct Problem {
+    /// The number of its file, from 0 for the nearest one.
+    pub file: usize,
+    /// The number of the line, from 1, or 0 for the file.
+    pub line: usize,
+    pub fault: Fault,
+}
+
+/// How a file is laid out.
+#[derive(Debug, Drop)]
+pub struct Decision {
+    /// The indentation of a level. `None` if nothing is set.
+    pub indent_width: Option<Setting>,
+    /// The width of a line. `None` if nothing is set.
+    pub line_width: Option<Setting>,
+    /// The lines that are ignored: of each file those in no section, and then those of the sections that apply.
+    pub problems: Vec<Problem>,
+}
+
+/// What these files, from the nearest one upward, say about the file with this absolute path. The last section that applies
+/// decides, in the nearest file that has one, up to the first root. The only error is out of memory.
+pub fn decide(alloc: Global, files: &[ConfigFile], path: &str) -> Result<Decision, AllocError>
+    ensures indentation { IfOk result (λ d. d.indent_width ≡ indent_setting (applying files.now path.now)) }
+    ensures width { IfOk result (λ d. d.line_width ≡ width_setting (applying files.now path.now)) }
+    ensures problems { IfOk result (λ d. d.problems.items ≡ problems_from 0 files.now path.now) }
+{
+    let mut applied = Vec::new(alloc);
+    let mut problems = Vec::new(alloc);
+    for (n, file) in files.iter().enumerate() {
+        let entries = entries_for(alloc, file, path)?;
+        add_applied(&mut applied, n, &entries)?;
+        add_problems(&mut problems, n, file, &entries)?;
+        if file.is_root {
+            break;
+        }
+    }
+    Ok(Decision {
+        indent_width: indentation(&applied),
+        line_width: width(&applied),
+        problems,
+    })
+}
+
+// The lines of a file that apply to a path, in order.
+fn entries_for(alloc: Global, file: &ConfigFile, path: &str) -> Result<Vec<Entry>, AllocError>
+    ensures { IfOk result (λ entries. entries.items ≡ entries_of file.now path.now) }
+{
+    let mut entries = Vec::new(alloc);
+    let Some(below) = path.strip_prefix(file.folder.as_str()) else {
+        return Ok(entries);
+    };
+    for section in &file.sections {
+        if section.glob.matches(alloc, below)? {
+            entries.extend_from_slice(&section.entries)?;
+        }
+    }
+    Ok(entries)
+}
+
+// Adds the lines of a file, the last one first.
+fn add_applied(
+    applied: &mut Vec<Applied>,
+    file: usize,
+    entries: &[Entry],
+) -> Result<(), AllocError>
+    ensures { OnOk result (applied.new.items ≡ applied.old.items ++ map (applied_at file) (reverse entries.now)) }
+{
+    for entry in entries.iter().rev() {
+        applied.push(Applied {
+            file,
+            entry: *entry,
+        })?;
+    }
+    Ok(())
+}
+
+// Adds what is wrong in a file.
+fn add_problems(
+    problems: &mut Vec<Problem>,
+    number: usize,
+    file: &ConfigFile,
+    entries: &[Entry],
+) -> Result<(), AllocError>
+    ensures { OnOk result (problems.new.items ≡ problems.old.items ++ problems_in number file.now entries.now) }
+{
+    for (line, fault) in &file.faults {
+        problems.push(Problem {
+            file: number,
+            line: *line,
+            fault: *fault,
+        })?;
+    }
+    add_wrong(problems, number, entries)
+}
+
+// Adds the lines whose value can't be used.
+fn add_wrong(
+    problems: &mut Vec<Problem>,
+    number: usize,
+    entries: &[Entry],
+) -> Result<(), AllocError> {
+    for entry in entries {
+        if let Value::Wrong(fault) = entry.value {
+            problems.push(Problem {
+                file: number,
+                line: entry.line,
+                fault,
+            })?;
+        }
+    }
+    Ok(())
+}
+
+// The line that decides about a setting: the first one with a value that can be used.
+fn deciding_for(applied: &[Applied], key: Key) -> Option<Applied>
+    ensures { result ≡ deciding key applied.now }
+{
+    applied
+        .iter()
+        .copied()
+        .find(|it| it.entry.key == key && !matches!(it.entry.value, Value::Wrong(_)))
+}
+
+// The indentation of a level.
+fn indentation(applied: &[Applied]) -> Option<Setting>
+    ensures { result ≡ indent_setting applied.now }
+{
+    let decided = deciding_for(applied, Key::IndentSize)?;
+    let columns = match decided.entry.value {
+        Value::Columns(columns) => columns as usize,
+        Value::Tab => tab(applied),
+        Value::Off | Value::Unset | Value::Wrong(_) => return None,
+    };
+    Some(Setting {
+        columns,
+        file: decided.file,
+        line: decided.entry.line,
+    })
+}
+
+// The columns of a tab.
+fn tab(applied: &[Applied]) -> usize
+    ensures { result ≡ tab_columns (deciding Key.TabWidth applied.now) }
+{
+    match deciding_for(applied, Key::TabWidth) {
+        Some(decided) => match decided.entry.value {
+            Value::Columns(columns) => columns as usize,
+            _ => TAB_COLUMNS,
+        },
+        None => TAB_COLUMNS,
+    }
+}
+
+// The width of a line.
+fn width(applied: &[Applied]) -> Option<Setting>
+    ensures { result ≡ width_setting applied.now }
+{
+    let decided = deciding_for(applied, Key::MaxLineLength)?;
+    let columns = match decided.entry.value {
+        Value::Columns(columns) => columns as usize,
+        Value::Off => MOST_COLUMNS,
+        Value::Tab | Value::Unset | Value::Wrong(_) => return None,
+    };
+    Some(Setting {
+        columns,
+        file: decided.file,
+        line: decided.entry.line,
+    })
+}
