@@ -1,5 +1,5 @@
 -- Which settings decide about a layout.
-use Rattle.std.specs.Prelude.{ℕ, ◌+◌, List, [], ◌∷◌, ◌++◌, Bool, true, false, ◌&&◌, Option, None, Some, filter_map, find, if◌then◌else◌, map, reverse}
+use Rattle.std.specs.Prelude.{ℕ, ◌+◌, List, [], ◌∷◌, ◌++◌, Bool, true, false, ◌&&◌, Option, None, Some, filter_map, find, if◌then◌else◌, map, option_map, reverse}
 use Rattle.cedar_settings.specs.declared.decisions.Applied.{Applied}
 use Rattle.cedar_settings.specs.declared.decisions.Problem.{Problem}
 use Rattle.cedar_settings.specs.declared.decisions.Setting.{Setting}
@@ -9,18 +9,22 @@ use Rattle.cedar_settings.specs.declared.lines.Fault.{Fault}
 use Rattle.cedar_settings.specs.declared.lines.Key.{Key}
 use Rattle.cedar_settings.specs.declared.lines.Key.TheVariants.{IndentSize, TabWidth, MaxLineLength}
 use Rattle.cedar_settings.specs.declared.lines.Value.{Value}
-use Rattle.cedar_settings.specs.declared.lines.Value.TheVariants.{Columns, Tab, Off, Unset, Wrong}
+use Rattle.cedar_settings.specs.declared.lines.Value.TheVariants.{Columns, Tab, Off, Wrong}
 use Rattle.cedar_settings.specs.Settings.{entries_of}
 
 -- a line of the n-th file
 abbrev pub applied_at : ℕ → Entry → Applied
 applied_at n e = record { file = n; entry = e }
 
--- the lines that apply to a path, the strongest first: those of the nearest file, the last one first, and then those of the
--- files above it, unless it is a root; the nearest file has the number n
+-- the lines of the n-th file that apply to a path, the strongest first: the last line first
+abbrev pub applied_in : ℕ → ConfigFile → List ℕ → List Applied
+applied_in n f path = map (applied_at n) (reverse (entries_of f path))
+
+-- the lines that apply to a path, the strongest first: those of the nearest file, and then those of the files above it, unless
+-- it is a root; the nearest file has the number n
 abbrev pub applying_from : ℕ → List ConfigFile → List ℕ → List Applied
 applying_from n [] path = []
-applying_from n (f ∷ fs) path = map (applied_at n) (reverse (entries_of f path)) ++ (if f.is_root then [] else applying_from (n + 1) fs path)
+applying_from n (f ∷ fs) path = applied_in n f path ++ (if f.is_root then [] else applying_from (n + 1) fs path)
 
 abbrev pub applying : List ConfigFile → List ℕ → List Applied
 applying files path = applying_from 0 files path
@@ -79,16 +83,23 @@ indent_setting lines = setting_by (indent_columns (tab_columns (deciding TabWidt
 abbrev pub width_setting : List Applied → Option Setting
 width_setting lines = setting_by width_columns (deciding MaxLineLength lines)
 
--- what is wrong on a line
-abbrev pub wrong_in : ℕ → Entry → Value → Option Problem
-wrong_in n e (Wrong f) = Some (record { file = n; line = e.line; fault = f })
-wrong_in n e _ = None
+-- a fault of the n-th file
+abbrev pub fault_at : ℕ → ℕ × Fault → Problem
+fault_at n t = record { file = n; line = t.0; fault = t.1 }
 
--- what is wrong in the n-th file, of which these lines apply
-abbrev pub problems_in : ℕ → ConfigFile → List Entry → List Problem
-problems_in n f entries = map (λ t. record { file = n; line = t.0; fault = t.1 }) f.faults.items ++ filter_map (λ e. wrong_in n e e.value) entries
+-- what is wrong with a value, and with a line of the n-th file
+abbrev pub fault_of : Value → Option Fault
+fault_of (Wrong f) = Some f
+fault_of _ = None
+
+abbrev pub wrong_at : ℕ → Entry → Option Problem
+wrong_at n e = option_map (λ f. fault_at n (e.line, f)) (fault_of e.value)
+
+-- what is wrong in the n-th file: first what is in no section, then what is in the sections that match a path
+abbrev pub problems_in : ℕ → ConfigFile → List ℕ → List Problem
+problems_in n f path = map (fault_at n) f.faults.items ++ filter_map (wrong_at n) (entries_of f path)
 
 -- what is wrong in all files up to the first root, of which the nearest has the number n
 abbrev pub problems_from : ℕ → List ConfigFile → List ℕ → List Problem
 problems_from n [] path = []
-problems_from n (f ∷ fs) path = problems_in n f (entries_of f path) ++ (if f.is_root then [] else problems_from (n + 1) fs path)
+problems_from n (f ∷ fs) path = problems_in n f path ++ (if f.is_root then [] else problems_from (n + 1) fs path)

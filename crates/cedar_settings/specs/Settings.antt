@@ -16,9 +16,13 @@ matches glob path = is_some (find_str (regex_pattern glob.regex) path 0)
 abbrev pub folder_of : ConfigFile → List ℕ
 folder_of file = string_bytes file.folder
 
--- the lines of the sections that match a path below their folder, in order
+-- the lines of a section, if it matches a path below its folder
+abbrev pub entries_in : List ℕ → Section → List Entry
+entries_in below s = if matches s.glob below then s.entries.items else []
+
+-- the lines of the sections that match it, in order
 abbrev pub entries_below : List Section → List ℕ → List Entry
-entries_below sections below = flat_map (λ s. if matches s.glob below then s.entries.items else []) sections
+entries_below sections below = flat_map (entries_in below) sections
 
 -- the lines of a file that apply to an absolute path, in order
 abbrev pub entries_of : ConfigFile → List ℕ → List Entry

@@ -1,9 +1,10 @@
 //! Which settings decide about the layout of a file.
-ghost use Rattle.std.specs.Prelude.{◌≡◌, ◌++◌, IfOk, OnOk, map, reverse};
-ghost use Rattle.cedar_settings.specs.Decisions.{applied_at, applying, applying_from, deciding, indent_setting, problems_from, problems_in, tab_columns, width_setting};
-ghost use Rattle.cedar_settings.specs.Settings.{entries_of};
+ghost use Rattle.std.specs.Prelude.{◌≡◌, ◌++◌, IfOk, OnOk, [], filter_map, map};
+ghost use Rattle.std.specs.List.{cons_option};
+ghost use Rattle.cedar_settings.specs.Decisions.{applied_at, applied_in, applying, deciding, fault_at, indent_setting, problems_from, problems_in, tab_columns, width_setting, wrong_at};
+ghost use Rattle.cedar_settings.specs.Settings.{entries_below, entries_in, entries_of};
 
-use crate::files::ConfigFile;
+use crate::files::{ConfigFile, Section};
 use crate::lines::{Entry, Fault, Key, Value};
 use std::alloc::{AllocError, Global};
 
@@ -58,21 +59,58 @@ pub fn decide(alloc: Global, files: &[ConfigFile], path: &str) -> Result<Decisio
     ensures width { IfOk result (λ d. d.line_width ≡ width_setting (applying files.now path.now)) }
     ensures problems { IfOk result (λ d. d.problems.items ≡ problems_from 0 files.now path.now) }
 {
-    let mut applied = Vec::new(alloc);
-    let mut problems = Vec::new(alloc);
+    let found = find(alloc, files, path)?;
+    Ok(Decision {
+        indent_width: indentation(&found.applied),
+        line_width: width(&found.applied),
+        problems: found.problems,
+    })
+}
+
+// What files say about a path.
+#[derive(Drop)]
+struct Found {
+    // The lines that apply, the strongest first.
+    applied: Vec<Applied>,
+    problems: Vec<Problem>,
+}
+
+// What these files, up to the first root, say about a path.
+fn find(alloc: Global, files: &[ConfigFile], path: &str) -> Result<Found, AllocError>
+    ensures applied { IfOk result (λ found. found.applied.items ≡ applying files.now path.now) }
+    ensures problems { IfOk result (λ found. found.problems.items ≡ problems_from 0 files.now path.now) }
+{
+    let mut found = Found {
+        applied: Vec::new(alloc),
+        problems: Vec::new(alloc),
+    };
     for (n, file) in files.iter().enumerate() {
-        let entries = entries_for(alloc, file, path)?;
-        add_applied(&mut applied, n, &entries)?;
-        add_problems(&mut problems, n, file, &entries)?;
+        found.add(alloc, n, file, path)?;
         if file.is_root {
-            break;
+            return Ok(found);
         }
     }
-    Ok(Decision {
-        indent_width: indentation(&applied),
-        line_width: width(&applied),
-        problems,
-    })
+    Ok(found)
+}
+
+impl Found {
+    // Adds what the file with this number says about a path.
+    fn add(
+        &mut self,
+        alloc: Global,
+        number: usize,
+        file: &ConfigFile,
+        path: &str,
+    ) -> Result<(), AllocError>
+        ensures applied { OnOk result (self.new.applied.items ≡ self.old.applied.items ++ applied_in number file.now path.now) }
+        ensures problems { OnOk result (self.new.problems.items ≡ self.old.problems.items ++ problems_in number file.now path.now) }
+    {
+        let mut entries = entries_for(alloc, file, path)?;
+        add_faults(&mut self.problems, number, &file.faults)?;
+        add_wrong(&mut self.problems, number, &entries)?;
+        entries.reverse();
+        add_applied(&mut self.applied, number, &entries)
+    }
 }
 
 // The lines of a file that apply to a path, in order.
@@ -83,23 +121,47 @@ fn entries_for(alloc: Global, file: &ConfigFile, path: &str) -> Result<Vec<Entry
     let Some(below) = path.strip_prefix(file.folder.as_str()) else {
         return Ok(entries);
     };
-    for section in &file.sections {
-        if section.glob.matches(alloc, below)? {
-            entries.extend_from_slice(&section.entries)?;
-        }
-    }
+    add_matching(alloc, &mut entries, &file.sections, below)?;
     Ok(entries)
 }
 
-// Adds the lines of a file, the last one first.
-fn add_applied(
-    applied: &mut Vec<Applied>,
-    file: usize,
-    entries: &[Entry],
+// Adds the lines of the sections that match a path below their folder.
+fn add_matching(
+    alloc: Global,
+    entries: &mut Vec<Entry>,
+    sections: &[Section],
+    below: &str,
 ) -> Result<(), AllocError>
-    ensures { OnOk result (applied.new.items ≡ applied.old.items ++ map (applied_at file) (reverse entries.now)) }
+    ensures { OnOk result (entries.new.items ≡ entries.old.items ++ entries_below sections.now below.now) }
 {
-    for entry in entries.iter().rev() {
+    for section in sections {
+        section.add_matching(alloc, entries, below)?;
+    }
+    Ok(())
+}
+
+impl Section {
+    // Adds its lines, if it matches a path below its folder.
+    fn add_matching(
+        &self,
+        alloc: Global,
+        entries: &mut Vec<Entry>,
+        below: &str,
+    ) -> Result<(), AllocError>
+        ensures { OnOk result (entries.new.items ≡ entries.old.items ++ entries_in below.now self.now) }
+    {
+        if self.glob.matches(alloc, below)? {
+            entries.extend_from_slice(&self.entries)?;
+        }
+        Ok(())
+    }
+}
+
+// Adds lines of a file.
+fn add_applied(applied: &mut Vec<Applied>, file: usize, entries: &[Entry]) -> Result<(), AllocError>
+    ensures { OnOk result (applied.new.items ≡ applied.old.items ++ map (applied_at file) entries.now) }
+{
+    for entry in entries {
         applied.push(Applied {
             file,
             entry: *entry,
@@ -108,39 +170,44 @@ fn add_applied(
     Ok(())
 }
 
-// Adds what is wrong in a file.
-fn add_problems(
+// Adds the faults of a file.
+fn add_faults(
     problems: &mut Vec<Problem>,
-    number: usize,
-    file: &ConfigFile,
-    entries: &[Entry],
+    file: usize,
+    faults: &[(usize, Fault)],
 ) -> Result<(), AllocError>
-    ensures { OnOk result (problems.new.items ≡ problems.old.items ++ problems_in number file.now entries.now) }
+    ensures { OnOk result (problems.new.items ≡ problems.old.items ++ map (fault_at file) faults.now) }
 {
-    for (line, fault) in &file.faults {
+    for fault in faults {
         problems.push(Problem {
-            file: number,
-            line: *line,
-            fault: *fault,
+            file,
+            line: fault.0,
+            fault: fault.1,
         })?;
     }
-    add_wrong(problems, number, entries)
+    Ok(())
 }
 
-// Adds the lines whose value can't be used.
-fn add_wrong(
-    problems: &mut Vec<Problem>,
-    number: usize,
-    entries: &[Entry],
-) -> Result<(), AllocError> {
+// Adds the lines of a file whose value can't be used.
+fn add_wrong(problems: &mut Vec<Problem>, file: usize, entries: &[Entry]) -> Result<(), AllocError>
+    ensures { OnOk result (problems.new.items ≡ problems.old.items ++ filter_map (wrong_at file) entries.now) }
+{
     for entry in entries {
-        if let Value::Wrong(fault) = entry.value {
-            problems.push(Problem {
-                file: number,
-                line: entry.line,
-                fault,
-            })?;
-        }
+        add_if_wrong(problems, file, entry)?;
+    }
+    Ok(())
+}
+
+// Adds a line, if its value can't be used.
+fn add_if_wrong(problems: &mut Vec<Problem>, file: usize, entry: &Entry) -> Result<(), AllocError>
+    ensures { OnOk result (problems.new.items ≡ problems.old.items ++ cons_option (wrong_at file entry.now) []) }
+{
+    if let Value::Wrong(fault) = entry.value {
+        problems.push(Problem {
+            file,
+            line: entry.line,
+            fault,
+        })?;
     }
     Ok(())
 }
@@ -149,10 +216,8 @@ fn add_wrong(
 fn deciding_for(applied: &[Applied], key: Key) -> Option<Applied>
     ensures { result ≡ deciding key applied.now }
 {
-    applied
-        .iter()
-        .copied()
-        .find(|it| it.entry.key == key && !matches!(it.entry.value, Value::Wrong(_)))
+    applied.iter().copied().find(|it| it.entry.key == key
+        && !matches!(it.entry.value, Value::Wrong(_)))
 }
 
 // The indentation of a level.

@@ -77,7 +77,9 @@ impl ConfigFile {
         state: State,
         number: usize,
         line: Line<'_>,
-    ) -> Result<State, AllocError> {
+    ) -> Result<State, AllocError>
+        ensures { folder_of self.new ≡ folder_of self.old }
+    {
         match line {
             Line::Blank => Ok(state),
             Line::Other => {
@@ -104,13 +106,9 @@ impl ConfigFile {
     }
 
     // Takes a setting, where it counts.
-    fn set(
-        &mut self,
-        state: State,
-        line: usize,
-        name: &str,
-        value: &str,
-    ) -> Result<(), AllocError> {
+    fn set(&mut self, state: State, line: usize, name: &str, value: &str) -> Result<(), AllocError>
+        ensures { folder_of self.new ≡ folder_of self.old }
+    {
         match state {
             State::Preamble => {
                 if name.eq_ignore_ascii_case("root") {

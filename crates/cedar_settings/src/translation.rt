@@ -1,4 +1,6 @@
 //! The regular expression of a glob.
+ghost use Rattle.std.specs.Prelude.{◌<◌, IfSome, length};
+
 use std::alloc::{AllocError, Global};
 use std::fmt::Write;
 
@@ -145,7 +147,9 @@ fn class_of(text: &[char]) -> Option<(&[char], &[char])> {
 }
 
 // The inside of a brace, after its sign; `None` if it isn't closed.
-fn inside_of(text: &[char]) -> Option<Inside<'_>> {
+fn inside_of(text: &[char]) -> Option<Inside<'_>>
+    ensures { IfSome result (λ inside. length inside.text.now < length text.now) }
+{
     let mut depth = 0usize;
     let mut is_choice = false;
     let mut is_escaped = false;
@@ -251,11 +255,13 @@ fn push_counts(out: &mut String, first: u64, last: u64) -> Result<(), AllocError
 
 // The largest block of numbers that begin with the same digits, from `first` on and up to `last` at most: its size, a power of
 // ten, and how many zeros that has.
-fn block_at(first: u64, last: u64) -> (u64, u32) {
+fn block_at(first: u64, last: u64) -> (u64, u32)
+    ensures { 0 < result.0 }
+{
     let mut size = 1u64;
     let mut zeros = 0;
     for n in 1..20 {
-        let Some(larger) = 10u64.checked_pow(n) else {
+        let Some(larger) = size.checked_mul(10) else {
             break;
         };
         if first == 0 || first % larger != 0 || last.saturating_sub(first) < larger - 1 {
