@@ -258,7 +258,11 @@ static ROWS: &[Row] = &[
             (0, 10, "tab_width is no number: tab"),
             (0, 11, "indent_size is no number: "),
             (0, 12, "indent_size is no number: 4 ; four"),
-            (1, 2, "max_line_length is not from 1 to 65535: 99999999999999999999"),
+            (
+                1,
+                2,
+                "max_line_length is not from 1 to 65535: 99999999999999999999",
+            ),
         ],
         ..ROW
     },
@@ -344,7 +348,12 @@ fn a_glob_may_be_too_large(rt: HostRuntime) -> Result<(), AllocError> {
     files.push(ConfigFile::new(alloc, "/p", text.as_str())?)?;
     files.push(ConfigFile::not_utf8(alloc, "")?)?;
     let decision = decide(alloc, &files, "/p/a.cedar")?;
-    expect_setting(&rt, decision.indent_width, Some((3, 0, 2)), "the sections before");
+    expect_setting(
+        &rt,
+        decision.indent_width,
+        Some((3, 0, 2)),
+        "the sections before",
+    );
     let row = Row {
         problems: &[
             (0, 3, "this pattern is too large"),

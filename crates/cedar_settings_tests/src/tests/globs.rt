@@ -45,7 +45,13 @@ static ROWS: &[Row] = &[
     Row {
         name: "two stars for slashes too",
         glob: "a**z.cedar",
-        matches: &["/az.cedar", "/a/z.cedar", "/amnz.cedar", "/am/nz.cedar", "/b/amz.cedar"],
+        matches: &[
+            "/az.cedar",
+            "/a/z.cedar",
+            "/amnz.cedar",
+            "/am/nz.cedar",
+            "/b/amz.cedar",
+        ],
         others: &["/a/z.cedarx", "/bz.cedar"],
     },
     Row {
@@ -244,7 +250,17 @@ static ROWS: &[Row] = &[
         name: "numbers",
         glob: "{3..120}",
         matches: &["/3", "/9", "/15", "/60", "/99", "/100", "/119", "/120"],
-        others: &["/1", "/2", "/121", "/300", "/060", "/5a", "/a5", "/-5", "/{3..120}"],
+        others: &[
+            "/1",
+            "/2",
+            "/121",
+            "/300",
+            "/060",
+            "/5a",
+            "/a5",
+            "/-5",
+            "/{3..120}",
+        ],
     },
     Row {
         name: "numbers from 1 to 9",
@@ -267,7 +283,9 @@ static ROWS: &[Row] = &[
     Row {
         name: "many numbers",
         glob: "{95..10042}",
-        matches: &["/95", "/99", "/100", "/999", "/1000", "/9999", "/10000", "/10039", "/10042"],
+        matches: &[
+            "/95", "/99", "/100", "/999", "/1000", "/9999", "/10000", "/10039", "/10042",
+        ],
         others: &["/94", "/10043", "/11000", "/20000"],
     },
     Row {
