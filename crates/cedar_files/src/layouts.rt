@@ -24,7 +24,7 @@ pub struct Layouts<'a> {
 // A setting in columns, and where it was taken from.
 #[derive(Drop)]
 struct Choice {
-    columns: usize,
+    columns: u16,
     source: String,
 }
 
@@ -89,7 +89,7 @@ impl<'a> Layouts<'a> {
                 None => default.indent_width,
             },
             line_width: match &width {
-                Some(choice) => choice.columns,
+                Some(choice) => choice.columns as usize,
                 None => default.line_width,
             },
         };
@@ -116,7 +116,7 @@ impl<'a> Layouts<'a> {
         let alloc = self.rt.alloc();
         if let Some(columns) = given {
             return Ok(Some(Choice {
-                columns: columns as usize,
+                columns,
                 source: String::from_str(alloc, option)?,
             }));
         }

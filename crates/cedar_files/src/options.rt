@@ -48,13 +48,19 @@ Examples:
   cedar-files policies
   cedar-files --check policies
   cedar-files - < policy.cedar
-  cedar-files --stdin-filename policies/a.cedar - < policy.cedar
-
-The indentation and the width of a file are those of -i and -l, or else indent_size and max_line_length of the files
-.editorconfig in its folder and those above, or else the defaults.";
+  cedar-files --stdin-filename policies/a.cedar - < policy.cedar";
 
 /// The command line.
 fn command<'a>(alloc: Global) -> Result<Command<'a>, AllocError> {
+    let command = Command::new(alloc, "cedar-files")
+        .about("Formats files of Cedar policies in place, or checks them")
+        .version(VERSION)
+        .after_help(EXAMPLES);
+    with_files(alloc, with_layout(alloc, with_modes(alloc, command)?)?)
+}
+
+// What is done, and how.
+fn with_modes<'a>(alloc: Global, command: Command<'a>) -> Result<Command<'a>, AllocError> {
     let check = Arg::new(alloc, "check")
         .short('c')
         .long("check")
@@ -71,18 +77,28 @@ fn command<'a>(alloc: Global) -> Result<Command<'a>, AllocError> {
         .value_name("N")
         .value_parser(value_parser!(u16).range(1..))
         .help("The number of processes that share the files [default: the number of cores]");
+    let quiet = Arg::new(alloc, "quiet")
+        .short('q')
+        .long("quiet")
+        .action(ArgAction::SetTrue)
+        .help("Don't show the progress and the summary");
+    command.arg(check)?.arg(diff)?.arg(jobs)?.arg(quiet)
+}
+
+// How files are laid out.
+fn with_layout<'a>(alloc: Global, command: Command<'a>) -> Result<Command<'a>, AllocError> {
     let indent = Arg::new(alloc, "indent")
         .short('i')
         .long("indent-width")
         .value_name("N")
         .value_parser(value_parser!(u16))
-        .help("The indentation of a level, in columns [default: by .editorconfig, or 2]");
+        .help("The indentation of a level, in columns [default: as .editorconfig says, or 2]");
     let width = Arg::new(alloc, "width")
         .short('l')
         .long("line-width")
         .value_name("N")
         .value_parser(value_parser!(u16))
-        .help("The width of a line, in columns [default: by .editorconfig, or 80]");
+        .help("The width of a line, in columns [default: as .editorconfig says, or 80]");
     let no_config = Arg::new(alloc, "no-config")
         .long("no-config")
         .action(ArgAction::SetTrue)
@@ -90,42 +106,32 @@ fn command<'a>(alloc: Global) -> Result<Command<'a>, AllocError> {
     let verbose = Arg::new(alloc, "verbose")
         .long("verbose")
         .action(ArgAction::SetTrue)
-        .help("Tell how each file is laid out, and why, on standard error");
-    let input_name = Arg::new(alloc, "stdin-filename")
-        .long("stdin-filename")
-        .value_name("NAME")
-        .help("With -: the name of standard input, for .editorconfig and reports; the file need not exist");
-    let quiet = Arg::new(alloc, "quiet")
-        .short('q')
-        .long("quiet")
-        .action(ArgAction::SetTrue)
-        .help("Don't show the progress and the summary");
+        .help("Tell on standard error how each file is laid out, and by what");
+    command
+        .arg(indent)?
+        .arg(width)?
+        .arg(no_config)?
+        .arg(verbose)
+}
+
+// Which files.
+fn with_files<'a>(alloc: Global, command: Command<'a>) -> Result<Command<'a>, AllocError> {
     let exclude = Arg::new(alloc, "exclude")
         .long("exclude")
         .value_name("NAME")
         .action(ArgAction::Append)
         .help("Leave files and folders of this name, or with this path, alone; may be repeated");
+    let input_name = Arg::new(alloc, "stdin-filename")
+        .long("stdin-filename")
+        .value_name("NAME")
+        .help("With -: lay standard input out as this file, and report it by this name");
     let path = Arg::new(alloc, "path")
         .value_name("PATH")
         .action(ArgAction::Append)
         .num_args(1..)
         .required(true)
         .help("A file, or a folder that is searched for *.cedar; - for standard input");
-    Command::new(alloc, "cedar-files")
-        .about("Formats files of Cedar policies in place, or checks them")
-        .version(VERSION)
-        .after_help(EXAMPLES)
-        .arg(check)?
-        .arg(diff)?
-        .arg(jobs)?
-        .arg(indent)?
-        .arg(width)?
-        .arg(no_config)?
-        .arg(verbose)?
-        .arg(input_name)?
-        .arg(quiet)?
-        .arg(exclude)?
-        .arg(path)
+    command.arg(exclude)?.arg(input_name)?.arg(path)
 }
 
 /// What the words ask for, or why they are refused, or the help or the version that they ask for.

@@ -1,5 +1,5 @@
 -- Which settings decide about a layout.
-use Rattle.std.specs.Prelude.{ℕ, ◌+◌, List, [], ◌∷◌, ◌++◌, Bool, true, false, ◌&&◌, Option, None, Some, filter_map, find, if◌then◌else◌, map, option_map, reverse}
+use Rattle.std.specs.Prelude.{ℕ, ◌+◌, List, [], ◌∷◌, ◌++◌, ◌&&◌, Option, None, Some, filter_map, find, if◌then◌else◌, map, option_map, reverse}
 use Rattle.cedar_settings.specs.declared.decisions.Applied.{Applied}
 use Rattle.cedar_settings.specs.declared.decisions.Problem.{Problem}
 use Rattle.cedar_settings.specs.declared.decisions.Setting.{Setting}
@@ -11,6 +11,7 @@ use Rattle.cedar_settings.specs.declared.lines.Key.TheVariants.{IndentSize, TabW
 use Rattle.cedar_settings.specs.declared.lines.Value.{Value}
 use Rattle.cedar_settings.specs.declared.lines.Value.TheVariants.{Columns, Tab, Off, Wrong}
 use Rattle.cedar_settings.specs.Settings.{entries_of}
+use Rattle.cedar_settings.specs.Values.{is_usable, same_key}
 
 -- a line of the n-th file
 abbrev pub applied_at : ℕ → Entry → Applied
@@ -28,18 +29,6 @@ applying_from n (f ∷ fs) path = applied_in n f path ++ (if f.is_root then [] e
 
 abbrev pub applying : List ConfigFile → List ℕ → List Applied
 applying files path = applying_from 0 files path
-
--- whether two keys are the same
-abbrev pub same_key : Key → Key → Bool
-same_key IndentSize IndentSize = true
-same_key TabWidth TabWidth = true
-same_key MaxLineLength MaxLineLength = true
-same_key _ _ = false
-
--- whether a value can be used
-abbrev pub is_usable : Value → Bool
-is_usable (Wrong f) = false
-is_usable _ = true
 
 -- the line that decides about a key: the strongest one with a value that can be used
 abbrev pub deciding : Key → List Applied → Option Applied

@@ -9,10 +9,10 @@ use crate::lines::{Entry, Fault, Key, Value};
 use std::alloc::{AllocError, Global};
 
 /// The columns of a tab whose width isn't set.
-const TAB_COLUMNS: usize = 2;
+const TAB_COLUMNS: u16 = 2;
 
 /// The columns of a line without a limit.
-const MOST_COLUMNS: usize = 65535;
+const MOST_COLUMNS: u16 = 65535;
 
 /// A line that applies to a file, and the number of its file, from 0 for the nearest one.
 #[derive(Clone, Copy, PartialEq, Eq, Debug)]
@@ -24,7 +24,7 @@ pub struct Applied {
 /// A setting of a layout, in columns, and where it was taken from.
 #[derive(Clone, Copy, PartialEq, Eq, Debug)]
 pub struct Setting {
-    pub columns: usize,
+    pub columns: u16,
     /// The number of its file, from 0 for the nearest one.
     pub file: usize,
     /// The number of its line, from 1.
@@ -216,8 +216,10 @@ fn add_if_wrong(problems: &mut Vec<Problem>, file: usize, entry: &Entry) -> Resu
 fn deciding_for(applied: &[Applied], key: Key) -> Option<Applied>
     ensures { result ≡ deciding key applied.now }
 {
-    applied.iter().copied().find(|it| it.entry.key == key
-        && !matches!(it.entry.value, Value::Wrong(_)))
+    applied
+        .iter()
+        .copied()
+        .find(|it| it.entry.key == key && it.entry.value.is_usable())
 }
 
 // The indentation of a level.
@@ -226,7 +228,7 @@ fn indentation(applied: &[Applied]) -> Option<Setting>
 {
     let decided = deciding_for(applied, Key::IndentSize)?;
     let columns = match decided.entry.value {
-        Value::Columns(columns) => columns as usize,
+        Value::Columns(columns) => columns,
         Value::Tab => tab(applied),
         Value::Off | Value::Unset | Value::Wrong(_) => return None,
     };
@@ -238,12 +240,12 @@ fn indentation(applied: &[Applied]) -> Option<Setting>
 }
 
 // The columns of a tab.
-fn tab(applied: &[Applied]) -> usize
+fn tab(applied: &[Applied]) -> u16
     ensures { result ≡ tab_columns (deciding Key.TabWidth applied.now) }
 {
     match deciding_for(applied, Key::TabWidth) {
         Some(decided) => match decided.entry.value {
-            Value::Columns(columns) => columns as usize,
+            Value::Columns(columns) => columns,
             _ => TAB_COLUMNS,
         },
         None => TAB_COLUMNS,
@@ -256,7 +258,7 @@ fn width(applied: &[Applied]) -> Option<Setting>
 {
     let decided = deciding_for(applied, Key::MaxLineLength)?;
     let columns = match decided.entry.value {
-        Value::Columns(columns) => columns as usize,
+        Value::Columns(columns) => columns,
         Value::Off => MOST_COLUMNS,
         Value::Tab | Value::Unset | Value::Wrong(_) => return None,
     };

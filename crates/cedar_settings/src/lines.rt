@@ -1,4 +1,6 @@
 //! The lines of a file `.editorconfig`.
+ghost use Rattle.std.specs.Prelude.{◌≡◌};
+ghost use Rattle.cedar_settings.specs.Values.{Takes, is_usable, least_number};
 
 /// A setting that decides about a layout.
 #[derive(Clone, Copy, PartialEq, Eq, Debug)]
@@ -90,6 +92,15 @@ pub fn key_of(name: &str) -> Option<Key> {
         .find(|key| name.eq_ignore_ascii_case(key.name()))
 }
 
+impl Value {
+    /// Whether it can be used.
+    pub fn is_usable(self) -> bool
+        ensures { result ≡ is_usable self }
+    {
+        !matches!(self, Value::Wrong(_))
+    }
+}
+
 impl Key {
     /// Its name.
     pub fn name(self) -> &'static str {
@@ -101,7 +112,9 @@ impl Key {
     }
 
     /// The least number that it takes; the largest one is 65535.
-    pub fn least(self) -> u16 {
+    pub fn least(self) -> u16
+        ensures { result ≡ least_number self }
+    {
         match self {
             Key::IndentSize | Key::TabWidth => 0,
             Key::MaxLineLength => 1,
@@ -109,7 +122,9 @@ impl Key {
     }
 
     /// What the text of a value says.
-    pub fn read(self, text: &str) -> Value {
+    pub fn read(self, text: &str) -> Value
+        ensures { Takes self result }
+    {
         if text.eq_ignore_ascii_case("unset") {
             return Value::Unset;
         }

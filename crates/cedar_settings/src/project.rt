@@ -13,7 +13,7 @@ const NAME: &str = ".editorconfig";
 /// A setting of a layout, in columns, and where it was taken from.
 #[derive(Debug, Drop)]
 pub struct ProjectSetting {
-    pub columns: usize,
+    pub columns: u16,
     /// The absolute path of the file.
     pub path: String,
     /// The number of the line, from 1.

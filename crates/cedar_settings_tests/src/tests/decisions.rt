@@ -11,7 +11,7 @@ struct Source {
 }
 
 // A setting: its columns, its file and its line.
-type Made = Option<(usize, usize, usize)>;
+type Made = Option<(u16, usize, usize)>;
 
 // Files, and what they say about a path.
 #[derive(Clone, Copy)]
