@@ -2,3 +2,4 @@
 //! with ample memory. Expected values are from <https://spec.editorconfig.org> and the tests of its cores.
 mod decisions;
 mod globs;
+mod memory;
