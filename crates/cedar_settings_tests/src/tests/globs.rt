@@ -11,7 +11,8 @@ struct Row {
     others: &'static [&'static str],
 }
 
-static ROWS: &[Row] = &[
+// Names, and paths from the folder on.
+static NAMES: [Row; 5] = [
     Row {
         name: "a name in any folder",
         glob: "a.cedar",
@@ -42,6 +43,10 @@ static ROWS: &[Row] = &[
         matches: &["/a.cedar"],
         others: &["/b/a.cedar"],
     },
+];
+
+// Two stars.
+static STARS: [Row; 5] = [
     Row {
         name: "two stars for slashes too",
         glob: "a**z.cedar",
@@ -78,6 +83,10 @@ static ROWS: &[Row] = &[
         matches: &["/c/a", "/c/d/a"],
         others: &["/c", "/d/c/a"],
     },
+];
+
+// Single characters.
+static CHARACTERS: [Row; 6] = [
     Row {
         name: "one character, and no slash",
         glob: "a?.cedar",
@@ -114,6 +123,10 @@ static ROWS: &[Row] = &[
         matches: &["/-.f", "/a.f"],
         others: &["/c.f"],
     },
+];
+
+// Brackets.
+static BRACKETS: [Row; 5] = [
     Row {
         name: "a bracket as a member",
         glob: r"[\]ab].g",
@@ -144,6 +157,10 @@ static ROWS: &[Row] = &[
         matches: &["/a[]"],
         others: &["/a"],
     },
+];
+
+// Choices.
+static CHOICES: [Row; 6] = [
     Row {
         name: "one of these texts",
         glob: "*.{py,js,html}",
@@ -180,6 +197,10 @@ static ROWS: &[Row] = &[
         matches: &["/{.f"],
         others: &["/.f"],
     },
+];
+
+// Braces in braces.
+static BRACES: [Row; 6] = [
     Row {
         name: "a brace in braces",
         glob: "{word,{also},this}.g",
@@ -216,6 +237,10 @@ static ROWS: &[Row] = &[
         matches: &["/{{,b,c{d}.i"],
         others: &["/{b.i", "/cd.i"],
     },
+];
+
+// What stands for itself.
+static ESCAPES: [Row; 5] = [
     Row {
         name: "an escaped comma",
         glob: r"{a\,b,cd}.txt",
@@ -246,6 +271,10 @@ static ROWS: &[Row] = &[
         matches: &["/a+b(c)|^$#&~<>.d"],
         others: &["/aabc.d"],
     },
+];
+
+// Ranges of numbers.
+static NUMBERS: [Row; 6] = [
     Row {
         name: "numbers",
         glob: "{3..120}",
@@ -323,12 +352,51 @@ fn expect_row(rt: &impl Abort, alloc: Global, row: &Row) -> Result<(), AllocErro
     Ok(())
 }
 
-#[test]
-fn globs_match_paths(rt: HostRuntime) -> Result<(), AllocError> {
-    for row in ROWS {
-        expect_row(&rt, rt.alloc(), row)?;
+fn expect_rows(rt: &impl Abort, alloc: Global, rows: &[Row]) -> Result<(), AllocError> {
+    for row in rows {
+        expect_row(rt, alloc, row)?;
     }
     Ok(())
+}
+
+#[test]
+fn names_are_matched(rt: HostRuntime) -> Result<(), AllocError> {
+    expect_rows(&rt, rt.alloc(), &NAMES)
+}
+
+#[test]
+fn two_stars_are_matched(rt: HostRuntime) -> Result<(), AllocError> {
+    expect_rows(&rt, rt.alloc(), &STARS)
+}
+
+#[test]
+fn characters_are_matched(rt: HostRuntime) -> Result<(), AllocError> {
+    expect_rows(&rt, rt.alloc(), &CHARACTERS)
+}
+
+#[test]
+fn brackets_are_matched(rt: HostRuntime) -> Result<(), AllocError> {
+    expect_rows(&rt, rt.alloc(), &BRACKETS)
+}
+
+#[test]
+fn choices_are_matched(rt: HostRuntime) -> Result<(), AllocError> {
+    expect_rows(&rt, rt.alloc(), &CHOICES)
+}
+
+#[test]
+fn braces_are_matched(rt: HostRuntime) -> Result<(), AllocError> {
+    expect_rows(&rt, rt.alloc(), &BRACES)
+}
+
+#[test]
+fn escapes_are_matched(rt: HostRuntime) -> Result<(), AllocError> {
+    expect_rows(&rt, rt.alloc(), &ESCAPES)
+}
+
+#[test]
+fn numbers_are_matched(rt: HostRuntime) -> Result<(), AllocError> {
+    expect_rows(&rt, rt.alloc(), &NUMBERS)
 }
 
 #[test]
