@@ -3,16 +3,18 @@
 //! The script runs it several times, each time with its own arguments after the words below.
 //!
 //! - `plan` writes what is to be done: a line with the number of processes, the mode, whether the run is quiet, the number of
-//!   files and the number of faults so far, and then the name of each file, followed by a zero byte. If the words ask
-//!   for help or the version, that is written, and the status is 4.
+//!   files and the number of faults so far, and then of each file the indentation, the width and the name, with a space between
+//!   these, followed by a zero byte. What is wrong in files `.editorconfig` goes to standard error. If the words ask for help
+//!   or the version, that is written, and the status is 4.
 //! - `part FOLDER K N` does the K-th of N parts of the plan in FOLDER. The names of files that aren't formatted
 //!   go to standard output, each followed by a zero byte.
-//! - `text` formats or checks standard input.
+//! - `text` formats or checks standard input. With `--stdin-filename NAME` it is laid out as the file NAME.
 //!
 //! If the variable `CEDAR_FILES_LINES` is set, a refusal is reported with its line and a mark under the place.
 #![tactic(auto)]
 
 mod disk;
+mod layouts;
 mod options;
 mod part;
 mod plan;

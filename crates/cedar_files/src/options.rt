@@ -1,5 +1,4 @@
 //! The words of the command line.
-use cedar_policy_formatter::Config;
 use cedar_program_words::VERSION;
 use clap::{Arg, ArgAction, ArgMatches, Command, Error, value_parser};
 use std::alloc::{AllocError, Global};
@@ -19,8 +18,16 @@ pub enum Mode {
 #[derive(Drop)]
 pub struct Options<'a> {
     pub mode: Mode,
-    /// How the files are laid out.
-    pub config: Config,
+    /// The indentation of a level in columns, if it is asked for.
+    pub indent_width: Option<u16>,
+    /// The width of a line in columns, if it is asked for.
+    pub line_width: Option<u16>,
+    /// Whether files `.editorconfig` are read.
+    pub reads_config: bool,
+    /// Whether the layout of each file is told.
+    pub tells_layouts: bool,
+    /// The name of the file that standard input stands for.
+    pub input_name: Option<&'a str>,
     /// How many processes share the files. 0 means as many as there are cores.
     pub jobs: u16,
     /// Whether only faults and names are printed.
@@ -40,10 +47,20 @@ Status: 0; 3 with --check or --diff where a file isn't formatted; 1 where a file
 Examples:
   cedar-files policies
   cedar-files --check policies
-  cedar-files - < policy.cedar";
+  cedar-files - < policy.cedar
+  cedar-files --stdin-filename policies/a.cedar - < policy.cedar";
 
 /// The command line.
 fn command<'a>(alloc: Global) -> Result<Command<'a>, AllocError> {
+    let command = Command::new(alloc, "cedar-files")
+        .about("Formats files of Cedar policies in place, or checks them")
+        .version(VERSION)
+        .after_help(EXAMPLES);
+    with_files(alloc, with_layout(alloc, with_modes(alloc, command)?)?)
+}
+
+// What is done, and how.
+fn with_modes<'a>(alloc: Global, command: Command<'a>) -> Result<Command<'a>, AllocError> {
     let check = Arg::new(alloc, "check")
         .short('c')
         .long("check")
@@ -60,61 +77,73 @@ fn command<'a>(alloc: Global) -> Result<Command<'a>, AllocError> {
         .value_name("N")
         .value_parser(value_parser!(u16).range(1..))
         .help("The number of processes that share the files [default: the number of cores]");
-    let indent = Arg::new(alloc, "indent")
-        .short('i')
-        .long("indent-width")
-        .value_name("N")
-        .value_parser(value_parser!(u16))
-        .help("The indentation of a level, in columns [default: 2]");
-    let width = Arg::new(alloc, "width")
-        .short('l')
-        .long("line-width")
-        .value_name("N")
-        .value_parser(value_parser!(u16))
-        .help("The width of a line, in columns [default: 80]");
     let quiet = Arg::new(alloc, "quiet")
         .short('q')
         .long("quiet")
         .action(ArgAction::SetTrue)
         .help("Don't show the progress and the summary");
+    command.arg(check)?.arg(diff)?.arg(jobs)?.arg(quiet)
+}
+
+// How files are laid out.
+fn with_layout<'a>(alloc: Global, command: Command<'a>) -> Result<Command<'a>, AllocError> {
+    let indent = Arg::new(alloc, "indent")
+        .short('i')
+        .long("indent-width")
+        .value_name("N")
+        .value_parser(value_parser!(u16))
+        .help("The indentation of a level, in columns [default: as .editorconfig says, or 2]");
+    let width = Arg::new(alloc, "width")
+        .short('l')
+        .long("line-width")
+        .value_name("N")
+        .value_parser(value_parser!(u16))
+        .help("The width of a line, in columns [default: as .editorconfig says, or 80]");
+    let no_config = Arg::new(alloc, "no-config")
+        .long("no-config")
+        .action(ArgAction::SetTrue)
+        .help("Ignore files .editorconfig");
+    let verbose = Arg::new(alloc, "verbose")
+        .long("verbose")
+        .action(ArgAction::SetTrue)
+        .help("Tell on standard error how each file is laid out, and by what");
+    command
+        .arg(indent)?
+        .arg(width)?
+        .arg(no_config)?
+        .arg(verbose)
+}
+
+// Which files.
+fn with_files<'a>(alloc: Global, command: Command<'a>) -> Result<Command<'a>, AllocError> {
     let exclude = Arg::new(alloc, "exclude")
         .long("exclude")
         .value_name("NAME")
         .action(ArgAction::Append)
         .help("Leave files and folders of this name, or with this path, alone; may be repeated");
+    let input_name = Arg::new(alloc, "stdin-filename")
+        .long("stdin-filename")
+        .value_name("NAME")
+        .help("With -: lay standard input out as this file, and report it by this name");
     let path = Arg::new(alloc, "path")
         .value_name("PATH")
         .action(ArgAction::Append)
         .num_args(1..)
         .required(true)
         .help("A file, or a folder that is searched for *.cedar; - for standard input");
-    Command::new(alloc, "cedar-files")
-        .about("Formats files of Cedar policies in place, or checks them")
-        .version(VERSION)
-        .after_help(EXAMPLES)
-        .arg(check)?
-        .arg(diff)?
-        .arg(jobs)?
-        .arg(indent)?
-        .arg(width)?
-        .arg(quiet)?
-        .arg(exclude)?
-        .arg(path)
+    command.arg(exclude)?.arg(input_name)?.arg(path)
 }
 
 /// What the words ask for, or why they are refused, or the help or the version that they ask for.
 pub fn read_options<'a>(alloc: Global, words: &'a [&'a str]) -> Result<Options<'a>, Error> {
     let matches = command(alloc)?.try_get_matches_from(words)?;
-    let mut config = Config::default();
-    if let Some(width) = matches.get_one::<u16>("width") {
-        config.line_width = width as usize;
-    }
-    if let Some(indent) = matches.get_one::<u16>("indent") {
-        config.indent_width = indent as isize;
-    }
     Ok(Options {
         mode: mode_of(&matches),
-        config,
+        indent_width: matches.get_one::<u16>("indent"),
+        line_width: matches.get_one::<u16>("width"),
+        reads_config: !matches.get_flag("no-config"),
+        tells_layouts: matches.get_flag("verbose"),
+        input_name: matches.get_str("stdin-filename"),
         jobs: matches.get_one::<u16>("jobs").unwrap_or(0),
         quiet: matches.get_flag("quiet"),
         excluded: texts(alloc, &matches, "exclude")?,

@@ -1,7 +1,9 @@
 //! What is to be done.
+use crate::layouts::Layouts;
 use crate::options::{Mode, Options};
 use crate::walk::find_files;
 use crate::{ANSWERED, MISUSED};
+use cedar_policy_formatter::Config;
 use std::io;
 use std::io::{BufWriter, Write};
 
@@ -13,7 +15,15 @@ pub fn write_plan(rt: &HostRuntime, options: &Options<'_>) -> io::Result<u8> {
     if options.paths.iter().any(|path| *path == STANDARD_INPUT) {
         return plan_text(rt, options);
     }
+    if options.input_name.is_some() {
+        write!(
+            rt.stderr(),
+            "cedar-files: --stdin-filename stands with - alone\n"
+        )?;
+        return Ok(MISUSED);
+    }
     let found = find_files(rt, options)?;
+    let mut layouts = Layouts::new(rt, options, true)?;
     let mut out = BufWriter::new(rt.alloc(), rt.stdout())?;
     let mode = match options.mode {
         Mode::Write => "write",
@@ -29,7 +39,12 @@ pub fn write_plan(rt: &HostRuntime, options: &Options<'_>) -> io::Result<u8> {
         found.faults
     )?;
     for file in &found.files {
-        write!(out, "{file}\0")?;
+        let config = layouts.layout_of(file.as_str())?;
+        let Config {
+            line_width,
+            indent_width,
+        } = config;
+        write!(out, "{indent_width} {line_width} {file}\0")?;
     }
     out.flush()?;
     Ok(0)

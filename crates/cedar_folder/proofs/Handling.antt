@@ -5,7 +5,7 @@ use Rattle.std.proofs.lemmas.Option.{same_Some}
 use Rattle.cedar_documents.specs.declared.config.Config.{Config}
 use Rattle.cedar_folder.specs.Folders.{Names, Picture, Stored}
 use Rattle.cedar_policy_formatter.specs.Outputs.{HasOutput}
-use Rattle.cedar_folder.specs.Runs.{Became, Handles, HoldsOutput, IsMoment, IsUnformatted, Replaced, Replaces}
+use Rattle.cedar_folder.specs.Runs.{Became, Handles, HoldsOutput, HoldsOwnOutput, IsMoment, IsUnformatted, Replaced, Replaces}
 use Rattle.cedar_folder.specs.declared.folder.Outcome.{Outcome}
 use Rattle.cedar_folder.specs.declared.folder.Outcome.TheVariants.{Formatted, Unformatted, NotUtf8, Refused, Unread, Unwritten, LeftBeside}
 use Rattle.cedar_folder.proofs.Steps.{moments_are, no_moment}
@@ -65,7 +65,7 @@ module _ (c : Config) (name : List ℕ) where
               (same_Some _ _ (sym read ∙ held)) (became o (r.holds name) (from_p.own x read));
           others = from_p.others;
           unused = from_p.unused x read;
-          moments = moments_are p r _ (IsMoment c (λ n. n ≡ name) p.holds) (λ s h n g held.
+          moments = moments_are p r _ (IsMoment (HoldsOwnOutput c name) p.holds) (λ s h n g held.
               at_moment p.holds s read n g held (h n g held)) (from_p.moments x read);
           report = from_p.report;
           check = λ e. let bad : false ≡ true = e in cc;

@@ -3,7 +3,7 @@ use Rattle.std.proofs.Common.{◌≡◌, ◌≢◌, ◌∙◌, ℕ, List, Bool, 
 use Rattle.std.specs.Prelude.{◌↔◌, IsTrue}
 use Rattle.std.specs.Str.{IsUtf8}
 use Rattle.cedar_tokens.specs.Listing.{ListingIsUnique, by_value}
-use Rattle.cedar_laws.specs.Canonical.{IsOutputOf, OutputIsItsOwn, OutputsTellLists, plain_listing}
+use Rattle.cedar_laws.specs.Canonical.{AcceptedHasOutput, IsOutputOf, OutputHasTheList, OutputsTellLists, plain_listing}
 use Rattle.cedar_documents.specs.declared.config.Config.{Config}
 use Rattle.cedar_policy_formatter.specs.Outputs.{HasOutput}
 use Rattle.cedar_folder.specs.Runs.{IsUnformatted}
@@ -31,8 +31,15 @@ module _ (tell : OutputsTellLists) (unique : ListingIsUnique) (c : Config) where
         v,
       )
 
--- an output is formatted
-pub output_is_formatted : (again : OutputIsItsOwn) (c : Config) (x y : List ℕ) → HasOutput c x y
-    → IsUnformatted c y → ⊥
-output_is_formatted again c x y h (u, a, other) =
-    other (u, again c.line_width c.indent_width x y h.0 h.1)
+-- the output of an output, however that is laid out, is an output of the text
+pub output_of_output : (some : AcceptedHasOutput) (listed : OutputHasTheList) (tell : OutputsTellLists)
+    (unique : ListingIsUnique) (c d : Config) (x y z : List ℕ) → HasOutput c x y → HasOutput d y z
+    → HasOutput d x z
+output_of_output some listed tell unique c d x y z h k =
+    let (w, own) = some d.line_width d.indent_width x h.0 h.1.accepted in
+    let (values, plain) = listed c.line_width c.indent_width x y k.1.list h.0 h.1 k.1.is_list in
+    let lists : by_value (plain_listing own.list) ≡ by_value (plain_listing k.1.list) =
+    ap (λ l. by_value (plain_listing l)) (unique x own.list h.1.list own.is_list h.1.is_list)
+    ∙ sym values ∙ sym (ap by_value plain) in
+    let same : w ≡ z = (tell d.line_width d.indent_width x y w z h.0 k.0 own k.1).1 lists in
+    (h.0, subst (λ v. IsOutputOf d.line_width d.indent_width x v) same own)

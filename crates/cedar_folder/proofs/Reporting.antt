@@ -1,57 +1,84 @@
 -- How a report grows.
 use Rattle.std.proofs.Common.{◌≡◌, ◌≢◌, ◌∙◌, ◌⊎◌, ◌++◌, ◌∷◌, [], ℕ, List, Bool, true, false, not, Option, None, Some, append-nil, append_assoc, length, take, drop, get_or, ◌+◌, ◌<◌, ◌≤◌, refl, sym, ap, inl, inr, subst, map}
-use Rattle.std.specs.Prelude.{String, string_bytes}
+use Rattle.std.specs.Prelude.{string_bytes}
 use Rattle.std.specs.List.{AllByRecursion}
-use Rattle.std.specs.declared.alloc.Global.{Global}
 use Rattle.std.proofs.lemmas.List.{map-append, take-append-drop, take_all, take_more}
 use Rattle.cedar_tokens.specs.Listing.{ListingIsUnique}
-use Rattle.cedar_laws.specs.Canonical.{OutputIsItsOwn, OutputsTellLists}
+use Rattle.cedar_laws.specs.Canonical.{AcceptedHasOutput, OutputHasTheList, OutputsTellLists}
 use Rattle.cedar_documents.specs.declared.config.Config.{Config}
 use Rattle.cedar_folder.specs.Folders.{Names, Picture, Reports, Stored}
-use Rattle.cedar_policy_formatter.specs.Outputs.{HasOutput}
-use Rattle.cedar_folder.specs.Runs.{Became, Handles, HandlesAll, HandlesThese, HoldsOutput, HoldsReplaced, IsLeft, IsMoment, IsNamed, IsOutputFile, NoneTwice, SomeLeft}
+use Rattle.cedar_folder.specs.Runs.{Became, Done, Handles, HandlesAll, HandlesThese, HoldsItsOutput, HoldsOutput, HoldsOwnOutput, HoldsReplaced, IsLeft, IsMoment, IsNamed, IsOutputFile, NoneTwice, SomeLeft, task_of}
+use Rattle.cedar_folder.specs.declared.files.Task.{Task}
 use Rattle.cedar_folder.specs.declared.folder.Outcome.{Outcome}
 use Rattle.cedar_folder.specs.declared.folder.Outcome.TheVariants.{Formatted, Unformatted, NotUtf8, Refused, Unread, Unwritten, LeftBeside}
-use Rattle.cedar_folder.proofs.Layouts.{one_output, output_is_formatted}
+use Rattle.cedar_folder.proofs.Layouts.{output_of_output}
 use Rattle.cedar_folder.proofs.Steps.{moments_are, more_moments, same_or_other}
 
-abbrev Told : Type 0
-Told = List (List ℕ × Outcome)
+-- what a task asked for, and what the report says of its file
+abbrev pub asked : Done → List ℕ × Config
+asked t = (t.name, t.config)
+
+abbrev pub told : Done → List ℕ × Outcome
+told t = (t.name, t.outcome)
 
 -- ---- names
 
-named_more : (told : Told) (n m : List ℕ) (o : Outcome) → IsNamed told n
-    → IsNamed (told ++ ((m, o) ∷ [])) n
-named_more [] n m o h = absurd h
-named_more (t ∷ ts) n m o (inl e) = inl e
-named_more (t ∷ ts) n m o (inr h) = inr (named_more ts n m o h)
+named_more : (done : List Done) (t : Done) (n : List ℕ) → IsNamed done n → IsNamed (done ++ (t ∷ [])) n
+named_more [] t n h = absurd h
+named_more (u ∷ us) t n (inl e) = inl e
+named_more (u ∷ us) t n (inr h) = inr (named_more us t n h)
 
-named_last : (told : Told) (m : List ℕ) (o : Outcome) → IsNamed (told ++ ((m, o) ∷ [])) m
-named_last [] m o = inl refl
-named_last (t ∷ ts) m o = inr (named_last ts m o)
+named_last : (done : List Done) (t : Done) → IsNamed (done ++ (t ∷ [])) t.name
+named_last [] t = inl refl
+named_last (u ∷ us) t = inr (named_last us t)
 
-left_more : (told : Told) (m : List ℕ) (o : Outcome) → SomeLeft told
-    → SomeLeft (told ++ ((m, o) ∷ []))
-left_more [] m o h = absurd h
-left_more (t ∷ ts) m o (inl e) = inl e
-left_more (t ∷ ts) m o (inr h) = inr (left_more ts m o h)
+left_more : (done : List Done) (t : Done) → SomeLeft done → SomeLeft (done ++ (t ∷ []))
+left_more [] t h = absurd h
+left_more (u ∷ us) t (inl e) = inl e
+left_more (u ∷ us) t (inr h) = inr (left_more us t h)
 
-left_last : (told : Told) (m : List ℕ) (o : Outcome) → IsLeft o → SomeLeft (told ++ ((m, o) ∷ []))
-left_last [] m o h = inl h
-left_last (t ∷ ts) m o h = inr (left_last ts m o h)
+left_last : (done : List Done) (t : Done) → IsLeft t.outcome → SomeLeft (done ++ (t ∷ []))
+left_last [] t h = inl h
+left_last (u ∷ us) t h = inr (left_last us t h)
 
 -- a report without repeated names is one before its last file, which it doesn't name
-none_before : (told : Told) (m : List ℕ) (o : Outcome) → NoneTwice (told ++ ((m, o) ∷ []))
-    → NoneTwice told × ¬ (IsNamed told m)
-none_before [] m o h = (tt, λ bad. bad)
-none_before (t ∷ ts) m o (first, rest) =
-    let more = none_before ts m o rest in (
-      (λ h. first (named_more ts t.0 m o h), more.0),
+none_before : (done : List Done) (t : Done) → NoneTwice (done ++ (t ∷ []))
+    → NoneTwice done × ¬ (IsNamed done t.name)
+none_before [] t h = (tt, λ bad. bad)
+none_before (u ∷ us) t (first, rest) =
+    let more = none_before us t rest in (
+      (λ h. first (named_more us t u.name h), more.0),
       elim [
-        | inl e ↦ first (subst (λ z. IsNamed (ts ++ ((m, o) ∷ [])) z) e (named_last ts m o))
+        | inl e ↦ first (subst (λ z. IsNamed (us ++ (t ∷ [])) z) e (named_last us t))
         | inr h ↦ more.1 h
       ],
     )
+
+-- ---- outputs
+
+outputs_more : (done : List Done) (t : Done) (n : List ℕ) (f : Stored) (h : Option Stored)
+    → HoldsItsOutput done n f h → HoldsItsOutput (done ++ (t ∷ [])) n f h
+outputs_more [] t n f h is = absurd is
+outputs_more (u ∷ us) t n f h (inl is) = inl is
+outputs_more (u ∷ us) t n f h (inr is) = inr (outputs_more us t n f h is)
+
+outputs_last : (done : List Done) (t : Done) (n : List ℕ) (f : Stored) (h : Option Stored)
+    → HoldsOwnOutput t.config t.name n f h → HoldsItsOutput (done ++ (t ∷ [])) n f h
+outputs_last [] t n f h is = inl is
+outputs_last (u ∷ us) t n f h is = inr (outputs_last us t n f h is)
+
+-- a name that holds its output holds one, and is named
+some_output : (done : List Done) (n : List ℕ) (f : Stored) (h : Option Stored)
+    → HoldsItsOutput done n f h → (d : Config) × HoldsOutput d f h
+some_output [] n f h is = absurd is
+some_output (t ∷ ts) n f h (inl is) = (t.config, is.1)
+some_output (t ∷ ts) n f h (inr is) = some_output ts n f h is
+
+output_is_named : (done : List Done) (n : List ℕ) (f : Stored) (h : Option Stored)
+    → HoldsItsOutput done n f h → IsNamed done n
+output_is_named [] n f h is = absurd is
+output_is_named (t ∷ ts) n f h (inl is) = inl is.0
+output_is_named (t ∷ ts) n f h (inr is) = inr (output_is_named ts n f h is)
 
 -- ---- what became of a file lasts if no other is handled
 
@@ -71,192 +98,176 @@ module _ (only : Bool) (c : Config) (f : Stored) where
   lasts (Unwritten e) h k same held = same f held
   lasts (LeftBeside e n) h k same held = same f held
 
--- ---- a file that holds its output isn't changed by another turn
+-- ---- one file more
 
-module _ (again : OutputIsItsOwn) (tell : OutputsTellLists) (unique : ListingIsUnique) (only : Bool)
-    (c : Config) where
-  output_stays : (f g : Stored) (o : Outcome) (h : Option Stored) → HasOutput c f.bytes g.bytes
-      → Became only c g o h → h ≡ Some g
-  output_stays f g Formatted h is (own, held) = held
-  output_stays f g Unformatted h is (isnt, held) =
-      absurd (output_is_formatted again c f.bytes g.bytes is isnt)
-  output_stays f g NotUtf8 h is (isnt, held) = held
-  output_stays f g (Refused e bytes) h is (why, are, held) = held
-  output_stays f g (Unread e) h is held = held
-  output_stays f g (Unwritten e) h is held = held
-  output_stays f g (LeftBeside e n) h is held = held
-
-  replaced_is : (b : Bool) (f : Stored) (h : Option Stored) → HoldsReplaced b c f h
+module _ (some : AcceptedHasOutput) (listed : OutputHasTheList) (tell : OutputsTellLists)
+    (unique : ListingIsUnique) (only : Bool) where
+  replaced_is : (c : Config) (b : Bool) (f : Stored) (h : Option Stored) → HoldsReplaced b c f h
       → (h ≡ Some f) ⊎ HoldsOutput c f h
-  replaced_is true f h held = inl held
-  replaced_is false f h is = inr is
+  replaced_is c true f h held = inl held
+  replaced_is c false f h is = inr is
 
-  old_or_output : (f : Stored) (o : Outcome) (h : Option Stored) → Became only c f o h
-      → (h ≡ Some f) ⊎ HoldsOutput c f h
-  old_or_output f Formatted h (own, held) = inl held
-  old_or_output f Unformatted h (isnt, held) = replaced_is only f h held
-  old_or_output f NotUtf8 h (isnt, held) = inl held
-  old_or_output f (Refused e bytes) h (why, are, held) = inl held
-  old_or_output f (Unread e) h held = inl held
-  old_or_output f (Unwritten e) h held = inl held
-  old_or_output f (LeftBeside e n) h held = inl held
+  old_or_output : (c : Config) (f : Stored) (o : Outcome) (h : Option Stored)
+      → Became only c f o h → (h ≡ Some f) ⊎ HoldsOutput c f h
+  old_or_output c f Formatted h (own, held) = inl held
+  old_or_output c f Unformatted h (isnt, held) = replaced_is c only f h held
+  old_or_output c f NotUtf8 h (isnt, held) = inl held
+  old_or_output c f (Refused e bytes) h (why, are, held) = inl held
+  old_or_output c f (Unread e) h held = inl held
+  old_or_output c f (Unwritten e) h held = inl held
+  old_or_output c f (LeftBeside e n) h held = inl held
 
-  -- ---- one file more
+  -- an output of an output is one of the file
+  still : (d c : Config) (f g : Stored) (h : Option Stored) → IsOutputFile d f g
+      → HoldsOutput c g h → HoldsOutput c f h
+  still d c f g h is (k, other, held) = (
+    k,
+    (
+      output_of_output some listed tell unique d c f.bytes g.bytes k.bytes is.0 other.0,
+      other.1,
+      other.2 ∙ is.2,
+    ),
+    held,
+  )
 
-  module _ (told : Told) (m : List ℕ) (o : Outcome) (p q r : Picture)
-      (before : HandlesThese c only told p q) (step : Handles c only m o q r) where
-    abbrev more : Told
-    more = told ++ ((m, o) ∷ [])
+  module _ (done : List Done) (t : Done) (p q r : Picture) (before : HandlesThese only done p q)
+      (step : Handles t.config only t.name t.outcome q r) where
+    abbrev more : List Done
+    more = done ++ (t ∷ [])
 
-    from_old : (n : List ℕ) (f : Stored) → (n ≡ m) ⊎ (n ≢ m) → q.holds n ≡ Some f
-        → (r.holds n ≡ Some f) ⊎ (IsNamed more n × HoldsOutput c f (r.holds n))
-    from_old n f (inr other) held = inl (step.others n f other held)
-    from_old n f (inl e) held =
-        let own : Became only c f o (r.holds n) = subst (λ z. Became only c f o (r.holds z)) (sym e)
+    -- what the step leaves is a moment of it
+    at_end : (n : List ℕ) (f : Stored) → (n ≡ t.name) ⊎ (n ≢ t.name) → q.holds n ≡ Some f
+        → (r.holds n ≡ Some f) ⊎ HoldsOwnOutput t.config t.name n f (r.holds n)
+    at_end n f (inr other) held = inl (step.others n f other held)
+    at_end n f (inl e) held =
+        let own : Became only t.config f t.outcome (r.holds n) =
+        subst (λ z. Became only t.config f t.outcome (r.holds z)) (sym e)
         (step.own f (subst (λ z. q.holds z ≡ Some f) e held)) in
-        elim (old_or_output f o (r.holds n) own) as (λ _.
-        (r.holds n ≡ Some f) ⊎ (IsNamed more n × HoldsOutput c f (r.holds n))) [
-          | inl same ↦ inl same
-          | inr is ↦ inr (subst (λ z. IsNamed more z) (sym e) (named_last told m o), is)
+        elim (old_or_output t.config f t.outcome (r.holds n) own) as (λ _.
+        (r.holds n ≡ Some f) ⊎ HoldsOwnOutput t.config t.name n f (r.holds n))
+        [ inl same ↦ inl same | inr is ↦ inr (e, is) ]
+
+    -- a file that held its output holds it still, or that of the step
+    after_output : (s : Names) (n : List ℕ) (f : Stored)
+        → IsMoment (HoldsOwnOutput t.config t.name) q.holds s → HoldsItsOutput done n f (q.holds n)
+        → HoldsItsOutput more n f (s n)
+    after_output s n f moment was =
+        let (d, (g, is, held)) = some_output done n f (q.holds n) was in
+        elim (moment n g held) as (λ _. HoldsItsOutput more n f (s n)) [
+          | inl same ↦ outputs_more done t n f (s n)
+              (subst (λ h. HoldsItsOutput done n f h) (held ∙ sym same) was)
+          | inr own ↦ outputs_last done t n f (s n)
+              (own.0, still d t.config f g (s n) is own.1)
         ]
 
-    stays : (n : List ℕ) (f g : Stored) → (n ≡ m) ⊎ (n ≢ m) → HasOutput c f.bytes g.bytes
-        → q.holds n ≡ Some g → r.holds n ≡ Some g
-    stays n f g (inr other) is held = step.others n g other held
-    stays n f g (inl e) is held =
-        let own : Became only c g o (r.holds n) = subst (λ z. Became only c g o (r.holds z)) (sym e)
-        (step.own g (subst (λ z. q.holds z ≡ Some g) e held)) in
-        output_stays f g o (r.holds n) is own
-
-    from_either : (n : List ℕ) (f : Stored)
-        → (q.holds n ≡ Some f) ⊎ (IsNamed told n × HoldsOutput c f (q.holds n))
-        → (r.holds n ≡ Some f) ⊎ (IsNamed more n × HoldsOutput c f (r.holds n))
-    from_either n f (inl held) = from_old n f (same_or_other n m) held
-    from_either n f (inr (named, (g, is, held))) =
-        inr (named_more told n m o named, (g, is, stays n f g (same_or_other n m) is.0 held))
-
-    -- at a moment of the step, from what the names held before it
-    at_old : (s : Names) (n : List ℕ) (f : Stored) → IsMoment c (λ z. z ≡ m) q.holds s
-        → q.holds n ≡ Some f → (s n ≡ Some f) ⊎ (IsNamed more n × HoldsOutput c f (s n))
-    at_old s n f moment held =
-        elim (moment n f held) as (λ _. (s n ≡ Some f) ⊎ (IsNamed more n × HoldsOutput c f (s n))) [
-          | inl same ↦ inl same
-          | inr h ↦ inr (subst (λ z. IsNamed more z) (sym h.0) (named_last told m o), h.1)
+    at_moment : (s : Names) → IsMoment (HoldsOwnOutput t.config t.name) q.holds s
+        → IsMoment (HoldsItsOutput more) p.holds s
+    at_moment s moment n f held =
+        elim (before.holds n f held) as (λ _. (s n ≡ Some f) ⊎ HoldsItsOutput more n f (s n)) [
+          | inl same ↦ elim (moment n f same) as (λ _.
+              (s n ≡ Some f) ⊎ HoldsItsOutput more n f (s n))
+              [ inl kept ↦ inl kept | inr own ↦ inr (outputs_last done t n f (s n) own) ]
+          | inr was ↦ inr (after_output s n f moment was)
         ]
 
-    still : (f g : Stored) (h : Option Stored) → IsOutputFile c f g
-        → (h ≡ Some g) ⊎ HoldsOutput c g h → HoldsOutput c f h
-    still f g h is (inl same) = (g, is, same)
-    still f g h is (inr (k, other, held)) =
-        let same : k.bytes ≡ g.bytes = one_output tell unique c g.bytes k.bytes g.bytes other.0
-        (is.1, again c.line_width c.indent_width f.bytes g.bytes is.0.0 is.0.1) in
-        (k, (subst (λ z. HasOutput c f.bytes z) (sym same) is.0, other.1, other.2 ∙ is.2), held)
+    weaker : (s u : Names) → IsMoment (HoldsItsOutput done) s u → IsMoment (HoldsItsOutput more) s u
+    weaker s u moment n f held =
+        elim (moment n f held) as (λ _. (u n ≡ Some f) ⊎ HoldsItsOutput more n f (u n))
+        [ inl same ↦ inl same | inr h ↦ inr (outputs_more done t n f (u n) h) ]
 
-    at_output : (s : Names) (n : List ℕ) (f g : Stored) → IsMoment c (λ z. z ≡ m) q.holds s
-        → IsOutputFile c f g → q.holds n ≡ Some g → HoldsOutput c f (s n)
-    at_output s n f g moment is held = still f g (s n) is (elim (moment n g held) as (λ _.
-        (s n ≡ Some g) ⊎ HoldsOutput c g (s n)) [ inl same ↦ inl same | inr h ↦ inr h.1 ])
+    last_became : ¬ (IsNamed done t.name) → (f : Stored) → p.holds t.name ≡ Some f
+        → Became only t.config f t.outcome (r.holds t.name)
+    last_became new f held = elim (before.holds t.name f held) as (λ _.
+        Became only t.config f t.outcome (r.holds t.name)) [
+          | inl same ↦ step.own f same
+          | inr is ↦ absurd (new (output_is_named done t.name f (q.holds t.name) is))
+        ]
 
-    at_moment : (s : Names) → IsMoment c (λ z. z ≡ m) q.holds s → (n : List ℕ) (f : Stored)
-        → (q.holds n ≡ Some f) ⊎ (IsNamed told n × HoldsOutput c f (q.holds n))
-        → (s n ≡ Some f) ⊎ (IsNamed more n × HoldsOutput c f (s n))
-    at_moment s moment n f (inl held) = at_old s n f moment held
-    at_moment s moment n f (inr (named, (g, is, held))) =
-        inr (named_more told n m o named, at_output s n f g moment is held)
-
-    weaker : (s t : Names) → IsMoment c (IsNamed told) s t → IsMoment c (IsNamed more) s t
-    weaker s t moment n f held =
-        elim (moment n f held) as (λ _. (t n ≡ Some f) ⊎ (IsNamed more n × HoldsOutput c f (t n)))
-        [ inl same ↦ inl same | inr h ↦ inr (named_more told n m o h.0, h.1) ]
-
-    last_became : ¬ (IsNamed told m) → (f : Stored) → p.holds m ≡ Some f
-        → Became only c f o (r.holds m)
-    last_became new f held = elim (before.holds m f held) as (λ _. Became only c f o (r.holds m))
-        [ inl same ↦ step.own f same | inr h ↦ absurd (new h.0) ]
-
-    became_more : (ts : Told) → ¬ (IsNamed ts m) → AllByRecursion
-        (λ t. (f : Stored) → p.holds t.0 ≡ Some f → Became only c f t.1 (q.holds t.0)) ts
-        → ((f : Stored) → p.holds m ≡ Some f → Became only c f o (r.holds m))
-        → AllByRecursion (λ t. (f : Stored) → p.holds t.0 ≡ Some f
-        → Became only c f t.1 (r.holds t.0)) (ts ++ ((m, o) ∷ []))
+    became_more : (us : List Done) → ¬ (IsNamed us t.name) → AllByRecursion
+        (λ u. (f : Stored) → p.holds u.name ≡ Some f
+        → Became only u.config f u.outcome (q.holds u.name)) us
+        → ((f : Stored) → p.holds t.name ≡ Some f → Became only t.config f t.outcome (r.holds t.name))
+        → AllByRecursion (λ u. (f : Stored) → p.holds u.name ≡ Some f
+        → Became only u.config f u.outcome (r.holds u.name)) (us ++ (t ∷ []))
     became_more [] new h last = (last, tt)
-    became_more (t ∷ ts) new h last = (
-      λ f held. lasts only c f t.1 (q.holds t.0) (r.holds t.0)
-          (λ g k. step.others t.0 g (λ e. new (inl (sym e))) k) (h.0 f held),
-      became_more ts (λ x. new (inr x)) h.1 last,
+    became_more (u ∷ us) new h last = (
+      λ f held. lasts only u.config f u.outcome (q.holds u.name) (r.holds u.name)
+          (λ g k. step.others u.name g (λ e. new (inl (sym e))) k) (h.0 f held),
+      became_more us (λ x. new (inr x)) h.1 last,
     )
 
-    still_unused : (n : List ℕ) → (q.holds n ≡ None) ⊎ SomeLeft told
+    still_unused : (n : List ℕ) → (q.holds n ≡ None) ⊎ SomeLeft done
         → (r.holds n ≡ None) ⊎ SomeLeft more
-    still_unused n (inr left) = inr (left_more told m o left)
+    still_unused n (inr left) = inr (left_more done t left)
     still_unused n (inl none) =
         elim (step.unused n none) as (λ _. (r.holds n ≡ None) ⊎ SomeLeft more)
-        [ inl same ↦ inl same | inr left ↦ inr (left_last told m o left) ]
+        [ inl same ↦ inl same | inr left ↦ inr (left_last done t left) ]
 
-    reported : (s : Bool)
-        → HandlesThese c only more p (record r { report = r.report ++ ((m, o) ∷ []); stopped = s })
+    reported : (s : Bool) → HandlesThese only more p
+        (record r { report = r.report ++ ((t.name, t.outcome) ∷ []); stopped = s })
     reported s = record {
-      report = ap (λ z. z ++ ((m, o) ∷ [])) (step.report ∙ before.report)
-          ∙ append_assoc p.report told ((m, o) ∷ []);
-      became = λ once. let b = none_before told m o once in
-          became_more told b.1 (before.became b.0) (last_became b.1);
-      holds = λ n f held. from_either n f (before.holds n f held);
+      report = ap (λ z. z ++ ((t.name, t.outcome) ∷ [])) (step.report ∙ before.report)
+          ∙ append_assoc p.report (map told done) ((t.name, t.outcome) ∷ [])
+          ∙ ap (λ z. p.report ++ z) (sym (map-append told done (t ∷ [])));
+      became = λ once. let b = none_before done t once in
+          became_more done b.1 (before.became b.0) (last_became b.1);
+      holds = at_moment r.holds (λ n f held. at_end n f (same_or_other n t.name) held);
       unused = λ n none. still_unused n (before.unused n none);
-      moments = more_moments p q r (IsMoment c (IsNamed more) p.holds)
-          (moments_are p q (IsMoment c (IsNamed told) p.holds) (IsMoment c (IsNamed more) p.holds)
-          (λ s h. weaker p.holds s h) before.moments)
-          (moments_are q r (IsMoment c (λ z. z ≡ m) q.holds) (IsMoment c (IsNamed more) p.holds)
-          (λ s moment n f held. at_moment s moment n f (before.holds n f held)) step.moments);
+      moments = more_moments p q r (IsMoment (HoldsItsOutput more) p.holds)
+          (moments_are p q (IsMoment (HoldsItsOutput done) p.holds)
+          (IsMoment (HoldsItsOutput more) p.holds) (λ s h. weaker p.holds s h) before.moments)
+          (moments_are q r (IsMoment (HoldsOwnOutput t.config t.name) q.holds)
+          (IsMoment (HoldsItsOutput more) p.holds) at_moment step.moments);
       check = λ e. (
         ap (λ z. z.holds) (step.check e) ∙ (before.check e).0,
         ap (λ z. z.moments) (step.check e) ∙ (before.check e).1,
       );
     }
 
-  pub one_more : (told : Told) (m : List ℕ) (o : Outcome) (goes_on : Bool) (p q r s : Picture)
-      → HandlesThese c only told p q → Handles c only m o q r → Reports m o goes_on r s
-      → HandlesThese c only (told ++ ((m, o) ∷ [])) p s
-  one_more told m o goes_on p q r s before step is =
-      subst (λ z. HandlesThese c only (told ++ ((m, o) ∷ [])) p z) (sym is)
-      (reported told m o p q r before step (not goes_on))
+  pub one_more : (done : List Done) (t : Done) (goes_on : Bool) (p q r s : Picture)
+      → HandlesThese only done p q → Handles t.config only t.name t.outcome q r
+      → Reports t.name t.outcome goes_on r s → HandlesThese only (done ++ (t ∷ [])) p s
+  one_more done t goes_on p q r s before step is =
+      subst (λ z. HandlesThese only (done ++ (t ∷ [])) p z) (sym is)
+      (reported done t p q r before step (not goes_on))
 
 -- ---- all of them
 
-module _ (names : List (String Global)) (told : Told) (i : ℕ) where
-  abbrev texts : List (String Global) → List (List ℕ)
-  texts = map string_bytes
+module _ (tasks : List Task) (done : List Done) (i : ℕ) where
+  abbrev given : List Task → List (List ℕ × Config)
+  given = map task_of
 
-  pub next_name : (x : String Global) (m : List ℕ) (o : Outcome) → i < length names
-      → x ≡ get_or names i x → m ≡ string_bytes x → texts (take i names) ≡ map (λ t. t.0) told
-      → texts (take (i + 1) names) ≡ map (λ t. t.0) (told ++ ((m, o) ∷ []))
-  next_name x m o less item is so_far =
-      ap texts (take_more names i x less)
-      ∙ map-append string_bytes (take i names) (get_or names i x ∷ [])
-      ∙ ap (λ z. texts (take i names) ++ (string_bytes z ∷ [])) (sym item)
-      ∙ ap (λ z. texts (take i names) ++ (z ∷ [])) (sym is)
-      ∙ ap (λ z. z ++ (m ∷ [])) so_far ∙ sym (map-append (λ t. t.0) told ((m, o) ∷ []))
+  pub next_task : (x : Task) (t : Done) → i < length tasks → x ≡ get_or tasks i x
+      → t.name ≡ string_bytes x.name → t.config ≡ x.config
+      → given (take i tasks) ≡ map asked done
+      → given (take (i + 1) tasks) ≡ map asked (done ++ (t ∷ []))
+  next_task x t less item name config so_far =
+      let same : task_of x ≡ asked t = cc in
+      ap given (take_more tasks i x less)
+      ∙ map-append task_of (take i tasks) (get_or tasks i x ∷ [])
+      ∙ ap (λ z. given (take i tasks) ++ (task_of z ∷ [])) (sym item)
+      ∙ ap (λ z. given (take i tasks) ++ (z ∷ [])) same
+      ∙ ap (λ z. z ++ (asked t ∷ [])) so_far ∙ sym (map-append asked done (t ∷ []))
 
-  pub until_stopped : (c : Config) (only : Bool) (p q : Picture)
-      → texts (take i names) ≡ map (λ t. t.0) told → q.stopped ≡ true → HandlesThese c only told p q
-      → HandlesAll c only (texts names) p q
-  until_stopped c only p q so_far stop these = record {
-    told = told;
-    rest = texts (drop i names);
-    order = ap texts (sym (take-append-drop i names))
-        ∙ map-append string_bytes (take i names) (drop i names)
-        ∙ ap (λ z. z ++ texts (drop i names)) so_far;
+  pub until_stopped : (only : Bool) (p q : Picture) → given (take i tasks) ≡ map asked done
+      → q.stopped ≡ true → HandlesThese only done p q → HandlesAll only (given tasks) p q
+  until_stopped only p q so_far stop these = record {
+    done = done;
+    rest = given (drop i tasks);
+    order = ap given (sym (take-append-drop i tasks))
+        ∙ map-append task_of (take i tasks) (drop i tasks)
+        ∙ ap (λ z. z ++ given (drop i tasks)) so_far;
     all = λ e. let bad : true ≡ false = sym stop ∙ e in cc;
     these = these;
   }
 
-  pub to_the_end : (c : Config) (only : Bool) (p q : Picture) → length names ≤ i
-      → texts (take i names) ≡ map (λ t. t.0) told → HandlesThese c only told p q
-      → HandlesAll c only (texts names) p q
-  to_the_end c only p q done so_far these = record {
-    told = told;
+  pub to_the_end : (only : Bool) (p q : Picture) → length tasks ≤ i
+      → given (take i tasks) ≡ map asked done → HandlesThese only done p q
+      → HandlesAll only (given tasks) p q
+  to_the_end only p q over so_far these = record {
+    done = done;
     rest = [];
-    order = ap texts (sym (take_all i names done)) ∙ so_far
-        ∙ sym (append-nil (map (λ t. t.0) told));
+    order = ap given (sym (take_all i tasks over)) ∙ so_far ∙ sym (append-nil (map asked done));
     all = λ e. refl;
     these = these;
   }

@@ -1,15 +1,16 @@
 -- What a run does with the files of a folder.
-use Rattle.std.specs.Prelude.{◌≡◌, ◌≢◌, ◌⊎◌, ◌++◌, ◌∷◌, [], ℕ, List, Bool, true, false, Option, None, Some, Contains, map, string_bytes, ⊤}
+use Rattle.std.specs.Prelude.{◌≡◌, ◌≢◌, ◌⊎◌, ◌++◌, ◌∷◌, [], ℕ, List, Bool, true, false, Option, None, Some, map, string_bytes, ⊤}
 use Rattle.std.specs.List.{AllByRecursion}
 use Rattle.std.specs.Str.{IsUtf8}
 use Rattle.cedar_grammar.specs.Texts.{Accepted}
 use Rattle.cedar_policy_formatter.specs.Outputs.{HasOutput}
 use Rattle.cedar_tree.specs.Refusals.{OutOfMemoryOr, Refuses}
 use Rattle.cedar_documents.specs.declared.config.Config.{Config}
-use Rattle.cedar_folder.specs.Folders.{Alike, Names, Picture, Since, Spares, Stored}
+use Rattle.cedar_folder.specs.Folders.{Names, Picture, Since, Stored}
 use Rattle.cedar_folder.specs.declared.folder.Access.{Access}
 use Rattle.cedar_folder.specs.declared.folder.Outcome.{Outcome}
-use Rattle.cedar_folder.specs.declared.folder.Outcome.TheVariants.{Formatted, Unformatted, NotUtf8, Refused, Unread, Unwritten, LeftBeside}
+use Rattle.cedar_folder.specs.declared.folder.Outcome.TheVariants.{Formatted, Unformatted, NotUtf8, Refused, Unwritten, LeftBeside}
+use Rattle.cedar_folder.specs.declared.files.Task.{Task}
 use Rattle.cedar_folder.specs.declared.files.Layout.{Layout}
 use Rattle.cedar_folder.specs.declared.files.Layout.TheVariants as layout
 
@@ -54,9 +55,13 @@ Became only c f NotUtf8 h = ¬ (IsUtf8 f.bytes) × (h ≡ Some f)
 Became only c f (Refused e bytes) h = OutOfMemoryOr (Refuses f.bytes) e × (bytes.items ≡ f.bytes) × (h ≡ Some f)
 Became only c f o h = h ≡ Some f
 
--- at a moment of the run each file holds what it held, or one of these holds its output
-abbrev pub IsMoment : Config → (List ℕ → Type 0) → Names → Names → Type 0
-IsMoment c these s t = (n : List ℕ) (f : Stored) → s n ≡ Some f → (t n ≡ Some f) ⊎ (these n × HoldsOutput c f (t n))
+-- at a moment each file holds what it held, or this holds of its name, what it held and what it holds
+abbrev pub IsMoment : (List ℕ → Stored → Option Stored → Type 0) → Names → Names → Type 0
+IsMoment Holds s t = (n : List ℕ) (f : Stored) → s n ≡ Some f → (t n ≡ Some f) ⊎ Holds n f (t n)
+
+-- it is this name, and it holds its output
+abbrev pub HoldsOwnOutput : Config → List ℕ → List ℕ → Stored → Option Stored → Type 0
+HoldsOwnOutput c name n f h = (n ≡ name) × HoldsOutput c f h
 
 -- the named file has these bytes and this access, or is unchanged
 abbrev pub Replaced : List ℕ → Access → Stored → Outcome → Option Stored → Type 0
@@ -80,38 +85,53 @@ pub record Handles (c : Config) (only : Bool) (name : List ℕ) (o : Outcome) (p
   pub own : (f : Stored) → p.holds name ≡ Some f → Became only c f o (q.holds name)
   pub others : (n : List ℕ) (f : Stored) → n ≢ name → p.holds n ≡ Some f → q.holds n ≡ Some f
   pub unused : (n : List ℕ) → p.holds n ≡ None → (q.holds n ≡ None) ⊎ IsLeft o
-  pub moments : Since p q (IsMoment c (λ n. n ≡ name) p.holds)
+  pub moments : Since p q (IsMoment (HoldsOwnOutput c name) p.holds)
   pub report : q.report ≡ p.report
   pub check : only ≡ true → q ≡ p
 
--- the report names n, or says that a file was left
-abbrev pub IsNamed : List (List ℕ × Outcome) → List ℕ → Type 0
+-- a task: the name of its file, and how that is laid out
+abbrev pub task_of : Task → List ℕ × Config
+task_of t = (string_bytes t.name, t.config)
+
+-- a task that was done, and what became of its file
+pub record Done : Type 0 where
+  pub name : List ℕ
+  pub config : Config
+  pub outcome : Outcome
+
+-- these name n, or say that a file was left
+abbrev pub IsNamed : List Done → List ℕ → Type 0
 IsNamed [] n = ⊥
-IsNamed (t ∷ ts) n = (n ≡ t.0) ⊎ IsNamed ts n
+IsNamed (t ∷ ts) n = (n ≡ t.name) ⊎ IsNamed ts n
 
-abbrev pub SomeLeft : List (List ℕ × Outcome) → Type 0
+abbrev pub SomeLeft : List Done → Type 0
 SomeLeft [] = ⊥
-SomeLeft (t ∷ ts) = IsLeft t.1 ⊎ SomeLeft ts
+SomeLeft (t ∷ ts) = IsLeft t.outcome ⊎ SomeLeft ts
 
--- the report names no file twice
-abbrev pub NoneTwice : List (List ℕ × Outcome) → Type 0
+-- these name no file twice
+abbrev pub NoneTwice : List Done → Type 0
 NoneTwice [] = ⊤
-NoneTwice (t ∷ ts) = ¬ (IsNamed ts t.0) × NoneTwice ts
+NoneTwice (t ∷ ts) = ¬ (IsNamed ts t.name) × NoneTwice ts
 
--- files were handled, with this report: each name holds what it held, or a named one its output, at every moment; what the
--- report says of a file is true; no file is left, or the report says so; and a run that only checks changes nothing
-pub record HandlesThese (c : Config) (only : Bool) (told : List (List ℕ × Outcome)) (p q : Picture) : Type 0 where
-  pub report : q.report ≡ p.report ++ told
-  pub became : NoneTwice told → AllByRecursion (λ t. (f : Stored) → p.holds t.0 ≡ Some f → Became only c f t.1 (q.holds t.0)) told
-  pub holds : IsMoment c (IsNamed told) p.holds q.holds
-  pub unused : (n : List ℕ) → p.holds n ≡ None → (q.holds n ≡ None) ⊎ SomeLeft told
-  pub moments : Since p q (IsMoment c (IsNamed told) p.holds)
+-- one of these names n, which holds the output that it asks for
+abbrev pub HoldsItsOutput : List Done → List ℕ → Stored → Option Stored → Type 0
+HoldsItsOutput [] n f h = ⊥
+HoldsItsOutput (t ∷ ts) n f h = HoldsOwnOutput t.config t.name n f h ⊎ HoldsItsOutput ts n f h
+
+-- tasks were done: each name holds what it held, or a named one its output, at every moment; the report has them in order, and
+-- what it says of a file is true; no file is left, or the report says so; and a run that only checks changes nothing
+pub record HandlesThese (only : Bool) (done : List Done) (p q : Picture) : Type 0 where
+  pub report : q.report ≡ p.report ++ map (λ t. (t.name, t.outcome)) done
+  pub became : NoneTwice done → AllByRecursion (λ t. (f : Stored) → p.holds t.name ≡ Some f → Became only t.config f t.outcome (q.holds t.name)) done
+  pub holds : IsMoment (HoldsItsOutput done) p.holds q.holds
+  pub unused : (n : List ℕ) → p.holds n ≡ None → (q.holds n ≡ None) ⊎ SomeLeft done
+  pub moments : Since p q (IsMoment (HoldsItsOutput done) p.holds)
   pub check : only ≡ true → (q.holds ≡ p.holds) × (q.moments ≡ p.moments)
 
--- the named files were handled, in order: all, unless a report asked to stop
-pub record HandlesAll (c : Config) (only : Bool) (names : List (List ℕ)) (p q : Picture) : Type 0 where
-  pub told : List (List ℕ × Outcome)
-  pub rest : List (List ℕ)
-  pub order : names ≡ map (λ t. t.0) told ++ rest
+-- these tasks were done, in order: all, unless a report asked to stop
+pub record HandlesAll (only : Bool) (tasks : List (List ℕ × Config)) (p q : Picture) : Type 0 where
+  pub done : List Done
+  pub rest : List (List ℕ × Config)
+  pub order : tasks ≡ map (λ t. (t.name, t.config)) done ++ rest
   pub all : q.stopped ≡ false → rest ≡ []
-  pub these : HandlesThese c only told p q
+  pub these : HandlesThese only done p q

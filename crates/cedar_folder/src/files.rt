@@ -1,7 +1,7 @@
 //! Formatting or checking the files of a folder.
-ghost use Rattle.std.specs.Prelude.{◌≡◌, map, string_bytes};
+ghost use Rattle.std.specs.Prelude.{◌≡◌, map};
 ghost use Rattle.cedar_folder.specs.Folders.{Follows};
-ghost use Rattle.cedar_folder.specs.Runs.{GivesLayout, Handles, HandlesAll, Replaces};
+ghost use Rattle.cedar_folder.specs.Runs.{GivesLayout, Handles, HandlesAll, Replaces, task_of};
 
 use crate::folder::{Access, File, Folder, Outcome};
 use cedar_policy_formatter::fmt::outputs_are_canonical;
@@ -10,25 +10,30 @@ use cedar_policy_formatter::{Config, FormatError, policies_str_to_pretty};
 use std::alloc::Global;
 use std::io;
 
-/// Formats the named files in order, or with `only_checks` says which aren't formatted, and reports on each.
+/// A file that is to be formatted.
+#[derive(Debug, Drop)]
+pub struct Task {
+    /// Its name.
+    pub name: String,
+    /// How it is laid out.
+    pub config: Config,
+}
+
+/// Formats the files of these tasks in order, each as its task says, or with `only_checks` says which aren't formatted, and
+/// reports on each.
 ///
-/// Afterwards each named file that is accepted holds its output, with the access that it had; a refused one, one that
+/// Afterwards each of these files that is accepted holds its output, with the access that it had; a refused one, one that
 /// couldn't be read or replaced, and every other file hold what they held. At every moment each file holds what it
 /// held or its output. With `only_checks` nothing changes. The run ends early if `report` says so.
-pub fn format_files<F: Folder>(
-    alloc: Global,
-    folder: &mut F,
-    names: &[String],
-    config: &Config,
-    only_checks: bool,
-)
-    ensures { Follows (HandlesAll config.now only_checks (map string_bytes names.now)) (F.picture folder.old) (F.picture folder.new) }
+pub fn format_files<F: Folder>(alloc: Global, folder: &mut F, tasks: &[Task], only_checks: bool)
+    ensures { Follows (HandlesAll only_checks (map task_of tasks.now)) (F.picture folder.old) (F.picture folder.new) }
 {
     outputs_are_canonical();
     listing_is_unique();
-    for name in names {
-        let outcome = format_file(alloc, folder, name.as_str(), config, only_checks);
-        if !folder.report(name.as_str(), &outcome) {
+    for task in tasks {
+        let name = task.name.as_str();
+        let outcome = format_file(alloc, folder, name, &task.config, only_checks);
+        if !folder.report(name, &outcome) {
             return;
         }
     }

@@ -7,5 +7,5 @@
 mod files;
 mod folder;
 
-pub use files::format_files;
+pub use files::{Task, format_files};
 pub use folder::{Access, File, Folder, Outcome};

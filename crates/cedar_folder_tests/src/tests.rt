@@ -1,5 +1,5 @@
 //! What no clause says: that calls succeed with ample memory, and what is reported where they do.
-use cedar_folder::format_files;
+use cedar_folder::{Task, format_files};
 use cedar_policy_formatter::Config;
 use memory::Memory;
 use std::alloc::{AllocError, Global};
@@ -11,6 +11,10 @@ const PACKED: &str = "permit(principal,action,resource);";
 
 const LAID_OUT: &str = "permit (principal, action, resource);\n";
 
+const NARROW: &str = "permit
+(principal, action, resource);
+";
+
 const REFUSED: &str = "permit(principal,action,resource) when { 1 + };";
 
 const REPORT: &str = r#"packed: unformatted
@@ -20,13 +24,27 @@ nowhere: unread
 other: unformatted
 "#;
 
-// The names of the files, with one that isn't there.
-fn names(alloc: Global) -> Result<Vec<String>, AllocError> {
-    let mut names = Vec::new(alloc);
-    for name in ["packed", "formatted", "refused", "nowhere", "other"] {
-        names.push(String::from_str(alloc, name)?)?;
+// The names of the files, with one that isn't there, and the widths of their lines.
+static FILES: [(&str, usize); 5] = [
+    ("packed", 80),
+    ("formatted", 80),
+    ("refused", 80),
+    ("nowhere", 80),
+    ("other", 30),
+];
+
+fn tasks(alloc: Global) -> Result<Vec<Task>, AllocError> {
+    let mut tasks = Vec::new(alloc);
+    for (name, line_width) in FILES {
+        tasks.push(Task {
+            name: String::from_str(alloc, name)?,
+            config: Config {
+                line_width,
+                ..Config::default()
+            },
+        })?;
     }
-    Ok(names)
+    Ok(tasks)
 }
 
 // A folder with one file of each kind, whose n-th call fails; none does at 0.
@@ -43,14 +61,8 @@ fn folder(alloc: Global, fails_at: usize) -> Result<Memory, AllocError> {
 // The folder after a run over it.
 fn run(alloc: Global, fails_at: usize, only_checks: bool) -> Result<Memory, AllocError> {
     let mut folder = folder(alloc, fails_at)?;
-    let names = names(alloc)?;
-    format_files(
-        alloc,
-        &mut folder,
-        names.as_slice(),
-        &Config::default(),
-        only_checks,
-    );
+    let tasks = tasks(alloc)?;
+    format_files(alloc, &mut folder, tasks.as_slice(), only_checks);
     Ok(folder)
 }
 
@@ -70,7 +82,7 @@ fn files_are_replaced(rt: HostRuntime) -> Result<(), AllocError> {
     expect_file(&rt, &folder, "packed", LAID_OUT);
     expect_file(&rt, &folder, "formatted", LAID_OUT);
     expect_file(&rt, &folder, "refused", REFUSED);
-    expect_file(&rt, &folder, "other", LAID_OUT);
+    expect_file(&rt, &folder, "other", NARROW);
     expect_file(&rt, &folder, "unnamed", PACKED);
     assert_eq!(rt; folder.len(), 5);
     Ok(())
@@ -91,9 +103,9 @@ fn each_call_fails_in_turn(rt: HostRuntime) -> Result<(), AllocError> {
     let whole = run(rt.alloc(), 0, false)?;
     for n in 1..=whole.calls() {
         let folder = run(rt.alloc(), n, false)?;
-        for name in ["packed", "other"] {
+        for (name, output) in [("packed", LAID_OUT), ("other", NARROW)] {
             let held = folder.text_of(name);
-            let is_either = held == Some(PACKED.as_bytes()) || held == Some(LAID_OUT.as_bytes());
+            let is_either = held == Some(PACKED.as_bytes()) || held == Some(output.as_bytes());
             assert!(rt; is_either, "{name} after call {n} failed");
         }
         expect_file(&rt, &folder, "formatted", LAID_OUT);

@@ -4,9 +4,8 @@ ghost use Rattle.std.specs.Prelude.{None};
 use crate::decode::decode;
 use crate::encode::encode;
 use crate::frames::{Frame, next_frame};
-use cedar_server::{
-    Client, ClientMessage, Fault, Notification, Received, ServerMessage, Unread, Wishes,
-};
+use crate::project::Projects;
+use cedar_server::{Client, ClientMessage, Fault, Notification, Received, ServerMessage, Unread};
 use std::alloc::Global;
 use std::io;
 use std::io::{BufRead, BufReader, ErrorKind, Read, Write};
@@ -15,19 +14,26 @@ use std::io::{BufRead, BufReader, ErrorKind, Read, Write};
 ///
 /// No contract can say what comes in, so `talk` claims nothing about it. Each frame of the input is one message, in order.
 #[derive(Drop)]
-pub struct Streams<R, W> {
+pub struct Streams<'a, R, W> {
     input: BufReader<R>,
     output: W,
+    projects: Projects<'a>,
     // Whether a head couldn't be read, so that nothing after it can be either.
     is_broken: bool,
 }
 
-impl<R: Read + Drop, W: Write + Drop> Streams<R, W> {
+impl<'a, R: Read + Drop, W: Write + Drop> Streams<'a, R, W> {
     /// A client over these streams.
-    pub fn new(alloc: Global, input: R, output: W) -> io::Result<Streams<R, W>> {
+    pub fn new(
+        alloc: Global,
+        input: R,
+        output: W,
+        projects: Projects<'a>,
+    ) -> io::Result<Streams<'a, R, W>> {
         Ok(Streams {
             input: BufReader::new(alloc, input)?,
             output,
+            projects,
             is_broken: false,
         })
     }
@@ -56,15 +62,12 @@ fn unread() -> ClientMessage {
     })
 }
 
-impl<R: Read + Drop, W: Write + Drop> Client for Streams<R, W> {
+impl<R: Read + Drop, W: Write + Drop> Client for Streams<'_, R, W> {
     ghost talk = { λ _. None };
 
     fn receive(&mut self, alloc: Global) -> io::Result<Received> {
         let message = self.next_message(alloc)?;
-        let project = Wishes {
-            line_width: None,
-            indent_width: None,
-        };
+        let project = self.projects.wishes_for(&message)?;
         Ok(Received { message, project })
     }
 

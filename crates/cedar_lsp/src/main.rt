@@ -6,9 +6,11 @@ mod decode;
 mod encode;
 mod frames;
 mod params;
+mod project;
 
 use cedar_server::serve;
 use client::Streams;
+use project::Projects;
 use std::io;
 use std::io::Write;
 use std::process::ExitCode;
@@ -26,6 +28,6 @@ fn main(rt: HostRuntime) -> ExitCode {
 
 // Serves the client at standard input and output, and returns the status to end with.
 fn run(rt: &HostRuntime) -> io::Result<u8> {
-    let mut client = Streams::new(rt.alloc(), rt.stdin(), rt.stdout())?;
+    let mut client = Streams::new(rt.alloc(), rt.stdin(), rt.stdout(), Projects::new(rt))?;
     serve(rt.alloc(), &mut client)
 }

@@ -1,11 +1,10 @@
-use Rattle.std.proofs.Common.{◌≡◌, List, ℕ, map, take}
-use Rattle.std.specs.Prelude.{string_bytes}
+use Rattle.std.proofs.Common.{◌≡◌, List, map, take}
 use Rattle.cedar_folder.specs.Folders.{Follows}
-use Rattle.cedar_folder.specs.Runs.{HandlesThese}
-use Rattle.cedar_folder.specs.declared.folder.Outcome.{Outcome}
+use Rattle.cedar_folder.specs.Runs.{Done, HandlesThese, task_of}
+use Rattle.cedar_folder.proofs.Reporting.{asked}
 use Rattle.cedar_folder.proofs.files.format_files.Given as goal
 
-abbrev pub invariant-loop-name : goal.invariant-loop-name
-invariant-loop-name g l = (told : List (List ℕ × Outcome))
-    × (map string_bytes (take l.name-index l.names) ≡ map (λ t. t.0) told) × Follows (HandlesThese
-    l.config l.only_checks told) (g.F.Folder.picture l.fn.folder) (g.F.Folder.picture l.folder)
+abbrev pub invariant-loop-task : goal.invariant-loop-task
+invariant-loop-task g l = (done : List Done)
+    × (map task_of (take l.task-index l.tasks) ≡ map asked done) × Follows (HandlesThese l.only_checks
+    done) (g.F.Folder.picture l.fn.folder) (g.F.Folder.picture l.folder)
