@@ -10,3 +10,4 @@ pub mod OnlyMemory
 pub mod LineEnds
 pub mod Named
 pub mod Wholes
+pub mod Cutting

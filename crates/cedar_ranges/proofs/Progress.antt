@@ -5,7 +5,6 @@ use Rattle.std.specs.List.{sum_by}
 use Rattle.std.proofs.lemmas.List.{drop-drop, length-take-le}
 use Rattle.std.proofs.lemmas.List.Sums.{sum_by-append, sum_by-cons}
 use Rattle.cedar_tokens.specs.declared.token.Span.{Span}
-use Rattle.cedar_parser_steps.specs.Tokens.{HasTokens}
 use Rattle.cedar_pieces.specs.Pieces.{HasNoPiece, IsFirstPiece}
 use Rattle.cedar_ranges.specs.Pieces.{ArePieces, EachPiece, IsTouchedSpan, Touches, StartsAfter, EndsBefore}
 use Rattle.cedar_ranges.specs.Inside.Growing.{Grows}
@@ -188,7 +187,7 @@ touched_piece text range span at n t first inside new grows =
 
 -- at the end
 pub all_touched : (text : List ℕ) (range span : Span) (at : ℕ) → TouchedSoFar text range span at
-    → (HasTokens (drop at text) → HasNoPiece (drop at text)) → IsTouchedSpan text range span
+    → HasNoPiece (drop at text) → IsTouchedSpan text range span
 all_touched text range span at t no_more = record {
   before = t.before;
   touched = t.touched;

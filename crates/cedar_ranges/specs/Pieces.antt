@@ -2,7 +2,6 @@
 use Rattle.std.specs.Prelude.{◌≡◌, ◌≤◌, ◌<◌, ◌+◌, ◌⊎◌, ℕ, List, [], ◌∷◌, ◌++◌, length, take, drop, ⊤}
 use Rattle.std.specs.List.{sum_by}
 use Rattle.cedar_tokens.specs.declared.token.Span.{Span}
-use Rattle.cedar_parser_steps.specs.Tokens.{HasTokens}
 use Rattle.cedar_pieces.specs.Pieces.{IsFirstPiece, HasNoPiece}
 
 -- the text is these pieces, each the first one of the text from there on, and then the rest
@@ -26,15 +25,14 @@ StartsAfter range start end = end ≤ range.start
 abbrev pub EndsBefore : Span → ℕ → ℕ → Type 0
 EndsBefore range start end = (range.end ≤ start) × (range.start < start)
 
--- the span is that of the pieces that the range touches; if it touches none, none comes after it, and the span is empty there. There
--- are no pieces in the rest, or its tokens can't be read
+-- the span is that of the pieces that the range touches; if it touches none, none comes after it, and the span is empty there
 pub record IsTouchedSpan (text : List ℕ) (range span : Span) : Type 0 where
   pub before : List (List ℕ)
   pub touched : List (List ℕ)
   pub after : List (List ℕ)
   pub rest : List ℕ
   pub pieces : ArePieces (before ++ (touched ++ after)) text rest
-  pub no_more : HasTokens rest → HasNoPiece rest
+  pub no_more : HasNoPiece rest
   pub start : span.start ≡ sum_by length before
   pub end : span.end ≡ span.start + sum_by length touched
   pub passed : EachPiece (StartsAfter range) 0 before

@@ -46,7 +46,7 @@ pub fn format_text(alloc: Global, text: &str, config: &Config) -> Result<Vec<Edi
 /// A policy's piece of the text goes from the end of the piece before through the policy's `;` and the rest of its line,
 /// so it includes the comments before the policy and the comment after its `;`. The range touches a piece if it contains
 /// one of its bytes; an empty range, or one that ends before it starts, touches the piece of the byte where it starts.
-/// Whatever lies past the last piece touches nothing, and so does whatever lies past a place where the text's tokens can't be read.
+/// Whatever lies past the last piece touches nothing, and so does whatever lies past a place where no token begins.
 /// The pieces touched are replaced by their output, after an empty line if a piece comes before, in the text's line ends.
 ///
 /// If the text is accepted, it is still accepted with the edits applied, and has the same list, so its output stays what it is. The
@@ -64,7 +64,7 @@ pub fn format_range(
     ensures edits { IfOk result (λ edits. AreLeastEdits text.now edits.items) }
 {
     accepted_is_not_refused();
-    let span = touched_span(alloc, text, range)?;
+    let span = touched_span(text, range);
     let layout = lay_out(alloc, text, span, config)?;
     let layout = in_line_ends(alloc, text, span, layout)?;
     let edits = edits_between(alloc, text, span, layout.as_str())?;

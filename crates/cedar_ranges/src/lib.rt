@@ -1,6 +1,7 @@
 //! Edits that format a text, or a part of it: the policies touched by a range.
 #![tactic(auto)]
 
+mod cuts;
 mod ends;
 mod format;
 mod laws;

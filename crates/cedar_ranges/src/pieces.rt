@@ -4,8 +4,8 @@ ghost use Rattle.cedar_edits.specs.Edits.{IsNamedPart, edited, edited_by};
 ghost use Rattle.cedar_edits.specs.Lines.{AreLeastEdits};
 ghost use Rattle.cedar_ranges.specs.Inside.Growing.{Adds};
 
+use crate::cuts::first_piece;
 use cedar_edits::{Edit, line_edit};
-use cedar_pieces::pieces::read_piece;
 use cedar_policy_formatter::token::Span;
 use std::alloc::{AllocError, Global};
 
@@ -24,12 +24,10 @@ pub(crate) fn edits_between(
     if &text[span.start..span.end] == new {
         return Ok(edits);
     }
-    let mut old_lexemes = Vec::new(alloc);
-    let mut new_lexemes = Vec::new(alloc);
     let mut at = span.start;
     let mut from = 0;
-    'pieces: while let Some(len) = read_piece(&text[at..span.end], &mut old_lexemes)? {
-        let Some(new_len) = read_piece(&new[from..], &mut new_lexemes)? else {
+    'pieces: while let Some(len) = first_piece(&text[at..span.end]) {
+        let Some(new_len) = first_piece(&new[from..]) else {
             break;
         };
         let (end, to) = (at + len, from + new_len);

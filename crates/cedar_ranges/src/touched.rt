@@ -1,27 +1,23 @@
 //! The part of a text that a range touches.
-ghost use Rattle.std.specs.Prelude.{IfOk};
 ghost use Rattle.cedar_edits.specs.Edits.{IsNamedPart};
 ghost use Rattle.cedar_ranges.specs.Pieces.{IsTouchedSpan};
 ghost use Rattle.cedar_ranges.specs.Inside.Growing.{Grows};
 
-use cedar_pieces::pieces::read_piece;
+use crate::cuts::first_piece;
 use cedar_policy_formatter::token::Span;
-use std::alloc::{AllocError, Global};
-
 // The span of the pieces touched by the range.
-pub(crate) fn touched_span(alloc: Global, text: &str, range: Span) -> Result<Span, AllocError>
-    ensures span { IfOk result (λ span. IsTouchedSpan text.now range span) }
-    ensures part { IfOk result (λ span. IsNamedPart text.now span) }
+pub(crate) fn touched_span(text: &str, range: Span) -> Span
+    ensures span { IsTouchedSpan text.now range result }
+    ensures part { IsNamedPart text.now result }
 {
-    let mut lexemes = Vec::new(alloc);
     let mut at = 0;
     let mut span = Span { start: 0, end: 0 };
-    'pieces: while let Some(len) = read_piece(&text[at..], &mut lexemes)? {
+    'pieces: while let Some(len) = first_piece(&text[at..]) {
         let end = at + len;
         span = with_piece(span, Span { start: at, end }, range);
         at = end;
     }
-    Ok(span)
+    span
 }
 
 // The span of the pieces touched so far, with one more piece after them.

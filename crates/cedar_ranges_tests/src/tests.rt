@@ -54,6 +54,10 @@ const ONE_LINE_OFF: &str =
 const REFUSED_BETWEEN: &str =
     "permit(principal,action,resource);\nforbid(;\npermit(principal,action,resource);\n";
 
+// A policy of 63 bytes with a number that is too large, and one of 35.
+const LARGE_NUMBER: &str =
+    "permit(principal,action,resource)when{1<99999999999999999999};\npermit(principal,action,resource);\n";
+
 // A policy, and a character that begins no token.
 const UNREADABLE: &str =
     "permit(principal,action,resource);\n#\nforbid(principal,action,resource);\n";
@@ -167,7 +171,7 @@ const WHOLE_ROWS: [WholeRow; 12] = [
     },
 ];
 
-const RANGE_ROWS: [RangeRow; 20] = [
+const RANGE_ROWS: [RangeRow; 21] = [
     RangeRow {
         text: ONE_LINE,
         range: (40, 41),
@@ -300,6 +304,14 @@ const RANGE_ROWS: [RangeRow; 20] = [
         range: (50, 51),
         edits: &[Put {
             span: (44, 79),
+            text: "\npermit (principal, action, resource);\n",
+        }],
+    },
+    RangeRow {
+        text: LARGE_NUMBER,
+        range: (70, 71),
+        edits: &[Put {
+            span: (63, 98),
             text: "\npermit (principal, action, resource);\n",
         }],
     },

@@ -14,17 +14,17 @@ use Rattle.cedar_ranges.proofs.format.format_range.Goals as goal
 
 pub lay_out-requires-clause-pieces : goal.lay_out-requires-clause-pieces
 lay_out-requires-clause-pieces c =
-    touched_pieces c.args.text.now c.args.range c.in_ok-span.span c.in_ok-span.ensures.span
+    touched_pieces c.args.text.now c.args.range c.touched_span-span.result c.touched_span-span.ensures.span
 
 pub returns-in_err-layout-clause-answer : goal.returns-in_err-layout-clause-answer
 returns-in_err-layout-clause-answer c =
     let text = c.args.text.now in
-    let p = err_from_is_err_and c.from_residual-in_err-layout.result
-    c.from_residual-in_err-layout.ensures.1 in
-    rw (p.1, p.2) (memory_or (Refuses (within text c.in_ok-span.span))
+    let p = err_from_is_err_and c.from_residual.result
+    c.from_residual.ensures.1 in
+    rw (p.1, p.2) (memory_or (Refuses (within text c.touched_span-span.result))
     (IsRefusedAt text c.args.range) (λ e refused. record {
-      span = c.in_ok-span.span;
-      touched = c.in_ok-span.ensures.span;
+      span = c.touched_span-span.result;
+      touched = c.touched_span-span.ensures.span;
       some = c.in_err-layout.ensures.some;
       refused = refused;
     }) c.in_err-layout.field-0.0 c.in_err-layout.ensures.refused)
@@ -32,13 +32,13 @@ returns-in_err-layout-clause-answer c =
 pub returns-in_err-layout-clause-accepted : goal.returns-in_err-layout-clause-accepted
 returns-in_err-layout-clause-accepted c =
     let text = c.args.text.now in
-    let span = c.in_ok-span.span in
-    let p = err_from_is_err_and c.from_residual-in_err-layout.result
-    c.from_residual-in_err-layout.ensures.1 in
+    let span = c.touched_span-span.result in
+    let p = err_from_is_err_and c.from_residual.result
+    c.from_residual.ensures.1 in
     rw (p.1, p.2) (λ accepted. only_memory (Refuses (within text span)) (λ e refused.
     c.accepted_is_not_refused.ensures (within text span) e
     (pieces_accepted text span accepted
-    (touched_pieces text c.args.range span c.in_ok-span.ensures.span)
+    (touched_pieces text c.args.range span c.touched_span-span.ensures.span)
     c.in_err-layout.ensures.some) refused) c.in_err-layout.field-0.0
     c.in_err-layout.ensures.refused)
 
@@ -47,7 +47,7 @@ returns-clause-keeps c =
     let w = c.args.config.now.line_width in
     let i = c.args.config.now.indent_width in
     let text = c.args.text.now in
-    let span = c.in_ok-span.span in
+    let span = c.touched_span-span.result in
     let bytes = string_bytes c.in_ok-layout.layout in
     let result = edited_by text c.in_ok-edits.edits.items in
     let same : result ≡ edited text span (string_bytes c.in_ok-layout-2.layout) =
@@ -58,6 +58,6 @@ returns-clause-keeps c =
     ends_keep text (edited text span bytes) (edited text span (with_returns bytes)) result ends
     (λ accepted.
     let alike = edit_alike w i text c.args.range span bytes c.utf8.text accepted
-    (part_from_named text span c.in_ok-span.ensures.part) c.in_ok-span.ensures.span
+    (part_from_named text span c.touched_span-span.ensures.part) c.touched_span-span.ensures.span
     c.in_ok-layout.ensures.layout in
     (alike.keeps, have_equal_lists text (edited text span bytes) alike))

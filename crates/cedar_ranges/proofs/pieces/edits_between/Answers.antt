@@ -46,8 +46,8 @@ pub push_edit-requires : goal.push_edit-requires
 push_edit-requires c =
     let end = end_of_piece c.args.text.now c.args.span c.pieces.at c.in-Some.len
     c.range-in-pieces.result.now c.requires c.pieces.invariant.inside
-    c.range-in-pieces.ensures.value (rw c.in-Some.is at c.in_ok-len.ensures.piece)
-    (rw c.in-Some.is at c.in_ok-len.ensures.boundary) in
+    c.range-in-pieces.ensures.value c.in-Some.ensures.piece
+    c.in-Some.ensures.boundary in
     record {
       order = omega arith;
       inside = omega (arith, end.1, c.requires.inside);
@@ -62,13 +62,13 @@ pieces-preserved c =
     let at = c.pieces.at in
     let from = c.pieces.from in
     let n = c.in-Some.len in
-    let m = c.in-Some-2.new_len in
+    let m = c.in-Some-first_piece.new_len in
     let end = end_of_piece text c.args.span at n c.range-in-pieces.result.now c.requires
     c.pieces.invariant.inside c.range-in-pieces.ensures.value
-    (rw c.in-Some.is at c.in_ok-len.ensures.piece)
-    (rw c.in-Some.is at c.in_ok-len.ensures.boundary) in
+    c.in-Some.ensures.piece
+    c.in-Some.ensures.boundary in
     let boundary : IsCharBoundary (drop from new) m = subst (λ z. IsCharBoundary z m)
-    (c.range_from.ensures.value ∙ ap (drop from) (take-length new)) (rw c.in-Some-2.is at c.in_ok-new_len.ensures.boundary) in
+    (c.range_from.ensures.value ∙ ap (drop from) (take-length new)) c.in-Some-first_piece.ensures.boundary in
     let split : drop from new ≡ slice_range new from (from + m) ++ drop (from + m) new =
     drop_split new from (from + m) (omega arith) in
     let adds : Adds text (record { start = at; end = at + n }) (slice_range new from (from + m))

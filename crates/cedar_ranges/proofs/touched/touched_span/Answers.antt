@@ -24,9 +24,9 @@ pieces-preserved c =
     let n = c.in-Some.len in
     let rest : c.range_from.result.now ≡ drop at text = c.range_from.ensures.value in
     let first : IsFirstPiece (drop at text) n = subst (λ z. IsFirstPiece z n) rest
-    (rw c.in-Some.is at c.in_ok-len.ensures.piece) in
+    c.in-Some.ensures.piece in
     let boundary : IsCharBoundary (drop at text) n = subst (λ z. IsCharBoundary z n) rest
-    (rw c.in-Some.is at c.in_ok-len.ensures.boundary) in
+    c.in-Some.ensures.boundary in
     let inside : at ≤ length text = c.pieces.invariant.named.boundary.0 in
     let end : CanBeNamed text (at + n) = rest_piece_named text at n inside first boundary in
     let ends = grown_named text c.args.range c.pieces.span (record { start = at; end = at + n })
