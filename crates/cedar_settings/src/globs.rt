@@ -1,5 +1,5 @@
 //! Globs, as `.editorconfig` has them.
-ghost use Rattle.std.specs.Prelude.{◌≡◌, IfOk};
+ghost use Rattle.std.specs.Prelude.{◌≡◌, ◌<◌, IfOk, IsErrOf, length};
 ghost use Rattle.cedar_settings.specs.Settings.{matches};
 
 use crate::translation::regex_of;
@@ -30,6 +30,10 @@ pub enum GlobError {
 }
 
 impl From<AllocError> for GlobError {
+    ghost use Rattle.cedar_settings.specs.declared.globs.GlobError.TheVariants.{OutOfMemory};
+
+    ghost from_gives = { λ _ error. error ≡ OutOfMemory };
+
     fn from(_: AllocError) -> GlobError {
         GlobError::OutOfMemory
     }
@@ -37,7 +41,9 @@ impl From<AllocError> for GlobError {
 
 impl Glob {
     /// Reads a glob. Every text that isn't too large is one.
-    pub fn new(alloc: Global, glob: &str) -> Result<Glob, GlobError> {
+    pub fn new(alloc: Global, glob: &str) -> Result<Glob, GlobError>
+        ensures { 4096 < length glob.now → IsErrOf result GlobError.TooLarge }
+    {
         if glob.len() > LONGEST {
             return Err(GlobError::TooLarge);
         }

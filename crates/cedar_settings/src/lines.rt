@@ -1,6 +1,8 @@
 //! The lines of a file `.editorconfig`.
 ghost use Rattle.std.specs.Prelude.{◌≡◌};
-ghost use Rattle.cedar_settings.specs.Values.{Takes, is_usable, least_number};
+ghost use Rattle.cedar_settings.specs.Values.{Says, is_usable, least_number};
+
+use std::num::IntErrorKind;
 
 /// A setting that decides about a layout.
 #[derive(Clone, Copy, PartialEq, Eq, Debug)]
@@ -123,7 +125,7 @@ impl Key {
 
     /// What the text of a value says.
     pub fn read(self, text: &str) -> Value
-        ensures { Takes self result }
+        ensures { Says self text.now result }
     {
         if text.eq_ignore_ascii_case("unset") {
             return Value::Unset;
@@ -134,12 +136,13 @@ impl Key {
         if self == Key::MaxLineLength && text.eq_ignore_ascii_case("off") {
             return Value::Off;
         }
-        if text.is_empty() || !text.bytes().all(|byte| byte.is_ascii_digit()) {
-            return Value::Wrong(Fault::NoNumber);
-        }
         match text.parse::<u16>() {
             Ok(columns) if columns >= self.least() => Value::Columns(columns),
-            _ => Value::Wrong(Fault::OutOfRange),
+            Ok(_) => Value::Wrong(Fault::OutOfRange),
+            Err(error) if *error.kind() == IntErrorKind::PosOverflow => {
+                Value::Wrong(Fault::OutOfRange)
+            }
+            Err(_) => Value::Wrong(Fault::NoNumber),
         }
     }
 }
