@@ -42,7 +42,8 @@ pub record IsNamedPart (text : List ℕ) (span : Span) : Type 0 where
   pub first : CanBeNamed text span.start
   pub last : CanBeNamed text span.end
 
--- the spans of the edits begin at a byte or after it, each where the one before it ends or after that, and a client can name them
+-- the spans of the edits begin at a byte or after it, each where the one before it ends or after that, and a client can
+-- name them
 abbrev pub AreInOrder : List ℕ → ℕ → List Edit → Type 0
 AreInOrder text at [] = ⊤
 AreInOrder text at (e ∷ es) = (at ≤ e.span.start) × IsNamedPart text e.span × AreInOrder text e.span.end es

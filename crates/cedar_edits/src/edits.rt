@@ -30,8 +30,8 @@ impl Edit {
     }
 }
 
-/// The text with all of these edits applied. The spans are in order and in the text, at places that a client can name. The only
-/// error is out of memory.
+/// The text with all of these edits applied. The spans are in order and in the text, at places that a client can name.
+/// The only error is out of memory.
 pub fn apply_edits(alloc: Global, text: &str, edits: &[Edit]) -> Result<String, AllocError>
     requires { AreInOrder text.now 0 edits.now }
     ensures { IfOk result (λ r. string_bytes r ≡ edited_by text.now edits.now) }

@@ -8,8 +8,8 @@ use crate::edits::Edit;
 use cedar_tokens::token::Span;
 use std::alloc::{AllocError, Global};
 
-/// The edit that turns the part of the text at this span into `new`, of the fewest lines: what both begin and both end with is left
-/// out. `None` if nothing changes. A line ends with a line feed. The only error is out of memory.
+/// The edit that turns the part of the text at this span into `new`, of the fewest lines: what both begin and both end
+/// with is left out. `None` if nothing changes. A line ends with a line feed. The only error is out of memory.
 pub fn line_edit(
     alloc: Global,
     text: &str,

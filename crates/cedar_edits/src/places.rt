@@ -11,8 +11,8 @@ use std::alloc::{AllocError, Global};
 
 /// The edits by positions in the text, in the same order. The only error is out of memory.
 ///
-/// An edit that ends where the text ends, on a line without a line end, ends at the line after that one: so an editor that adds a
-/// line end to the last line of a file sees that the edit brings its own.
+/// An edit that ends where the text ends, on a line without a line end, ends at the line after that one: so an editor
+/// that adds a line end to the last line of a file sees that the edit brings its own.
 pub fn place_edits(
     alloc: Global,
     text: &str,

@@ -50,7 +50,8 @@ pub fn position_at(text: &str, at: usize, encoding: Encoding) -> Position
     position_on(text, line, kept, encoding)
 }
 
-/// The line of the byte `at`, counted from 0, found by walking on from where `from` begins, or from the start if that is past it.
+/// The line of the byte `at`, counted from 0, found by walking on from where `from` begins, or from the start if that
+/// is past it.
 ///
 /// So the lines of many bytes in ascending order are found in one walk along the text.
 pub fn line_from(text: &str, from: Line, at: usize) -> Line

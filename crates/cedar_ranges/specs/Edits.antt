@@ -37,7 +37,8 @@ pub record IsFormattedOf (width : ℕ) (indent : ℤ) (text result : List ℕ) :
   pub output : IsOutputOf width indent text out
   pub ends : InLineEnds text out (with_returns out) result
 
--- the result is the text with the policies laid out that the range touches, in the text's line ends, and all other bytes unchanged
+-- the result is the text with the policies laid out that the range touches, in the text's line ends, and all other
+-- bytes unchanged
 pub record IsFormattedAt (width : ℕ) (indent : ℤ) (text : List ℕ) (range : Span) (result : List ℕ) : Type 0 where
   pub span : Span
   pub touched : IsTouchedSpan text range span

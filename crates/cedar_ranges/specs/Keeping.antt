@@ -8,7 +8,7 @@ use Rattle.cedar_policy_formatter.specs.Compared.{HaveEqualLists}
 abbrev pub Keeps : List ℕ → List ℕ → Type 0
 Keeps text other = Accepted text → Accepted other × HaveEqualLists text other
 
--- of two forms of a text, with line feeds alone and with carriage returns before them, the result is the one with the text's line
--- ends: with carriage returns, if the text has them and keeps its list so
+-- of two forms of a text, with line feeds alone and with carriage returns before them, the result is the one with the
+-- text's line ends: with carriage returns, if the text has them and keeps its list so
 abbrev pub InLineEnds : List ℕ → List ℕ → List ℕ → List ℕ → Type 0
 InLineEnds text plain returned result = ((HasReturns text × Keeps text returned) × (result ≡ returned)) ⊎ ((¬ (HasReturns text × Keeps text returned)) × (result ≡ plain))

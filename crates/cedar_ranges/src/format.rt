@@ -21,9 +21,9 @@ use std::alloc::{AllocError, Global};
 
 /// The edits that turn a text into its output at the width and the indentation of `config`; none if it is its own output.
 ///
-/// Each edit replaces whole lines of one policy with the comments around it, and leaves out the lines that stay. The output gets the
-/// text's line ends: if the text has line feeds, and a carriage return before each of them, so has the text with the edits applied.
-/// A text is refused as `policies_str_to_pretty` refuses it.
+/// Each edit replaces whole lines of one policy with the comments around it, and leaves out the lines that stay. The
+/// output gets the text's line ends: if the text has line feeds, and a carriage return before each of them, so has the
+/// text with the edits applied. A text is refused as `policies_str_to_pretty` refuses it.
 pub fn format_text(alloc: Global, text: &str, config: &Config) -> Result<Vec<Edit>, FormatError>
     ensures answer { MatchResult result (λ _. Accepted text.now) (OutOfMemoryOr (Refuses text.now)) }
     ensures output { IfOk result (λ edits. IsFormattedOf config.now.line_width config.now.indent_width text.now (edited_by text.now edits.items)) }
@@ -40,8 +40,8 @@ pub fn format_text(alloc: Global, text: &str, config: &Config) -> Result<Vec<Edi
     Ok(edits)
 }
 
-/// The edits that lay out the policies of `text` touched by `range`, at the width and the indentation of `config`; none if they are
-/// laid out already.
+/// The edits that lay out the policies of `text` touched by `range`, at the width and the indentation of `config`; none
+/// if they are laid out already.
 ///
 /// A policy's piece of the text goes from the end of the piece before through the policy's `;` and the rest of its line,
 /// so it includes the comments before the policy and the comment after its `;`. The range touches a piece if it contains
@@ -49,9 +49,9 @@ pub fn format_text(alloc: Global, text: &str, config: &Config) -> Result<Vec<Edi
 /// Whatever lies past the last piece touches nothing, and so does whatever lies past a place where no token begins.
 /// The pieces touched are replaced by their output, after an empty line if a piece comes before, in the text's line ends.
 ///
-/// If the text is accepted, it is still accepted with the edits applied, and has the same list, so its output stays what it is. The
-/// text may also be refused: what the pieces touched hold has to be accepted by itself, and is refused otherwise, as
-/// `policies_str_to_pretty` refuses it, at a byte counted from the start of these pieces.
+/// If the text is accepted, it is still accepted with the edits applied, and has the same list, so its output stays
+/// what it is. The text may also be refused: what the pieces touched hold has to be accepted by itself, and is refused
+/// otherwise, as `policies_str_to_pretty` refuses it, at a byte counted from the start of these pieces.
 pub fn format_range(
     alloc: Global,
     text: &str,

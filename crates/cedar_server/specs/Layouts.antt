@@ -13,13 +13,14 @@ use Rattle.cedar_positions.specs.Positions.{IsOffsetOf}
 use Rattle.cedar_server.specs.declared.messages.Answer.{Answer}
 use Rattle.cedar_server.specs.declared.messages.Answer.TheVariants as answer
 
--- by these edits at positions, each in the old text and in order, the client makes the new text; there are none if nothing changes
+-- by these edits at positions, each in the old text and in order, the client makes the new text; there are none if
+-- nothing changes
 pub record EditsTo (e : Encoding) (edits : List Edit) (old new : List ℕ) : Type 0 where
   pub puts : PutsAll e edits old new
   pub none : new ≡ old → edits ≡ []
 
--- the answer for a text, at a width and an indentation: the edits that make its output of it, in its line ends, so that an accepted
--- text keeps its list; and nothing if it is refused
+-- the answer for a text, at a width and an indentation: the edits that make its output of it, in its line ends, so that
+-- an accepted text keeps its list; and nothing if it is refused
 abbrev pub LaysOut : Encoding → ℕ → ℤ → List ℕ → Answer → Type 0
 LaysOut e w i text (answer.Edits edits) = (new : List ℕ) × EditsTo e edits.items text new × IsFormattedOf w i text new × Keeps text new
 LaysOut e w i text answer.Nothing = (why : FormatError) × Refuses text why
@@ -30,8 +31,8 @@ pub record IsRangeOf (e : Encoding) (text : List ℕ) (range : Range) (touched :
   pub first : IsOffsetOf e text range.start touched.start
   pub last : IsOffsetOf e text range.end touched.end
 
--- the answer for a range of a text: the edits that lay out the policies that it touches, so that an accepted text keeps its list; and
--- nothing if they are refused by themselves
+-- the answer for a range of a text: the edits that lay out the policies that it touches, so that an accepted text keeps
+-- its list; and nothing if they are refused by themselves
 abbrev pub LaysOutPart : Encoding → ℕ → ℤ → Range → List ℕ → Answer → Type 0
 LaysOutPart e w i range text (answer.Edits edits) = (touched : Span) × IsRangeOf e text range touched × (new : List ℕ) × EditsTo e edits.items text new × IsFormattedAt w i text touched new × Keeps text new
 LaysOutPart e w i range text answer.Nothing = (touched : Span) × IsRangeOf e text range touched × (why : FormatError) × IsRefusedAt text touched why
