@@ -235,8 +235,9 @@ fn initialize(alloc: Global, text: &str) -> Result<Request, AllocError> {
             == Some(true),
         wishes: Wishes {
             line_width: count_at(&params, "/initializationOptions/lineWidth"),
-            indent_width: count_at(&params, "/initializationOptions/indentWidth")
-                .and_then(|columns| u16::try_from(columns).ok()),
+            indent_width: count_at(&params, "/initializationOptions/indentWidth").and_then(
+                |columns| u16::try_from(columns).ok(),
+            ),
         },
     }))
 }

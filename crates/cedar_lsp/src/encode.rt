@@ -22,7 +22,10 @@ pub fn encode(alloc: Global, message: ServerMessage) -> Result<String, AllocErro
 // The answer to a message that is rejected.
 fn rejection(alloc: Global, id: Option<Id>, fault: Fault) -> Result<String, AllocError> {
     let (code, message) = match fault {
-        Fault::Parse => (-32700, "the message is no JSON, or its length can't be read"),
+        Fault::Parse => (
+            -32700,
+            "the message is no JSON, or its length can't be read",
+        ),
         Fault::NoMessage => (
             -32600,
             "the message is no request, no notification and no response",
@@ -146,9 +149,7 @@ fn diagnostics(
         None => json!(in alloc; [])?,
     };
     let params = match version {
-        Some(version) => {
-            json!(in alloc; {"uri": uri, "version": version, "diagnostics": list})?
-        }
+        Some(version) => { json!(in alloc; {"uri": uri, "version": version, "diagnostics": list})? }
         None => json!(in alloc; {"uri": uri, "diagnostics": list})?,
     };
     notification(alloc, "textDocument/publishDiagnostics", params)
@@ -162,8 +163,13 @@ fn notification(alloc: Global, method: &str, params: Value) -> Result<String, Al
 // A warning that is shown to the user.
 fn notice(alloc: Global, uri: Option<String>) -> Result<String, AllocError> {
     let message = match uri {
-        Some(uri) => format!(in alloc; "Cedar: a message about {uri} can't be read, so its text is unknown. It is neither checked nor formatted until it is opened again.")?,
-        None => String::from_str(alloc, "Cedar: a message can't be read, so the texts of the open documents are unknown. They are neither checked nor formatted until they are opened again.")?,
+        Some(uri) => format!(in alloc;
+            "Cedar: a message about {uri} can't be read, so its text is unknown. It is neither checked nor formatted until it is opened again."
+        )?,
+        None => String::from_str(
+            alloc,
+            "Cedar: a message can't be read, so the texts of the open documents are unknown. They are neither checked nor formatted until they are opened again.",
+        )?,
     };
     let params = json!(in alloc; {"type": 2, "message": message})?;
     notification(alloc, "window/showMessage", params)

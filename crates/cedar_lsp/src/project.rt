@@ -75,6 +75,9 @@ fn path_of(alloc: Global, uri: &str) -> Result<Option<String>, AllocError> {
         return Ok(None);
     };
     let is_plain = path.as_str().starts_with('/')
-        && !path.as_str().split('/').any(|name| name == "." || name == "..");
+        && !path
+            .as_str()
+            .split('/')
+            .any(|name| name == "." || name == "..");
     Ok(is_plain.then_some(path))
 }
