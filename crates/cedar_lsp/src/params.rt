@@ -1,5 +1,4 @@
 //! The members that the parameters of each message need, as the protocol names them. Other members are ignored.
-use cedar_server::{Change, Position, Range};
 use serde::Deserialize;
 use serde_json::Value;
 

@@ -4,7 +4,7 @@ use Rattle.std.specs.List.{sum_by}
 use Rattle.std.specs.Str.{IsUtf8}
 use Rattle.std.proofs.lemmas.List.Elements.{filter-append}
 use Rattle.cedar_tokens.specs.Units as U
-use Rattle.cedar_tokens.specs.Units.{is_token, IsToken, IsFirstUnit, BeginsNoUnit}
+use Rattle.cedar_tokens.specs.Units.{is_token, IsToken, BeginsNoUnit}
 use Rattle.cedar_tokens.specs.Split.{SplitsInto, Splits, FaultPreventsSplit}
 use Rattle.cedar_tokens.specs.UnitSteps.{unit_text}
 use Rattle.cedar_tokens.specs.declared.units.Unit.{Unit}

@@ -16,7 +16,7 @@ use Rattle.cedar_positions.specs.declared.changes.Change.TheVariants.{Whole, Par
 use Rattle.cedar_positions.specs.declared.positions.Encoding.{Encoding}
 use Rattle.cedar_positions.specs.Changes.{MakeInTurn}
 use Rattle.cedar_server.specs.declared.documents.Document.{Document}
-use Rattle.cedar_server.specs.declared.documents.Document.TheVariants.{Text, Lost}
+use Rattle.cedar_server.specs.declared.documents.Document.TheVariants.{Lost}
 use Rattle.cedar_server.specs.declared.messages.ServerMessage.{ServerMessage}
 use Rattle.cedar_server.specs.declared.server.Server.{Server}
 use Rattle.cedar_server.specs.Sessions.{AreCleared, Documents, Give, IsPart, Judges, JudgesAll, Puts, State, document_of, lost, name_of_text, names_of_texts, state_in, state_of}

@@ -1,5 +1,5 @@
 -- What a map of documents holds after a change.
-use Rattle.std.proofs.Common.{◌≡◌, ◌≢◌, ℕ, false, cond, List, Option, String, Global, string_bytes, refl, ap, ◌∙◌}
+use Rattle.std.proofs.Common.{◌≡◌, ◌≢◌, ℕ, false, cond, List, Option, refl, ap, ◌∙◌}
 use Rattle.std.specs.BTreeMap.{get_by_text}
 use Rattle.std.specs.Map.{update}
 use Rattle.std.specs.Option.{option_map}
@@ -7,7 +7,7 @@ use Rattle.std.specs.Str.{bytes_eq}
 use Rattle.std.proofs.lemmas.Bool.{false_from_ne_true}
 use Rattle.std.proofs.lemmas.Slice.Eq.{bytes_eq-Decides}
 use Rattle.cedar_server.specs.declared.documents.Document.{Document}
-use Rattle.cedar_server.specs.Sessions.{Documents, State, state_in, state_of}
+use Rattle.cedar_server.specs.Sessions.{Documents, state_in, state_of}
 
 -- the map holds what it held, except at these bytes
 abbrev pub IsUpdated : List ℕ → Option Document → Documents → Documents → Type 0

@@ -1,5 +1,5 @@
 //! The answers to requests for a layout.
-ghost use Rattle.std.specs.Prelude.{◌≡◌, IfOk};
+ghost use Rattle.std.specs.Prelude.{IfOk};
 ghost use Rattle.cedar_server.specs.Layouts.{LaysOut, LaysOutPart};
 
 use crate::messages::Answer;

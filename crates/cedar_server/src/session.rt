@@ -1,5 +1,5 @@
 //! A whole session with a client.
-ghost use Rattle.std.specs.Prelude.{◌≡◌, ◌∷◌, [], IfOk, OnOk, List, Option, map};
+ghost use Rattle.std.specs.Prelude.{◌∷◌, [], IfOk, OnOk, List, Option, map};
 ghost use Rattle.cedar_server.specs.Talks.{Event, Grows, IsSession, Settling, TakesTurn, said, told};
 
 use crate::messages::{ClientMessage, Notification, ServerMessage, Wishes};

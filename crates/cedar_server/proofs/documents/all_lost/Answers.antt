@@ -1,8 +1,7 @@
-use Rattle.std.proofs.Common.{◌≡◌, [], ◌∷◌, ◌++◌, map, string_bytes, rules, ap, sym, subst, ◌∙◌}
+use Rattle.std.proofs.Common.{◌≡◌, [], ◌∷◌, map, string_bytes, rules, ap, sym, ◌∙◌}
 use Rattle.std.specs.Map.Iter.{deref_pair}
 use Rattle.std.proofs.lemmas.List.{map-append}
 use Rattle.std.proofs.lemmas.Map.Iter.{iter_end}
-use Rattle.cedar_server.specs.Sessions.{state_in}
 use Rattle.cedar_server.proofs.Losing.{found_is_lost, lost_among, puts_lost}
 use Rattle.cedar_server.proofs.documents.all_lost.Goals as goal
 

@@ -1,4 +1,4 @@
-use Rattle.std.proofs.Common.{List, [], ◌∷◌, ◌++◌, true, false, inr, ap, subst, sym, ◌∙◌, ◌≡◌, Some, string_bytes}
+use Rattle.std.proofs.Common.{List, [], ◌∷◌, ◌++◌, true, false, inr, ap, subst, sym, ◌∙◌, ◌≡◌, Some}
 use Rattle.cedar_server.specs.Sessions.{document_of, lost}
 use Rattle.cedar_server.specs.declared.messages.ServerMessage.{ServerMessage}
 use Rattle.cedar_server.specs.declared.messages.ServerMessage.TheVariants.{Notice}

@@ -1,4 +1,4 @@
-use Rattle.std.proofs.Common.{string_bytes, ap, sym, subst, ◌∙◌, ◌≡◌, ◌∷◌, []}
+use Rattle.std.proofs.Common.{string_bytes, ap, sym, subst, ◌∙◌}
 use Rattle.cedar_server.specs.Diagnoses.{IsDiagnosis}
 use Rattle.cedar_server.proofs.server.Server.open.Goals as goal
 

@@ -1,4 +1,4 @@
-use Rattle.std.proofs.Common.{◌≡◌, ◌+◌, ◌<◌, [], ◌∷◌, ◌++◌, String, Global, get_or, length, map, string_bytes, take, arith, ap, subst, sym, ◌∙◌}
+use Rattle.std.proofs.Common.{◌≡◌, ◌+◌, ◌<◌, [], ◌∷◌, ◌++◌, String, Global, get_or, length, map, string_bytes, take, ap, subst, sym, ◌∙◌}
 use Rattle.std.proofs.lemmas.List.{map-append, take_more}
 use Rattle.cedar_server.specs.Sessions.{Judges, JudgesAll, document_of}
 use Rattle.cedar_server.proofs.Losing.{judged_more}
