@@ -22,10 +22,14 @@ def folder(script):
     return os.path.dirname(ask(script, "doc"))
 
 
+def wanted():
+    """The kit that the repository is proved with."""
+    with open(f"{ROOT}/KIT", encoding="utf-8") as it:
+        return it.read().strip()
+
+
 def warn(script):
     """Says if the kit is not the one in the file KIT."""
-    with open(f"{ROOT}/KIT", encoding="utf-8") as it:
-        wanted = it.read().strip()
     found = ask(script, "version")
-    if found != wanted:
-        print(f"{script}: this kit is {found}, and the repository is proved with {wanted}", file=sys.stderr)
+    if found != wanted():
+        print(f"{script}: this kit is {found}, and the repository is proved with {wanted()}", file=sys.stderr)
