@@ -7,14 +7,16 @@
  *
  * What a caller has to ensure, and nothing checks:
  *
- * - No pointer is null, even if its length is 0. `text`, `a` and `b` point to as many readable bytes as their lengths
- *   say, `out` to `room` writable ones, and each answer pointer to a whole struct. No length is above PTRDIFF_MAX.
+ * - `text`, `a` and `b` point to as many readable bytes as their lengths say, `out` to `room` writable ones, and each answer
+ *   pointer to a whole struct. Only the pointer of no bytes may be null: `text`, `a` or `b` with length 0, and `out` with
+ *   `room` 0. No length is above PTRDIFF_MAX.
  * - What a call writes to (`out`, the answer) overlaps nothing else that is passed to it. Texts may overlap each other.
  * - While a call runs, no other thread writes what it reads, or reads or writes what it writes. Calls on separate memory
  *   may run at the same time; nothing is kept from one call to the next.
  * - No call is made from a signal handler, or in the forked child of a process with threads.
  * - malloc, realloc and free belong to one allocator, and align a block of N bytes to each power of two up to 16 that divides N.
- * - The stack has 1 MiB left, for a text of 128 nested brackets. (A thread's stack may be smaller than the process's.)
+ * - The stack has 1 MiB left, for a text of 128 nested brackets; with less, the process may end by SIGSEGV. (A thread's stack
+ *   may be smaller than the process's.)
  */
 #ifndef CEDAR_FORMATTER_H
 #define CEDAR_FORMATTER_H
@@ -56,7 +58,7 @@ struct cedar_answer {
  * negative number moves to the left), and writes the result to the start of `out`, with no zero byte at its end.
  *
  * CEDAR_RESULT: the number is the length of the result; the rest of `out` is unchanged.
- * CEDAR_NO_ROOM: the number is the length of the result, which is above `room`. So a `room` of 0 asks for the length.
+ * CEDAR_NO_ROOM: the number is the length of the result, which is above `room`. So a null `out` with a `room` of 0 asks for it.
  * With every kind except CEDAR_RESULT `out` is unchanged. CEDAR_NO_DOCUMENT and CEDAR_UNSOUND never occur; every other kind
  * can.
  */
@@ -74,8 +76,7 @@ void cedar_is_formatted(const char *text, size_t len, size_t width, ptrdiff_t in
  * tokens and comments are the same, up to trailing commas and leading zeros of numbers. The answer is CEDAR_NOT_UTF8 if one
  * of them isn't UTF-8, else the refusal of `a`, else that of `b`; CEDAR_NO_ROOM never occurs.
  */
-void cedar_same_layout(const char *a, size_t a_len, const char *b, size_t b_len, size_t width, ptrdiff_t indent,
-                       struct cedar_answer *answer);
+void cedar_same_layout(const char *a, size_t a_len, const char *b, size_t b_len, struct cedar_answer *answer);
 
 /* The place of a byte in a text. */
 struct cedar_place_answer {
@@ -89,6 +90,12 @@ struct cedar_place_answer {
  * character has the place of that character, and one past the end has the place of the end.
  */
 void cedar_place(const char *text, size_t len, size_t at, struct cedar_place_answer *place);
+
+/*
+ * Writes the version of the library to the start of `out`, with no zero byte at its end: "noblesilk 1.0.0, proved with KIT",
+ * or "noblesilk 1.0.0, not proved, built with KIT". The answer is CEDAR_RESULT or CEDAR_NO_ROOM, as for cedar_format.
+ */
+void cedar_version(char *out, size_t room, struct cedar_answer *answer);
 
 #ifdef __cplusplus
 }

@@ -42,7 +42,7 @@ static void is_formatted(void) {
 }
 
 static void same_layout(void) {
-    cedar_same_layout(text, len, layout, layout_len, 80, 2, &answer);
+    cedar_same_layout(text, len, layout, layout_len, &answer);
 }
 
 /* Makes a call with each block refused in turn; returns whether all goes well. */

@@ -14,11 +14,11 @@ import (
 
 // format lays a text out at 80 columns per line and 2 per level. The kind is 0, or says why there is no result.
 func format(text []byte) ([]byte, uint32) {
-	given := append(text[:len(text):len(text)], 0) // (a copy; not empty, so that no pointer is null)
 	var answer C.struct_cedar_answer
-	for room := 2*len(given) + 64; ; room = int(answer.number) {
+	for room := 2*len(text) + 64; ; room = int(answer.number) {
 		out := make([]byte, room)
-		C.cedar_format((*C.char)(unsafe.Pointer(&given[0])), C.size_t(len(text)), 80, 2,
+		// (the pointer of an empty text may be nil)
+		C.cedar_format((*C.char)(unsafe.Pointer(unsafe.SliceData(text))), C.size_t(len(text)), 80, 2,
 			(*C.char)(unsafe.Pointer(&out[0])), C.size_t(room), &answer)
 		if answer.kind == C.CEDAR_RESULT {
 			return out[:answer.number], 0

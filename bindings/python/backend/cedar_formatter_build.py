@@ -12,7 +12,7 @@ import tarfile
 import zipfile
 
 HERE = os.path.dirname(os.path.dirname(os.path.realpath(__file__)))
-NAME, PACKAGE, LIBRARY = "cedar-formatter", "cedar_formatter", "libcedar_formatter.so.1"
+NAME, PACKAGE, LIBRARY = "cedar-formatter", "cedar_formatter", "libcedar_formatter.so.2"
 TAG = "py3-none-linux_x86_64"
 # From bindings/python of the repository, and from PREFIX/share/noblesilk/python.
 LIBRARIES = f"{HERE}/../out/libcedar_formatter.so", f"{HERE}/../../../lib/{LIBRARY}"

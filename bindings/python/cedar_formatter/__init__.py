@@ -8,6 +8,11 @@ A text is a `str`, or bytes in UTF-8 (`bytes`, `bytearray`, `memoryview`); anyth
 refused raises `Refused`, and bytes that aren't UTF-8 raise `NotUtf8`; both are `ValueError`s and have `kind`, `byte`, `line`
 and `column`. Running out of memory raises a `MemoryError`.
 
+A call needs 1 MiB of stack for the most deeply nested texts, on whatever thread it is made. On a smaller one, as after
+`threading.stack_size(262144)`, such a text ends the process by SIGSEGV, and no exception is raised.
+
+`__version__` is the version of the library, with `+unproved` after it if the library was built without a proof.
+
 The library is what the variable CEDAR_FORMATTER names; else the one in this package, where pip puts it; else that of the
 repository, bindings/out; else the one of a release, PREFIX/lib.
 """
@@ -18,9 +23,20 @@ from typing import NamedTuple, Tuple, Union, overload
 
 from ._library import RESULT, NO_ROOM, Answer, PlaceAnswer, load
 
-__all__ = ["Kind", "NotUtf8", "Place", "Refused", "format_text", "is_formatted", "place", "same_layout"]
+__all__ = ["Kind", "NotUtf8", "Place", "Refused", "__version__", "format_text", "is_formatted", "place", "same_layout"]
 
 _LIBRARY = load()
+
+
+def _version() -> str:
+    """The version, from `noblesilk VERSION, proved with KIT`, or `noblesilk VERSION, not proved, built with KIT`."""
+    out, answer = ctypes.create_string_buffer(200), Answer()
+    _LIBRARY.cedar_version(out, len(out), ctypes.byref(answer))
+    number, _, how = out.raw[: answer.number].decode().partition(", ")
+    return number.rpartition(" ")[2] + ("" if how.startswith("proved ") else "+unproved")
+
+
+__version__ = _version()
 
 _Bytes = Union[bytes, bytearray, memoryview]
 _Text = Union[str, _Bytes]
@@ -156,27 +172,23 @@ def format_text(text: _Text, width: int = 80, indent: int = 2) -> Union[str, byt
 
 def is_formatted(text: _Text, width: int = 80, indent: int = 2) -> bool:
     """Whether the text is as `format_text` lays it out."""
-    return _is_formatted(_bytes_of(text), _layout(width, indent))
+    given, layout, answer = _bytes_of(text), _layout(width, indent), Answer()
+    _LIBRARY.cedar_is_formatted(given, len(given), *layout, ctypes.byref(answer))
+    return _result(answer, given) == 1
 
 
-def _is_formatted(text: bytes, layout: Tuple[int, int]) -> bool:
-    answer = Answer()
-    _LIBRARY.cedar_is_formatted(text, len(text), *layout, ctypes.byref(answer))
-    return _result(answer, text) == 1
-
-
-def same_layout(a: _Text, b: _Text, width: int = 80, indent: int = 2) -> bool:
-    """Whether the texts are laid out alike. A refusal of `a` is raised before one of `b`."""
-    first, second, layout, answer = _bytes_of(a), _bytes_of(b), _layout(width, indent), Answer()
-    _LIBRARY.cedar_same_layout(first, len(first), second, len(second), *layout, ctypes.byref(answer))
+def same_layout(a: _Text, b: _Text) -> bool:
+    """Whether the texts are laid out alike, at whatever width and indentation. A refusal of `a` is raised before one of `b`."""
+    first, second, answer = _bytes_of(a), _bytes_of(b), Answer()
+    _LIBRARY.cedar_same_layout(first, len(first), second, len(second), ctypes.byref(answer))
     if answer.kind == Kind.NOT_UTF8:
         # (which comes first, whichever text it is)
         _find(first, 0)
         _find(second, 0)
     elif answer.kind in _WORDS:
         # (the answer doesn't say which text it is)
-        _is_formatted(first, layout)
-        _is_formatted(second, layout)
+        is_formatted(first)
+        is_formatted(second)
     return _result(answer, second) == 1
 
 

@@ -3,7 +3,7 @@ import ctypes
 import os
 
 RESULT, NO_ROOM = 0, 10
-NAME = "libcedar_formatter.so.1"
+NAME = "libcedar_formatter.so.2"
 
 _HERE = os.path.dirname(os.path.realpath(__file__))
 # In the package; the repository's, from bindings/python; and PREFIX/lib, from PREFIX/share/noblesilk/python.
@@ -43,7 +43,8 @@ def _declare(library: ctypes.CDLL) -> None:
     answer = ctypes.POINTER(Answer)
     library.cedar_format.argtypes = [*text, *layout, ctypes.c_char_p, ctypes.c_size_t, answer]
     library.cedar_is_formatted.argtypes = [*text, *layout, answer]
-    library.cedar_same_layout.argtypes = [*text, *text, *layout, answer]
+    library.cedar_same_layout.argtypes = [*text, *text, answer]
     library.cedar_place.argtypes = [*text, ctypes.c_size_t, ctypes.POINTER(PlaceAnswer)]
-    for name in ("format", "is_formatted", "same_layout", "place"):
+    library.cedar_version.argtypes = [ctypes.c_char_p, ctypes.c_size_t, answer]
+    for name in ("format", "is_formatted", "same_layout", "place", "version"):
         getattr(library, f"cedar_{name}").restype = None

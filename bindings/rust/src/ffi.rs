@@ -39,11 +39,10 @@ extern "C" {
         a_len: usize,
         b: *const u8,
         b_len: usize,
-        width: usize,
-        indent: isize,
         answer: *mut Answer,
     );
     fn cedar_place(text: *const u8, len: usize, at: usize, place: *mut PlaceAnswer);
+    fn cedar_version(out: *mut u8, room: usize, answer: *mut Answer);
 }
 
 impl Answer {
@@ -115,21 +114,10 @@ pub fn is_formatted(text: &str, config: &Config) -> Result<bool, Error> {
     Ok(answer.result()? == 1)
 }
 
-pub fn same_layout(a: &str, b: &str, config: &Config) -> Result<bool, Error> {
-    let (width, indent) = (config.line_width, config.indent_width);
+pub fn same_layout(a: &str, b: &str) -> Result<bool, Error> {
     let mut answer = Answer::new();
     // SAFETY: the texts are valid UTF-8 of those lengths; they may overlap.
-    unsafe {
-        cedar_same_layout(
-            a.as_ptr(),
-            a.len(),
-            b.as_ptr(),
-            b.len(),
-            width,
-            indent,
-            &mut answer,
-        )
-    };
+    unsafe { cedar_same_layout(a.as_ptr(), a.len(), b.as_ptr(), b.len(), &mut answer) };
     Ok(answer.result()? == 1)
 }
 
@@ -146,4 +134,14 @@ pub fn place(text: &str, at: usize) -> Place {
         line: found.line,
         column: found.column,
     }
+}
+
+pub fn version() -> String {
+    let mut answer = Answer::new();
+    // SAFETY: a room of 0 bytes isn't written to.
+    unsafe { cedar_version(std::ptr::null_mut(), 0, &mut answer) };
+    let mut out = vec![0; answer.number];
+    // SAFETY: `out` has as many bytes as it says, and nothing else refers to them.
+    unsafe { cedar_version(out.as_mut_ptr(), out.len(), &mut answer) };
+    String::from_utf8(out).expect("a version is UTF-8")
 }

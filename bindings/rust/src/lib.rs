@@ -9,7 +9,8 @@
 //! ```
 //!
 //! The crate uses the proved library for C, which it links statically. It has no state, so its calls may run on several
-//! threads at the same time. A call needs 1 MiB of stack; by default a thread of the standard library has 2 MiB.
+//! threads at the same time. A call needs 1 MiB of stack, and with less the process may end by SIGSEGV; by default a thread of
+//! the standard library has 2 MiB.
 #![warn(missing_docs)]
 
 use std::fmt;
@@ -134,14 +135,19 @@ pub fn is_formatted(text: &str, config: &Config) -> Result<bool, Error> {
     ffi::is_formatted(text, config)
 }
 
-/// Whether two texts are laid out alike: their tokens and comments are the same, up to trailing commas and leading zeros of
-/// numbers. The answer is the same for every [`Config`].
+/// Whether two texts are laid out alike, with whatever [`Config`]: their tokens and comments are the same, up to trailing commas
+/// and leading zeros of numbers.
 ///
 /// # Errors
 ///
 /// Those of [`format()`]; a refusal of `a` comes before one of `b`.
-pub fn same_layout(a: &str, b: &str, config: &Config) -> Result<bool, Error> {
-    ffi::same_layout(a, b, config)
+pub fn same_layout(a: &str, b: &str) -> Result<bool, Error> {
+    ffi::same_layout(a, b)
+}
+
+/// The version of the library that is linked: `noblesilk 1.0.0, proved with KIT`, or `.., not proved, built with KIT`.
+pub fn version() -> String {
+    ffi::version()
 }
 
 /// The line and the column of a byte, counted from 0. A byte inside a character has the place of that character, and one

@@ -1,4 +1,4 @@
-use cedar_formatter::{format, is_formatted, place, same_layout, Config, Error, Place};
+use cedar_formatter::{format, is_formatted, place, same_layout, version, Config, Error, Place};
 
 const PACKED: &str = "permit(principal,action,resource);";
 const LAID_OUT: &str = "permit (principal, action, resource);\n";
@@ -11,8 +11,8 @@ fn lays_out() {
     assert_eq!(format("", &config).as_deref(), Ok("\n"));
     assert_eq!(is_formatted(PACKED, &config), Ok(false));
     assert_eq!(is_formatted(LAID_OUT, &config), Ok(true));
-    assert_eq!(same_layout(PACKED, LAID_OUT, &config), Ok(true));
-    assert_eq!(same_layout(PACKED, "", &config), Ok(false));
+    assert_eq!(same_layout(PACKED, LAID_OUT), Ok(true));
+    assert_eq!(same_layout(PACKED, ""), Ok(false));
 }
 
 #[test]
@@ -49,7 +49,7 @@ fn tells_why_and_where() {
     assert_eq!(error.at(), Some(51));
     assert_eq!(error.to_string(), "unknown character at byte 51");
     assert_eq!(is_formatted(REFUSED, &Config::default()), Err(error));
-    assert_eq!(same_layout("", REFUSED, &Config::default()), Err(error));
+    assert_eq!(same_layout("", REFUSED), Err(error));
     assert_eq!(Error::OutOfMemory.to_string(), "out of memory");
     assert_eq!(Error::OutOfMemory.at(), None);
 }
@@ -61,4 +61,10 @@ fn counts_columns_in_characters() {
     assert_eq!(place(text, 6), Place { line: 2, column: 1 });
     assert_eq!(place(text, 9), Place { line: 2, column: 3 });
     assert_eq!(place(text, 99).to_string(), "2:6");
+}
+
+#[test]
+fn tells_its_version() {
+    let number = concat!("noblesilk ", env!("CARGO_PKG_VERSION"), ", ");
+    assert!(version().starts_with(number), "{}", version());
 }

@@ -5,6 +5,7 @@ ghost use Rattle.cedar_c.specs.Answers.{TellsFormat, TellsIsFormatted, TellsPlac
 ghost use Rattle.cedar_c.specs.declared.answer.CallFault.TheVariants.{NotUtf8};
 
 use crate::answer::{CallFault, NOT_UTF8, PlaceAnswer, RESULT};
+use crate::version::VERSION;
 use cedar_policy_formatter::{Config, is_formatted, place, policies_str_to_pretty, same_layout};
 use std::alloc::Global;
 
@@ -31,18 +32,13 @@ pub fn check_layout(alloc: Global, bytes: &[u8], config: &Config) -> Result<usiz
     Ok(usize::from(yes))
 }
 
-/// Whether the policies `a` and `b` have the same layout: 1 for yes, 0 for no.
-pub fn compare_layouts(
-    alloc: Global,
-    a: &[u8],
-    b: &[u8],
-    config: &Config,
-) -> Result<usize, CallFault>
+/// Whether the policies `a` and `b` have the same layout, at whatever width and indentation: 1 for yes, 0 for no.
+pub fn compare_layouts(alloc: Global, a: &[u8], b: &[u8]) -> Result<usize, CallFault>
     ensures { TellsSameLayout a.now b.now result }
 {
     let first = text_of(a)?;
     let second = text_of(b)?;
-    let yes = same_layout(alloc, first, second, config)?;
+    let yes = same_layout(alloc, first, second, &Config::default())?;
     Ok(usize::from(yes))
 }
 
@@ -65,14 +61,28 @@ pub fn find_place(bytes: &[u8], at: usize) -> PlaceAnswer
     }
 }
 
+/// Writes the library's version to the start of `out`. Returns its length in bytes.
+pub fn version_into(out: &mut [u8]) -> Result<usize, CallFault>
+    ensures { TellsPut VERSION.now out.old out.new result }
+{
+    put(VERSION.as_bytes(), out)
+}
+
 // The text that the bytes encode in UTF-8.
 fn text_of(bytes: &[u8]) -> Result<&str, CallFault>
     ensures { MatchResult result (λ text. IsUtf8 bytes.now × (text.now ≡ bytes.now)) (λ fault. (fault ≡ NotUtf8) × ¬ (IsUtf8 bytes.now)) }
 {
-    match str::from_utf8(bytes) {
+    match str::from_utf8(without_pointer(bytes)) {
         Ok(text) => Ok(text),
         Err(_) => Err(CallFault::NotUtf8),
     }
+}
+
+// The same bytes. The pointer of no bytes, which is null for some callers, is replaced.
+fn without_pointer(bytes: &[u8]) -> &[u8]
+    ensures { result.now ≡ bytes.now }
+{
+    if bytes.is_empty() { &[] } else { bytes }
 }
 
 // Writes the layout to the start of the room if it fits there. Returns its length in bytes.

@@ -1,18 +1,21 @@
 //! The formatter for C and other languages: a static library.
 //!
 //! Each export answers through its last parameter, and `include/cedar_formatter.h` says what C must keep. Its contract is
-//! that of the library's call, over the bytes that C sees.
+//! that of the library's call, over the bytes that C sees. A text of no bytes may be a null pointer, and so may a room of none:
+//! they are never read or written through.
 #![tactic(auto)]
 
-ghost use Rattle.cedar_c.specs.Answers.{Answers, TellsFormat, TellsIsFormatted, TellsPlace, TellsSameLayout};
+ghost use Rattle.cedar_c.specs.Answers.{Answers, TellsFormat, TellsIsFormatted, TellsPlace, TellsPut, TellsSameLayout};
 
 mod answer;
 mod calls;
+mod version;
 
 use answer::answer_of;
 pub use answer::{Answer, CallFault, PlaceAnswer};
-use calls::{check_layout, compare_layouts, find_place, format_into};
+use calls::{check_layout, compare_layouts, find_place, format_into, version_into};
 use cedar_policy_formatter::Config;
+pub use version::VERSION;
 use std::alloc::Global;
 
 /// Lays out the policies `text` at `width` columns a line and `indent` columns a level, and writes the result to the start
@@ -54,24 +57,13 @@ pub extern "C" fn cedar_is_formatted(
     *answer = answer_of(check_layout(alloc, text, &config));
 }
 
-/// Whether `a` and `b` are laid out alike: the answer's number is 1 for yes and 0 for no. A refusal of `a` is reported
-/// before one of `b`.
+/// Whether `a` and `b` are laid out alike, at whatever width and indentation: the answer's number is 1 for yes and 0 for no. A
+/// refusal of `a` is reported before one of `b`.
 #[unsafe(no_mangle)]
-pub extern "C" fn cedar_same_layout(
-    alloc: Global,
-    a: &[u8],
-    b: &[u8],
-    width: usize,
-    indent: isize,
-    answer: &mut Answer,
-)
+pub extern "C" fn cedar_same_layout(alloc: Global, a: &[u8], b: &[u8], answer: &mut Answer)
     ensures { Answers (TellsSameLayout a.now b.now) answer.new }
 {
-    let config = Config {
-        line_width: width,
-        indent_width: indent,
-    };
-    *answer = answer_of(compare_layouts(alloc, a, b, &config));
+    *answer = answer_of(compare_layouts(alloc, a, b));
 }
 
 /// Where the byte `at` of `text`, counted from 0, is: its line and its column, both from 1, the column in characters. A
@@ -81,4 +73,13 @@ pub extern "C" fn cedar_place(text: &[u8], at: usize, answer: &mut PlaceAnswer)
     ensures { TellsPlace text.now at answer.new }
 {
     *answer = find_place(text, at);
+}
+
+/// Writes the version of the library, which says whether it is proved, to the start of `out`. The answer's number is its length
+/// in bytes, even if `out` is too small; then nothing is written.
+#[unsafe(no_mangle)]
+pub extern "C" fn cedar_version(out: &mut [u8], answer: &mut Answer)
+    ensures { Answers (TellsPut VERSION.now out.old out.new) answer.new }
+{
+    *answer = answer_of(version_into(out));
 }

@@ -1,0 +1,65 @@
+"""What the prover recorded of the files that it built.
+
+`rt run`, which ./build calls, leaves out/CRATE.stamp beside a program: a sum of everything that the program is made of, its
+libraries, definitions and proofs too, and then the sum of the program. bindings/build leaves the same beside the library for C,
+once the prover has passed it. `rt ci`, which ./check calls, keeps the sum of a program beside the kit, by the sums of everything
+that its proof read. Both go by rt's own functions, so this depends on them.
+"""
+import copy
+import importlib.machinery
+import importlib.util
+import json
+import os
+
+import kit
+
+
+def loaded(script):
+    """The program `rt` as a module."""
+    loader = importlib.machinery.SourceFileLoader("rt", f"{kit.folder(script)}/bin/rt")
+    made = importlib.util.module_from_spec(importlib.util.spec_from_loader("rt", loader))
+    loader.exec_module(made)
+    return made
+
+
+class Records:
+    """The records of a copy of the repository, for the sources of another one, or of the same."""
+
+    def __init__(self, script, sources, built):
+        self.rt, self.built = loaded(script), built
+        self.rt.Crate.allowed = self.rt.handles_of(sources)
+        self.crates, self.copies = ({it.name: it for it in self.rt.crates_of(top)} for top in (sources, built))
+
+    def stamp(self, crate):
+        """The sum of everything that a crate's program or library is made of."""
+        # (`rt run` adds the words and the status that a program is run with, and `rt ci` doesn't)
+        of = copy.copy(self.crates[crate])
+        self.rt.read_files(of)
+        return of.stamp()
+
+    def kept(self, crate):
+        """The sums of the files that `rt ci` built of a crate, by their names."""
+        # (otherwise it would be made)
+        if not os.path.isdir(self.rt.STORE):
+            return {}
+        of, kept = self.crates[crate], self.rt.Kept(list(self.crates.values()))
+        for it in self.copies[crate].below():
+            kept.is_built(it)
+        try:
+            with open(f"{kept.place(of, False, kept.key(of))}/made.json", encoding="utf-8") as it:
+                return dict(json.load(it)["files"])
+        except (OSError, ValueError, KeyError):
+            return {}
+
+    def are_of(self, crate, name):
+        """Whether the prover recorded the file of this name in a crate's folder out, as it is, for these sources."""
+        file = f"{self.built}/crates/{crate}/out/{name}"
+        sum_of, text_of = self.rt.rtlib.sum_of, self.rt.rtlib.text_of
+        return self.kept(crate).get(name) == sum_of(file) or text_of(f"{file}.stamp") == self.stamp(crate) + sum_of(file)
+
+    def note(self, crate, name):
+        """Records a file that the prover has just passed and built."""
+        file = f"{self.built}/crates/{crate}/out/{name}"
+        with open(f"{file}.stamp", "w", encoding="utf-8") as it:
+            it.write(self.stamp(crate) + self.rt.rtlib.sum_of(file))
+
