@@ -12,14 +12,20 @@ import (
 	"unsafe"
 )
 
+// start is the first byte of some bytes; of none it is nil.
+func start(bytes []byte) *C.char {
+	if len(bytes) == 0 {
+		return nil
+	}
+	return (*C.char)(unsafe.Pointer(&bytes[0]))
+}
+
 // format lays a text out at 80 columns per line and 2 per level. The kind is 0, or says why there is no result.
 func format(text []byte) ([]byte, uint32) {
 	var answer C.struct_cedar_answer
 	for room := 2*len(text) + 64; ; room = int(answer.number) {
 		out := make([]byte, room)
-		// (the pointer of an empty text may be nil)
-		C.cedar_format((*C.char)(unsafe.Pointer(unsafe.SliceData(text))), C.size_t(len(text)), 80, 2,
-			(*C.char)(unsafe.Pointer(&out[0])), C.size_t(room), &answer)
+		C.cedar_format(start(text), C.size_t(len(text)), 80, 2, start(out), C.size_t(room), &answer)
 		if answer.kind == C.CEDAR_RESULT {
 			return out[:answer.number], 0
 		}
