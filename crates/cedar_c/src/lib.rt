@@ -15,8 +15,8 @@ use answer::answer_of;
 pub use answer::{Answer, CallFault, PlaceAnswer};
 use calls::{check_layout, compare_layouts, find_place, format_into, version_into};
 use cedar_policy_formatter::Config;
-pub use version::VERSION;
 use std::alloc::Global;
+pub use version::VERSION;
 
 /// Lays out the policies `text` at `width` columns a line and `indent` columns a level, and writes the result to the start
 /// of `out`. The answer's number is its length in bytes, even if `out` is too small; then nothing is written, as with
