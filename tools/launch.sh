@@ -1,3 +1,4 @@
+# shellcheck shell=sh disable=SC2154
 # Finds the program of a script: ./cedar, ./cedar-files and ./cedar-lsp read this file with `.`, and set `root` before.
 
 # Reports on standard error, by the name of the script.
