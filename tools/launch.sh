@@ -15,9 +15,9 @@ is_older() {
 find_unproved() {
     case ${XDG_CACHE_HOME:-} in
     /*) cache=$XDG_CACHE_HOME ;;
-    *) cache=${HOME:-}/.cache ;;
+    *) cache=${HOME:+$HOME/.cache} ;;
     esac
-    for folder in "$root/out/unproved" "$cache/noblesilk$root"; do
+    for folder in "$root/out/unproved" ${cache:+"$cache/noblesilk$root"}; do
         program=$folder/$crate
         if [ -x "$program" ] && ! is_older "$root"/crates/*/src; then
             return 0
