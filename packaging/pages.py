@@ -10,8 +10,8 @@ NAMED = re.compile(r"  (\S+)(?: {2,}(.*))?")
 VALUES = re.compile(r" ?\[possible values: ([^]]*)\]")
 # What no help says.
 STATUS = {
-    "cedar-fmt": "0 if the policies were written, or are formatted; 3 with --check if they aren't formatted; 1 if the text is refused, "
-    "or can't be read or written; 2 for a usage error."
+    "cedar-fmt": "0 if the policies were written, or are formatted; 3 with --check if they aren't formatted; 1 if the text is "
+    "refused, or can't be read or written; 2 for a usage error."
 }
 SEE = "cedar-fmt", "cedar-files", "cedar-lsp"
 
@@ -163,7 +163,8 @@ def for_fish(program):
         yield f"{begin} -f"
     for it in program.options:
         short = f" -s {it.short[1:]}" if it.short else ""
-        value = f" -x -a {quoted(' '.join(it.values()))}" if it.values() else " -r -F" if it.takes_file() else " -x" if it.value else ""
+        value = " -r -F" if it.takes_file() else " -x" if it.value else ""
+        value = f" -x -a {quoted(' '.join(it.values()))}" if it.values() else value
         yield f"{begin}{short} -l {it.long[2:]}{value} -d {quoted(it.about)}"
 
 
