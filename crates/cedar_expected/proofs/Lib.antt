@@ -8,7 +8,7 @@ mod Tokens
 mod Following
 pub mod Splits
 mod Begun
-mod Rests
+pub mod Rests
 mod Probed
 mod FirstUnits
 pub mod RightAfter

@@ -1,10 +1,12 @@
 -- Lines and units of a text.
-use Rattle.std.proofs.Common.{◌≡◌, ℕ, zero, suc, ◌+◌, ◌-◌, ◌<◌, ◌≤◌, true, false, cond, List, length, get_or, take, drop, sum_by, ap, subst, ◌∙◌, inl, inr, arith, add-one}
+use Rattle.std.proofs.Common.{◌≡◌, refl, ℕ, zero, suc, ◌+◌, ◌-◌, ◌<◌, ◌≤◌, ◌==◌, ◌||◌, true, false, cond, List, length, get_or, take, drop, sum_by, ap, subst, sym, ◌∙◌, inl, inr, arith, add-one}
 use Rattle.std.specs.Prelude.{slice_range}
 use Rattle.std.proofs.lemmas.Bool.{cases_lt}
-use Rattle.std.proofs.lemmas.List.{get_or-drop}
+use Rattle.std.proofs.lemmas.Bool.{false_from_ne_true}
+use Rattle.std.proofs.lemmas.List.{get_or-drop, get_or-take, length-take-le}
 use Rattle.std.proofs.lemmas.List.Sums.{sum_by_more}
 use Rattle.std.proofs.Math.ListN.{length-drop}
+use Rattle.memchr.specs.Find.{Nowhere, Passes, is_byte2}
 use Rattle.cedar_positions.specs.declared.positions.Encoding.{Encoding}
 use Rattle.cedar_positions.specs.Positions.{BeginsLine, ends_line, lines_before, unit_count, units}
 
@@ -83,3 +85,39 @@ lines_before-within text (suc n) = elim (ends_line text n) as
       | true ↦ omega (arith, lines_before-within text n)
       | false ↦ omega (arith, lines_before-within text n)
     ]
+
+-- where none of these bytes ends a line, no more lines end
+pub lines_before-skip : (text : List ℕ) (from : ℕ) (n : ℕ)
+    → ((k : ℕ) → k < n → ends_line text (from + k) ≡ false)
+    → lines_before text (from + n) ≡ lines_before text from
+lines_before-skip text from zero h = ap (lines_before text) (omega arith)
+lines_before-skip text from (suc n) h =
+    let next : from + suc n ≡ (from + n) + 1 = omega arith in
+    ap (lines_before text) next ∙ lines_before-same text (from + n) (h n (omega arith))
+    ∙ lines_before-skip text from n (λ k l. h k (omega arith))
+
+-- the first line begins at the start
+pub line_zero : (text : List ℕ) → BeginsLine text 0 0
+line_zero text = record { within = omega arith; lines = refl; first = λ k below. absurd (omega (arith, below)) }
+
+-- only a line feed or a carriage return ends a line
+end_byte : (text : List ℕ) (i : ℕ) → ends_line text i ≡ true
+    → (get_or text i 0 == 10 || get_or text i 0 == 13) ≡ true
+end_byte text i ends = grind arith
+
+-- bytes that are neither end no lines
+pub lines_before-others : (text : List ℕ) (from to n : ℕ) → from ≤ to → n ≤ to - from
+    → Nowhere (Passes (is_byte2 10 13) (take (to - from) (drop from text))) 0 n
+    → lines_before text (from + n) ≡ lines_before text from
+lines_before-others text from to n o l none = lines_before-skip text from n (λ k b.
+    false_from_ne_true (ends_line text (from + k)) (λ e. none k (omega arith) b
+    (subst (λ x. (x == 10 || x == 13) ≡ true) (sym (same k b)) (end_byte text (from + k) e))))
+  where
+    same : (k : ℕ) → k < n → get_or (take (to - from) (drop from text)) k 0 ≡ get_or text (from + k) 0
+    same k b = get_or-take (to - from) (drop from text) k 0 (omega (arith, b, l)) ∙ get_or-drop from text k 0
+
+-- the bytes of a range
+pub length-slice : (text : List ℕ) (from to : ℕ) → from ≤ to → to ≤ length text
+    → length (take (to - from) (drop from text)) ≡ to - from
+length-slice text from to o i =
+    length-take-le (to - from) (drop from text) (omega (arith, o, i, length-drop from text))

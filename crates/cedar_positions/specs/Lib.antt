@@ -1,3 +1,4 @@
+pub mod Inside
 pub mod Changes
 pub mod Laws
 pub mod Positions

@@ -2,6 +2,9 @@
 ghost use Rattle.std.specs.Prelude.{◌≡◌, ◌<◌, ◌≤◌, length, IfSome, IfNone, MatchOption};
 ghost use Rattle.std.specs.Str.{IsCharBoundary};
 ghost use Rattle.cedar_positions.specs.Positions.{BeginsLine, IsLineAt, IsOffsetOf, IsPlaceOnLine, IsPositionAt, IsPositionOf, ends_line, lines_before, unit_count, units};
+ghost use Rattle.cedar_positions.specs.Inside.Ends.{IsNextEnd};
+
+use memchr::memchr2;
 
 /// The unit in which the characters of a line are counted.
 #[derive(Clone, Copy, PartialEq, Eq, Debug)]
@@ -95,11 +98,11 @@ fn ends_line(bytes: &[u8], i: usize) -> bool
     requires { i < length bytes.now }
     ensures { result ≡ ends_line bytes.now i }
 {
-    let next = match bytes.get(i + 1) {
-        Some(next) => *next,
-        None => 0,
-    };
-    bytes[i] == b'\n' || (bytes[i] == b'\r' && next != b'\n')
+    match bytes[i] {
+        b'\n' => true,
+        b'\r' => bytes.get(i + 1) != Some(&b'\n'),
+        _ => false,
+    }
 }
 
 // The units that a byte adds.
@@ -142,15 +145,31 @@ fn walk(bytes: &[u8], from: Line, at: usize) -> Line
     requires inside { at ≤ length bytes.now }
     ensures { IsLineAt bytes.now at result }
 {
-    let mut number = from.number;
-    let mut start = from.start;
-    for i in from.start..at {
-        if ends_line(bytes, i) {
-            number += 1;
-            start = i + 1;
-        }
+    let mut line = from;
+    'lines: while let Some(end) = next_end(bytes, line.start, at) {
+        line = Line {
+            number: line.number + 1,
+            start: end + 1,
+        };
     }
-    Line { number, start }
+    line
+}
+
+// The first of the bytes from `from` up to `to` that ends a line.
+fn next_end(bytes: &[u8], from: usize, to: usize) -> Option<usize>
+    requires order { from ≤ to }
+    requires inside { to ≤ length bytes.now }
+    ensures { MatchOption result (lines_before bytes.now to ≡ lines_before bytes.now from) (IsNextEnd bytes.now from to) }
+{
+    let mut at = from;
+    'candidates: while let Some(skipped) = memchr2(b'\n', b'\r', &bytes[at..to]) {
+        let i = at + skipped;
+        if ends_line(bytes, i) {
+            return Some(i);
+        }
+        at = i + 1;
+    }
+    None
 }
 
 // Where a line begins; `None` for one past the last.
@@ -158,20 +177,12 @@ fn line_start(text: &str, line: usize) -> Option<usize>
     ensures start { MatchOption result (lines_before text.now (length text.now) < line) (BeginsLine text.now line) }
     ensures boundary { IfSome result (IsCharBoundary text.now) }
 {
-    if line == 0 {
-        return Some(0);
-    }
     let bytes = text.as_bytes();
-    let mut lines = 0;
-    for i in 0..bytes.len() {
-        if ends_line(bytes, i) {
-            lines += 1;
-            if lines == line {
-                return Some(i + 1);
-            }
-        }
+    let mut start = 0;
+    for _ in 0..line {
+        start = next_end(bytes, start, bytes.len())? + 1;
     }
-    None
+    Some(start)
 }
 
 // The last place on the line from `start` on with at most so many units before it.

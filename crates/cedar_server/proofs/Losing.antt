@@ -1,5 +1,5 @@
--- Documents that are lost, and what is told of them.
-use Rattle.std.proofs.Common.{◌≡◌, ◌≢◌, ℕ, List, [], ◌∷◌, ◌++◌, Bool, true, false, cond, map, Option, Some, None, String, Global, string_bytes, refl, ap, sym, subst, ◌∙◌, append_assoc}
+-- Documents that are lost, and what is reported of them.
+use Rattle.std.proofs.Common.{◌≡◌, ◌≢◌, ℕ, List, [], ◌∷◌, ◌++◌, Bool, true, false, cond, Option, Some, None, String, Global, string_bytes, refl, ap, sym, subst, ◌∙◌, append_assoc}
 use Rattle.std.specs.Prelude.{All}
 use Rattle.std.specs.Map.{lookup}
 use Rattle.std.specs.Option.{option_map}
@@ -18,8 +18,7 @@ use Rattle.cedar_positions.specs.Changes.{MakeInTurn}
 use Rattle.cedar_server.specs.declared.documents.Document.{Document}
 use Rattle.cedar_server.specs.declared.documents.Document.TheVariants.{Lost}
 use Rattle.cedar_server.specs.declared.messages.ServerMessage.{ServerMessage}
-use Rattle.cedar_server.specs.declared.server.Server.{Server}
-use Rattle.cedar_server.specs.Sessions.{AreCleared, Documents, Give, IsPart, Judges, JudgesAll, Puts, State, document_of, lost, name_of_text, names_of_texts, state_in, state_of}
+use Rattle.cedar_server.specs.Sessions.{AreCleared, Documents, Give, IsPart, Judges, JudgesAll, Puts, State, lost, name_of_text, names_of_texts, state_in, state_of}
 
 -- two texts are compared in either order
 bytes_eq-swap : (xs ys : List ℕ) → bytes_eq xs ys ≡ bytes_eq ys xs
@@ -111,16 +110,16 @@ clears_one es key d told own these last = subst (λ (us : List (List ℕ)). AreC
     (cleared_more (names_of_texts es) (name_of_text (string_bytes key) d ++ []) told own these last)
 
 -- what is judged, and one document more
-pub judged_more : (s : Server) (us : List (List ℕ)) (u : List ℕ) (told own : List ServerMessage) → JudgesAll s us told
-    → Judges s.encoding u (document_of s u) own → JudgesAll s (us ++ (u ∷ [])) (told ++ own)
-judged_more s [] u told own none last =
+pub judged_more : (e : Encoding) (docs : Documents) (us : List (List ℕ)) (u : List ℕ) (told own : List ServerMessage)
+    → JudgesAll e docs us told → Judges e u (state_in docs u) own → JudgesAll e docs (us ++ (u ∷ [])) (told ++ own)
+judged_more e docs [] u told own none last =
     (own, [], subst (λ (ms : List ServerMessage). ms ++ own ≡ own ++ []) (sym none) (sym (append-nil own)), last, refl)
-judged_more s (x ∷ xs) u told own these last = (
+judged_more e docs (x ∷ xs) u told own these last = (
   these.0,
   these.1 ++ own,
   ap (λ (ms : List ServerMessage). ms ++ own) these.2 ∙ append_assoc these.0 these.1 own,
   these.3,
-  judged_more s xs u these.1 own these.4 last,
+  judged_more e docs xs u these.1 own these.4 last,
 )
 
 -- changes that are not all of parts give a text, whatever the old one

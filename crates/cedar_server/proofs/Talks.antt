@@ -18,7 +18,7 @@ pub grows_by_nothing : (a : Option (List Event)) → Grows [] a a
 grows_by_nothing None = tt
 grows_by_nothing (Some old) = ap (λ (es : List Event). Some es) (sym (append-nil old))
 
--- one turn: the message, and what is told before its answers, in them and after them
+-- one turn: the message, and what is sent before its answers, in them and after them
 pub one_turn : (m : ClientMessage) (p : Wishes) (before own after : List ServerMessage) (a b c d e : Option (List Event))
     → Grows (said m p ∷ []) a b → Grows (map told before) b c → Grows (map told own) c d → Grows (map told after) d e
     → Grows (events_of (record { message = m; project = p; answers = before ++ (own ++ after) } ∷ [])) a e

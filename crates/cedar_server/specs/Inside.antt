@@ -1,2 +1,3 @@
 -- Definitions used only by private contracts.
 pub mod Ends
+pub mod Standing

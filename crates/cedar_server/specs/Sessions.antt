@@ -68,7 +68,7 @@ abbrev pub names_of_texts : List (String Global × Document) → List (List ℕ)
 names_of_texts [] = []
 names_of_texts (e ∷ es) = name_of_text (string_bytes e.0) e.1 ++ names_of_texts es
 
--- the URIs of the documents that changed since what is wrong with them was told
+-- the URIs of the documents that changed since what is wrong with them was reported
 abbrev pub unjudged_of : Server → List (List ℕ)
 unjudged_of s = map string_bytes s.unjudged.items
 
@@ -135,38 +135,38 @@ pub record Sets (uri : List ℕ) (state : Option State) (s t : Server) : Type 0 
 abbrev pub Diagnoses : (Option Diagnosis → Type 0) → Option ℤ → List ℕ → List ServerMessage → Type 0
 Diagnoses Holds version uri told = (name : String Global) × (d : Option Diagnosis) × (told ≡ Diagnostics name version d ∷ []) × (string_bytes name ≡ uri) × Holds d
 
--- one message, which clears what was told about the document with this URI
+-- one message, which clears what was reported about the document with this URI
 abbrev pub Clears : List ℕ → List ServerMessage → Type 0
 Clears uri told = Diagnoses (λ d. d ≡ None) None uri told
 
--- what is wrong with this document is told, if it has a text
+-- what is wrong with this document is reported, if it has a text
 abbrev pub Judges : Encoding → List ℕ → Option State → List ServerMessage → Type 0
 Judges e uri (Some (known version text)) told = Diagnoses (IsDiagnosis e text) version uri told
 Judges e uri o told = told ≡ []
 
--- that is told after what was told before
-abbrev pub AddsJudgement : Server → List ℕ → List ServerMessage → List ServerMessage → Type 0
-AddsJudgement s uri old new = (own : List ServerMessage) × (new ≡ old ++ own) × Judges s.encoding uri (document_of s uri) own
+-- that is reported after what was reported before
+abbrev pub AddsJudgement : Encoding → Option State → List ℕ → List ServerMessage → List ServerMessage → Type 0
+AddsJudgement e state uri old new = (own : List ServerMessage) × (new ≡ old ++ own) × Judges e uri state own
 
--- what is wrong with each of these documents is told, in order
-abbrev pub JudgesAll : Server → List (List ℕ) → List ServerMessage → Type 0
-JudgesAll s [] told = told ≡ []
-JudgesAll s (uri ∷ uris) told = (own rest : List ServerMessage) × (told ≡ own ++ rest) × Judges s.encoding uri (document_of s uri) own × JudgesAll s uris rest
+-- what is wrong with each of these documents is reported, in order
+abbrev pub JudgesAll : Encoding → Documents → List (List ℕ) → List ServerMessage → Type 0
+JudgesAll e documents [] told = told ≡ []
+JudgesAll e documents (uri ∷ uris) told = (own rest : List ServerMessage) × (told ≡ own ++ rest) × Judges e uri (state_in documents uri) own × JudgesAll e documents uris rest
 
--- what is wrong with the documents that changed is told, and no document is to be judged any more; nothing else has changed
+-- what is wrong with the documents that changed is reported, and no document is to be judged any more; nothing else has changed
 pub record Settles (s t : Server) (told : List ServerMessage) : Type 0 where
-  pub judged : JudgesAll s (unjudged_of s) told
+  pub judged : JudgesAll s.encoding s.documents (unjudged_of s) told
   pub none : t.unjudged.items ≡ []
   pub documents : KeepsDocuments s t
   pub phase : t.phase ≡ s.phase
   pub encoding : t.encoding ≡ s.encoding
   pub wishes : t.wishes ≡ s.wishes
 
--- the document has this text, and what is wrong with it is told
+-- the document has this text, and what is wrong with it is reported
 abbrev pub Opens : List ℕ → Option ℤ → List ℕ → Server → Server → List ServerMessage → Type 0
 Opens uri version text s t told = Sets uri (Some (known version text)) s t × (t.unjudged.items ≡ s.unjudged.items) × Diagnoses (IsDiagnosis s.encoding text) version uri told
 
--- the document isn't open, and what was told about it is cleared
+-- the document isn't open, and what was reported about it is cleared
 abbrev pub Closes : List ℕ → Server → Server → List ServerMessage → Type 0
 Closes uri s t told = Sets uri None s t × (t.unjudged.items ≡ s.unjudged.items) × Clears uri told
 
@@ -174,7 +174,7 @@ Closes uri s t told = Sets uri None s t × (t.unjudged.items ≡ s.unjudged.item
 abbrev pub Adds : List ℕ → Server → Server → Type 0
 Adds uri s t = (IsUnjudged s uri × (t.unjudged.items ≡ s.unjudged.items)) ⊎ (unjudged_of t ≡ unjudged_of s ++ (uri ∷ []))
 
--- the document has this text, which is to be judged; nothing is told yet
+-- the document has this text, which is to be judged; nothing is reported yet
 abbrev pub Receives : List ℕ → Option ℤ → List ℕ → Server → Server → List ServerMessage → Type 0
 Receives uri version text s t told = Sets uri (Some (known version text)) s t × Adds uri s t × (told ≡ [])
 
@@ -202,7 +202,7 @@ GiveText e changes (Some lost) text = MatchOption text (All IsPart changes) (Giv
 abbrev pub Changes : List ℕ → Option ℤ → List Change → Server → Server → List ServerMessage → Type 0
 Changes uri version changes s t told = (text : Option (List ℕ)) × GiveText s.encoding changes (document_of s uri) text × MatchOption text (Passes s t told) (λ new. Receives uri version new s t told)
 
--- the document becomes lost, what was told about it is cleared, and the user is told
+-- the document becomes lost, what was reported about it is cleared, and the user is notified
 abbrev pub BecomesLost : List ℕ → Server → Server → List ServerMessage → Type 0
 BecomesLost uri s t told = Sets uri (Some lost) s t × (t.unjudged.items ≡ s.unjudged.items) × (cleared : List ServerMessage) × (name : String Global) × Clears uri cleared × (string_bytes name ≡ uri) × (told ≡ cleared ++ (Notice (Some name) ∷ []))
 
@@ -214,12 +214,12 @@ Loses uri s t told = ((document_of s uri ≡ Some lost) × Passes s t told) ⊎ 
 abbrev pub AreAllLost : Documents → Documents → Type 0
 AreAllLost old new = (q : List ℕ) → state_in new q ≡ option_map (λ _. lost) (state_in old q)
 
--- what was told about each of these documents is cleared, in order
+-- what was reported about each of these documents is cleared, in order
 abbrev pub AreCleared : List (List ℕ) → List ServerMessage → Type 0
 AreCleared [] told = told ≡ []
 AreCleared (uri ∷ uris) told = (own rest : List ServerMessage) × (told ≡ own ++ rest) × Clears uri own × AreCleared uris rest
 
--- the user is told of lost documents, if there are any
+-- the user is notified of lost documents, if there are any
 abbrev pub notice_after : List ServerMessage → List ServerMessage
 notice_after [] = []
 notice_after (m ∷ ms) = Notice None ∷ []
@@ -229,8 +229,8 @@ abbrev pub rejection_of : Option Id → Option Fault → List ServerMessage
 rejection_of id None = []
 rejection_of id (Some fault) = Rejection id fault ∷ []
 
--- every document is lost: the message is rejected, if there is a fault; what was told about the documents that had a text is
--- cleared, and the user is told
+-- every document is lost: the message is rejected, if there is a fault; what was reported about the documents that had a text is
+-- cleared, and the user is notified
 pub record LosesAll (fault : Option Fault) (s t : Server) (told : List ServerMessage) : Type 0 where
   pub lost_ones : AreAllLost s.documents t.documents
   pub cleared : List ServerMessage

@@ -7,7 +7,7 @@ use Rattle.cedar_server.specs.declared.server.Phase.TheVariants.{Starting, Ended
 use Rattle.cedar_server.specs.declared.server.Server.{Server}
 use Rattle.cedar_server.specs.Sessions.{HasNoDocuments, Settles, Steps}
 
--- what the client said, with the layout that the project of its document asks for, or what it was told
+-- what the client said, with the layout that the project of its document asks for, or what it was sent
 pub data Event : Type 0 where
   said : ClientMessage → Wishes → Event
   told : ServerMessage → Event
@@ -17,7 +17,7 @@ abbrev pub Grows : List Event → Option (List Event) → Option (List Event) �
 Grows more None new = ⊤
 Grows more (Some old) new = new ≡ Some (old ++ more)
 
--- a message, and all that was told after it and before the next one
+-- a message, and all that was sent after it and before the next one
 pub record Turn : Type 0 where
   pub message : ClientMessage
   pub project : Wishes
@@ -27,7 +27,7 @@ abbrev pub events_of : List Turn → List Event
 events_of [] = []
 events_of (turn ∷ turns) = (said turn.message turn.project ∷ map told turn.answers) ++ events_of turns
 
--- what is wrong with the documents that changed is told, or nothing happens
+-- what is wrong with the documents that changed is reported, or nothing happens
 abbrev pub MaySettle : Server → Server → List ServerMessage → Type 0
 MaySettle s t own = Settles s t own ⊎ ((t ≡ s) × (own ≡ []))
 
@@ -47,7 +47,7 @@ pub record IsTurn (turn : Turn) (s t : Server) : Type 0 where
 abbrev pub TakesTurn : Server → Server → Option (List Event) → Option (List Event) → Type 0
 TakesTurn s t old new = (turn : Turn) × IsTurn turn s t × Grows (events_of (turn ∷ [])) old new
 
--- what is wrong with the documents that changed is told, or nothing happens, and the talk grows by that
+-- what is wrong with the documents that changed is reported, or nothing happens, and the talk grows by that
 abbrev pub Settling : Server → Server → Option (List Event) → Option (List Event) → Type 0
 Settling s t old new = (own : List ServerMessage) × MaySettle s t own × Grows (map told own) old new
 
@@ -63,7 +63,7 @@ pub record IsNew (s : Server) : Type 0 where
   pub unjudged : s.unjudged.items ≡ []
 
 -- a whole session that ends with this status: each message that the client said is a step of the server, in order, and what the
--- client was told is what the steps say
+-- client was sent is what the steps say
 pub record IsSession (status : ℕ) (old new : Option (List Event)) : Type 0 where
   pub turns : List Turn
   pub start : Server

@@ -44,7 +44,7 @@ pub(crate) fn all_lost(alloc: Global, documents: &Documents) -> Result<Documents
     Ok(lost)
 }
 
-/// What clears the faults that were told about the documents with a text.
+/// What clears the faults that were reported about the documents with a text.
 pub(crate) fn clear_texts(
     alloc: Global,
     documents: &Documents,
@@ -61,14 +61,14 @@ pub(crate) fn clear_texts(
     Ok(told)
 }
 
-/// What clears the faults that were told about a document.
+/// What clears the faults that were reported about a document.
 pub(crate) fn cleared(alloc: Global, uri: &str) -> Result<ServerMessage, AllocError>
     ensures { IfOk result (λ message. Clears uri.now (message ∷ [])) }
 {
     diagnosed(alloc, uri, None, None)
 }
 
-/// What tells what is wrong with a document.
+/// The message about what is wrong with a document.
 pub(crate) fn diagnosed(
     alloc: Global,
     uri: &str,

@@ -4,6 +4,7 @@
 mod diagnosis;
 mod documents;
 mod formatting;
+mod last_text;
 mod marks;
 mod messages;
 mod server;

@@ -1,13 +1,14 @@
 //! The server.
-ghost use Rattle.std.specs.Prelude.{◌≡◌, ◌∷◌, [], ◌↔◌, IfOk, IsTrue, OnErr, OnOk, option_map, string_bytes};
+ghost use Rattle.std.specs.Prelude.{◌≡◌, ◌∷◌, [], ◌↔◌, IfOk, IsTrue, OnErr, OnOk, map, option_map, string_bytes};
 ghost use Rattle.cedar_server.specs.Layouts.{LaysOut, LaysOutPart};
-ghost use Rattle.cedar_server.specs.Sessions.{AddsJudgement, Changes, Closes, GiveText, Gives, HasNoDocuments, IsSame, IsUnjudged, LaysOutDocument, Loses, LosesAll, Misses, Opens, Receives, Sets, Settles, Starts, Steps, Takes, TakesExit, Turns, document_of, first_or_utf16, indent_for, lost, rejection_of, state_of, width_for};
+ghost use Rattle.cedar_server.specs.Sessions.{AddsJudgement, Changes, Closes, GiveText, Gives, HasNoDocuments, IsSame, IsUnjudged, JudgesAll, LaysOutDocument, Loses, LosesAll, Misses, Opens, Receives, Sets, Settles, Starts, Steps, Takes, TakesExit, Turns, document_of, first_or_utf16, indent_for, lost, rejection_of, state_in, state_of, width_for};
 
 use crate::diagnosis::diagnose;
 use crate::documents::{
     Document, Documents, all_lost, clear_texts, cleared, diagnosed, given_text, put,
 };
 use crate::formatting::{format_part, format_whole};
+use crate::last_text::LastText;
 use crate::messages::{
     Answer, ClientMessage, ClientOptions, Failure, Fault, Id, Notification, Request, ServerMessage,
     Unread, Wishes,
@@ -39,8 +40,10 @@ pub struct Server {
     /// The layout that the client asks for.
     pub wishes: Wishes,
     pub documents: Documents,
-    /// The URIs of the documents that changed since what is wrong with them was told.
+    /// The URIs of the documents that changed since what is wrong with them was reported.
     pub unjudged: Vec<String>,
+    // What was read of the document judged last.
+    last: LastText,
 }
 
 // The columns of a line, and of a level, if neither the client nor the project asks for others.
@@ -64,6 +67,7 @@ impl Server {
             },
             documents: BTreeMap::new(alloc),
             unjudged: Vec::new(alloc),
+            last: LastText::new(alloc),
         }
     }
 
@@ -116,38 +120,21 @@ impl Server {
         }
     }
 
-    /// What is wrong with each document that changed since that was told, in the order in which they changed. The only error
+    /// What is wrong with each document that changed since that was reported, in the order in which they changed. The only error
     /// is out of memory, and then nothing has changed.
     pub fn settle(&mut self, alloc: Global) -> Result<Vec<ServerMessage>, AllocError>
         ensures ok { IfOk result (λ told. Settles self.old self.new told.items) }
         ensures err { OnErr result (IsSame self.old self.new) }
     {
-        let mut told = Vec::new(alloc);
-        for uri in &self.unjudged {
-            self.judge(alloc, uri.as_str(), &mut told)?;
-        }
+        let told = judge_all(
+            alloc,
+            &self.documents,
+            &mut self.last,
+            self.encoding,
+            &self.unjudged,
+        )?;
         self.unjudged.clear();
         Ok(told)
-    }
-
-    // Tells what is wrong with a document, if it has a text.
-    fn judge(
-        &self,
-        alloc: Global,
-        uri: &str,
-        told: &mut Vec<ServerMessage>,
-    ) -> Result<(), AllocError>
-        ensures { OnOk result (AddsJudgement self.now uri.now told.old.items told.new.items) }
-    {
-        match self.documents.get(uri) {
-            Some(Document::Text { version, text }) => {
-                let diagnosis = diagnose(alloc, text.as_str(), self.encoding)?;
-                let message = diagnosed(alloc, uri, *version, diagnosis)?;
-                told.push(message)?;
-                Ok(())
-            }
-            Some(Document::Lost) | None => Ok(()),
-        }
     }
 
     // The answer to a request.
@@ -302,7 +289,7 @@ impl Server {
         }
     }
 
-    // Gives a document a text, and tells what is wrong with it.
+    // Gives a document a text, and reports what is wrong with it.
     fn open(
         &mut self,
         alloc: Global,
@@ -313,7 +300,7 @@ impl Server {
         ensures ok { IfOk result (λ told. Opens (string_bytes uri) version (string_bytes text) self.old self.new told.items) }
         ensures err { OnErr result (IsSame self.old self.new) }
     {
-        let diagnosis = diagnose(alloc, text.as_str(), self.encoding)?;
+        let diagnosis = diagnose(&mut self.last, alloc, text.as_str(), self.encoding)?;
         let message = diagnosed(alloc, uri.as_str(), version, diagnosis)?;
         let told = tell(alloc, message)?;
         self.set(uri, Document::Text { version, text })?;
@@ -401,7 +388,7 @@ impl Server {
         false
     }
 
-    // Closes a document, and clears what was told about it.
+    // Closes a document, and clears what was reported about it.
     fn close(&mut self, alloc: Global, uri: String) -> Result<Vec<ServerMessage>, AllocError>
         ensures ok { IfOk result (λ told. Closes (string_bytes uri) self.old self.new told.items) }
         ensures err { OnErr result (IsSame self.old self.new) }
@@ -467,6 +454,45 @@ impl Server {
         told.append(&mut cleared)?;
         self.documents = all_lost(alloc, &self.documents)?;
         Ok(told)
+    }
+}
+
+// Reports what is wrong with each of these documents, in order.
+fn judge_all(
+    alloc: Global,
+    documents: &Documents,
+    last: &mut LastText,
+    encoding: Encoding,
+    uris: &[String],
+) -> Result<Vec<ServerMessage>, AllocError>
+    ensures { IfOk result (λ told. JudgesAll encoding documents.now (map string_bytes uris.now) told.items) }
+{
+    let mut told = Vec::new(alloc);
+    for uri in uris {
+        judge(alloc, documents, last, encoding, uri.as_str(), &mut told)?;
+    }
+    Ok(told)
+}
+
+// Reports what is wrong with a document, if it has a text.
+fn judge(
+    alloc: Global,
+    documents: &Documents,
+    last: &mut LastText,
+    encoding: Encoding,
+    uri: &str,
+    told: &mut Vec<ServerMessage>,
+) -> Result<(), AllocError>
+    ensures { OnOk result (AddsJudgement encoding (state_in documents.now uri.now) uri.now told.old.items told.new.items) }
+{
+    match documents.get(uri) {
+        Some(Document::Text { version, text }) => {
+            let diagnosis = diagnose(last, alloc, text.as_str(), encoding)?;
+            let message = diagnosed(alloc, uri, *version, diagnosis)?;
+            told.push(message)?;
+            Ok(())
+        }
+        Some(Document::Lost) | None => Ok(()),
     }
 }
 

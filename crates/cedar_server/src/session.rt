@@ -18,7 +18,7 @@ pub struct Received {
 
 /// A client, as a server sees it.
 ///
-/// `talk` is what is known about the session: what the client said and was told so far. `None` claims nothing.
+/// `talk` is what is known about the session: what the client said and was sent so far. `None` claims nothing.
 pub trait Client {
     /// What was said so far.
     ghost talk: { Self → Option (List Event) };
@@ -37,8 +37,8 @@ pub trait Client {
 
 /// Answers a client until it ends the session, and returns the status to end with.
 ///
-/// Each message is a step of the server, in the order in which they come, and what the server says is told at once. What is
-/// wrong with a document that changes is told once no change waits any more. A message that can't be received or told is an
+/// Each message is a step of the server, in the order in which they come, and what the server says is reported at once. What is
+/// wrong with a document that changes is reported once no change waits any more. A message that can't be received or sent is an
 /// error, and so is running out of memory after one that isn't a request, since the texts of the client and the server may
 /// then differ.
 pub fn serve<C: Client>(alloc: Global, client: &mut C) -> io::Result<u8>

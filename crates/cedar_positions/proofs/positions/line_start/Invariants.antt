@@ -1,6 +1,7 @@
-use Rattle.std.proofs.Common.{◌≡◌, ◌<◌, ◌≤◌}
-use Rattle.cedar_positions.specs.Positions.{lines_before}
+use Rattle.std.proofs.Common.{}
+use Rattle.std.specs.Str.{IsCharBoundary}
+use Rattle.cedar_positions.specs.Positions.{BeginsLine}
 use Rattle.cedar_positions.proofs.positions.line_start.Given as goal
 
-abbrev pub invariant-loop-i : goal.invariant-loop-i
-invariant-loop-i l = (lines_before l.bytes l.i ≡ l.lines) × (l.lines < l.line) × (l.lines ≤ l.i)
+abbrev pub invariant-loop : goal.invariant-loop
+invariant-loop l = BeginsLine l.text l.counter l.start × IsCharBoundary l.text l.start

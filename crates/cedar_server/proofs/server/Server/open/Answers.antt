@@ -7,9 +7,10 @@ returns-clause-ok c =
     let text = string_bytes c.args.text in
     let e = c.args.self.now.encoding in
     let one = c.in_ok-message.ensures in
+    let set = c.in_ok-set.ensures.ok in
     let wrong : IsDiagnosis e text c.in_ok-diagnosis.diagnosis =
     subst (λ bytes. IsDiagnosis e bytes c.in_ok-diagnosis.diagnosis) c.as_str.ensures.value c.in_ok-diagnosis.ensures in (
-      c.in_ok-set.ensures.ok,
+      record { own = set.own; others = set.others; phase = set.phase; encoding = set.encoding; wishes = set.wishes },
       ap (λ v. v.items) c.in_ok-set.ensures.unjudged,
       (
         one.0,

@@ -2,18 +2,18 @@ use Rattle.std.proofs.Common.{◌≡◌, [], ◌∷◌, Some, string_bytes, ap, 
 use Rattle.std.specs.Option.{option_map}
 use Rattle.cedar_server.specs.declared.documents.Document.{Document}
 use Rattle.cedar_server.specs.Diagnoses.{IsDiagnosis}
-use Rattle.cedar_server.specs.Sessions.{Judges, document_of, known, state_of}
-use Rattle.cedar_server.proofs.server.Server.judge.Goals as goal
+use Rattle.cedar_server.specs.Sessions.{Judges, state_in, known, state_of}
+use Rattle.cedar_server.proofs.server.judge.Goals as goal
 
 pub returns-in_ok-push-in-Some-Text : goal.returns-in_ok-push-in-Some-Text
 returns-in_ok-push-in-Some-Text c =
-    let e = c.args.self.now.encoding in
+    let e = c.args.encoding in
     let text = string_bytes c.in-Some-Text.text in
     let one = c.in_ok-message-in-Some-Text.ensures in
     let d = c.in_ok-diagnosis-in-Some-Text.diagnosis in
     let wrong : IsDiagnosis e text d =
     subst (λ bytes. IsDiagnosis e bytes d) c.as_str.ensures.value c.in_ok-diagnosis-in-Some-Text.ensures in
-    let held : Some (known c.in-Some-Text.version text) ≡ document_of c.args.self.now c.args.uri.now =
+    let held : Some (known c.in-Some-Text.version text) ≡ state_in c.args.documents.now c.args.uri.now =
     ap (λ (it : Document). Some (state_of it)) (sym c.in-Some-Text.field-0-is)
     ∙ ap (option_map state_of) c.in-Some-Text.ensures.value in (
       c.in_ok-message-in-Some-Text.message ∷ [],
