@@ -4,58 +4,108 @@
 //! the system does.
 ghost use Rattle.std.specs.Prelude.{None};
 
-use crate::refusal::Refusal;
-use cedar_folder::{Access, File, Folder, Outcome};
+use crate::beside::name_beside;
+use crate::options::{Mode, Options};
+use crate::refusal::{Place, Refusal};
+use crate::reports::{Kind, Remark, Reports};
+use crate::room::Room;
+use cedar_folder::{Access, File, Folder, NotCreated, Outcome, Version, narrowed_mode};
 use cedar_policy_formatter::FormatError;
 use std::alloc::Global;
-use std::fs::{OpenOptions, Permissions};
-use std::io::{ErrorKind, Write};
+use std::fs::{Metadata, OpenOptions, Permissions};
+use std::io::{ErrorKind, Read, Write};
 use std::os::unix::fs::{MetadataExt, OpenOptionsExt, PermissionsExt, fchown};
-use std::{fs, io};
+use std::random::RandomSource;
+use std::time::Duration;
+use std::{fs, io, thread};
 
 // The most names tried for a file beside another.
 const MOST_NAMES: u32 = 1000;
 
-/// The folder of the disk, as one part of a run sees it. Names of files that aren't formatted go to standard output, each
-/// followed by a zero byte; faults go to standard error; and each file adds a letter to `marks`: `c` for one that isn't
-/// formatted, `s` for one that is unchanged, `r` for a refused one and `f` for one that couldn't be read or replaced.
-#[derive(Drop)]
-pub struct Disk<'a> {
-    rt: &'a HostRuntime,
-    // A file that exists as soon as the run is to stop.
-    stop: &'a str,
-    marks: fs::File,
-    // The number of the part, so that no two parts create a file with the same name.
-    part: &'a str,
-    // Whether a refusal is reported with its line.
-    shows_lines: bool,
-    // Whether a report couldn't be written.
-    is_broken: bool,
+// How often a file that is just being replaced is looked at.
+const MOST_TRIES: u32 = 100;
+
+/// How many files there were of each kind.
+#[derive(Clone, Copy)]
+pub struct Counts {
+    /// Not formatted, or replaced.
+    pub changed: usize,
+    /// Left as they are.
+    pub same: usize,
+    pub refused: usize,
+    /// Not read or not replaced.
+    pub failed: usize,
 }
 
-impl<'a> Disk<'a> {
-    /// The folder for the part with this number, which stops once a file `stop` exists. With `shows_lines` a refusal is
-    /// reported with its line.
-    pub fn new(
-        rt: &'a HostRuntime,
-        stop: &'a str,
-        marks: fs::File,
-        part: &'a str,
-        shows_lines: bool,
-    ) -> Disk<'a> {
-        Disk {
-            rt,
-            stop,
-            marks,
-            part,
-            shows_lines,
-            is_broken: false,
-        }
+impl Counts {
+    /// How many files were done.
+    pub fn done(&self) -> usize {
+        self.changed
+            .saturating_add(self.same)
+            .saturating_add(self.refused)
+            .saturating_add(self.failed)
     }
 
-    /// Whether a report couldn't be written.
-    pub fn is_broken(&self) -> bool {
-        self.is_broken
+    fn add(&mut self, outcome: &Outcome) {
+        match outcome {
+            Outcome::Unformatted { .. } | Outcome::Replaced => {
+                self.changed = self.changed.saturating_add(1);
+            }
+            Outcome::Formatted | Outcome::Empty => self.same = self.same.saturating_add(1),
+            Outcome::Refused { error, .. } if *error == FormatError::OutOfMemory => {
+                self.failed = self.failed.saturating_add(1);
+            }
+            Outcome::NotUtf8 | Outcome::Refused { .. } => {
+                self.refused = self.refused.saturating_add(1);
+            }
+            Outcome::Unread(_) | Outcome::Unwritten(_) | Outcome::LeftBeside { .. } => {
+                self.failed = self.failed.saturating_add(1);
+            }
+        }
+    }
+}
+
+/// The folder of the disk, as a run sees it.
+#[derive(Drop)]
+pub struct Disk<'a, 'r> {
+    rt: &'a HostRuntime,
+    mode: Mode,
+    room: Room,
+    reports: &'r mut Reports<'a>,
+    // How many files the run has.
+    all: usize,
+    counts: Counts,
+    // What tells the file beside the next one from those of other runs.
+    bits: u64,
+}
+
+impl<'a, 'r> Disk<'a, 'r> {
+    /// The folder for a run over so many files.
+    pub fn new(
+        rt: &'a HostRuntime,
+        options: &Options<'_>,
+        reports: &'r mut Reports<'a>,
+        all: usize,
+    ) -> io::Result<Disk<'a, 'r>> {
+        Ok(Disk {
+            rt,
+            mode: options.mode,
+            room: Room::new(rt)?,
+            reports,
+            all,
+            counts: Counts {
+                changed: 0,
+                same: 0,
+                refused: 0,
+                failed: 0,
+            },
+            bits: random_bits(rt)?,
+        })
+    }
+
+    /// What became of the files.
+    pub fn counts(&self) -> Counts {
+        self.counts
     }
 
     // The target of a name, if it is a link.
@@ -68,86 +118,100 @@ impl<'a> Disk<'a> {
         Ok(String::from_str(alloc, name)?)
     }
 
-    // Writes a report on a file.
-    fn write_report(&mut self, name: &str, outcome: &Outcome) -> io::Result<()> {
-        let mut errors = self.rt.stderr();
-        let mark = match outcome {
-            Outcome::Formatted => 's',
-            Outcome::Unformatted => {
-                let line = format!(in self.rt.alloc(); "{name}\0")?;
-                self.rt.stdout().write_all(line.as_bytes())?;
-                'c'
+    // Prints what became of a file.
+    fn print(&mut self, name: &str, outcome: &Outcome) {
+        match outcome {
+            Outcome::Formatted | Outcome::Empty => {}
+            Outcome::Replaced => self.reports.add(&Remark {
+                kind: Kind::Replaced,
+                file: name,
+                place: None,
+                message: "replaced",
+            }),
+            Outcome::Unformatted { bytes, output } => {
+                self.print_unformatted(name, bytes, output.as_str());
             }
-            Outcome::NotUtf8 => {
-                write!(errors, "{name}: input is not UTF-8\n")?;
-                'r'
-            }
+            Outcome::NotUtf8 => self.reports.add(&Remark {
+                kind: Kind::Refused,
+                file: name,
+                place: None,
+                message: "input is not UTF-8",
+            }),
             Outcome::Refused { error, bytes } => {
-                match str::from_utf8(bytes) {
-                    Ok(text) => {
-                        let refusal = Refusal {
-                            name,
-                            text,
-                            error: *error,
-                        };
-                        refusal.tell(self.rt.alloc(), &mut errors, self.shows_lines)?;
-                    }
-                    Err(_) => write!(errors, "{name}: {error}\n")?,
-                }
-                if *error == FormatError::OutOfMemory {
-                    'f'
-                } else {
-                    'r'
+                if let Ok(text) = str::from_utf8(bytes) {
+                    let refusal = Refusal {
+                        text,
+                        error: *error,
+                    };
+                    self.reports.refuse(name, &refusal);
                 }
             }
-            Outcome::Unread(error) => {
-                tell_fault(&mut errors, name, "cannot be read", error)?;
-                'f'
-            }
-            Outcome::Unwritten(error) => {
-                tell_fault(&mut errors, name, "cannot be written", error)?;
-                'f'
-            }
+            Outcome::Unread(error) => self.reports.fail(name, "cannot be read: ", error),
+            Outcome::Unwritten(error) => self.reports.fail(name, "cannot be written: ", error),
             Outcome::LeftBeside { error, beside } => {
-                tell_fault(&mut errors, name, "cannot be written", error)?;
-                write!(errors, "{beside}: cannot be removed\n")?;
-                'f'
+                self.reports.fail(name, "cannot be written: ", error);
+                self.reports.add(&Remark {
+                    kind: Kind::Failed,
+                    file: beside.as_str(),
+                    place: None,
+                    message: "cannot be removed",
+                });
             }
+        }
+    }
+
+    // Prints that a file isn't formatted, or what would change.
+    fn print_unformatted(&mut self, name: &str, bytes: &[u8], output: &str) {
+        let Ok(text) = str::from_utf8(bytes) else {
+            return;
         };
-        write!(self.marks, "{mark}")
+        if self.mode == Mode::Diff {
+            self.reports.diff(name, text, output);
+            return;
+        }
+        self.reports.add(&Remark {
+            kind: Kind::Unformatted,
+            file: name,
+            place: Some(first_difference(bytes, output.as_bytes())),
+            message: "not formatted",
+        });
     }
 }
 
-impl Folder for Disk<'_> {
+impl Folder for Disk<'_, '_> {
     ghost picture = { λ _. None };
 
-    fn read(&mut self, _alloc: Global, name: &str) -> io::Result<File> {
-        let metadata = fs::metadata(self.rt, name)?;
-        if metadata.is_dir() {
-            return Err(io::Error::from(ErrorKind::IsADirectory));
-        }
-        if !metadata.is_file() {
-            return Err(io::Error::from(ErrorKind::InvalidInput));
-        }
-        let access = Access {
-            mode: metadata.mode() & 0o7777,
-            owner: metadata.uid(),
-            group: metadata.gid(),
-        };
-        let bytes = fs::read(self.rt, name)?;
-        Ok(File { bytes, access })
+    fn read(&mut self, alloc: Global, name: &str) -> io::Result<File> {
+        // (opening a pipe would wait)
+        expect_file(&fs::metadata(self.rt, name)?)?;
+        let mut file = fs::open(self.rt, name)?;
+        let metadata = file.metadata()?;
+        expect_file(&metadata)?;
+        let mut bytes = Vec::new(alloc);
+        let _ = file.read_to_end(&mut bytes)?;
+        Ok(File {
+            bytes,
+            access: Access {
+                mode: metadata.mode() & 0o7777,
+                owner: metadata.uid(),
+                group: metadata.gid(),
+            },
+            version: version_of(&metadata),
+        })
     }
 
     fn unused_name(&mut self, alloc: Global, name: &str) -> io::Result<String> {
         let real = self.real_name(name)?;
         // (a file that isn't writable isn't replaced either)
-        let _ = OpenOptions::new().write(true).open(self.rt, real.as_str())?;
-        let folder = match real.as_str().rsplit_once('/') {
-            Some((folder, _)) => format!(in alloc; "{folder}/")?,
-            None => String::new(alloc),
-        };
-        for n in 0..MOST_NAMES {
-            let beside = format!(in alloc; "{folder}.cedar-files.{}.{n}", self.part)?;
+        let file = OpenOptions::new().write(true).open(self.rt, real.as_str())?;
+        if self.room.has_more_rights(file.metadata()?.ino()) {
+            return Err(io::Error::other(
+                "it has an access control list, which a new file would lose",
+            ));
+        }
+        for _ in 0..MOST_NAMES {
+            let beside = name_beside(alloc, self.rt, real.as_str(), self.bits)?;
+            self.bits = self.bits.wrapping_add(1);
             match fs::symlink_metadata(self.rt, beside.as_str()) {
                 Ok(_) => {}
                 Err(error) if error.kind() == ErrorKind::NotFound => return Ok(beside),
@@ -157,24 +221,48 @@ impl Folder for Disk<'_> {
         Err(io::Error::from(ErrorKind::AlreadyExists))
     }
 
-    fn create(&mut self, name: &str, bytes: &[u8], access: Access) -> io::Result<()> {
-        let file = OpenOptions::new()
+    fn create(&mut self, name: &str, bytes: &[u8], access: Access) -> Result<(), NotCreated> {
+        let opened = OpenOptions::new()
             .write(true)
             .create_new(true)
             .mode(0o600)
-            .open(self.rt, name)?;
-        match fill(file, bytes, access) {
-            Ok(()) => Ok(()),
+            .open(self.rt, name);
+        let filled = match opened {
+            Ok(file) => fill(file, bytes, access),
             Err(error) => {
-                fs::remove_file(self.rt, name)?;
-                Err(error)
+                return Err(NotCreated {
+                    error,
+                    is_left: false,
+                });
             }
+        };
+        match filled {
+            Ok(()) => Ok(()),
+            Err(error) => Err(NotCreated {
+                error,
+                is_left: fs::remove_file(self.rt, name).is_err(),
+            }),
         }
     }
 
-    fn rename(&mut self, from: &str, to: &str) -> io::Result<()> {
+    fn replace(&mut self, from: &str, to: &str, version: Version) -> io::Result<()> {
         let real = self.real_name(to)?;
-        fs::rename(self.rt, from, real.as_str())
+        for _ in 0..MOST_TRIES {
+            let metadata = fs::symlink_metadata(self.rt, real.as_str())?;
+            if version_of(&metadata) == version {
+                return fs::rename(self.rt, from, real.as_str());
+            }
+            // (another run may have done the same)
+            if fs::read(self.rt, real.as_str())? == fs::read(self.rt, from)? {
+                return fs::remove_file(self.rt, from);
+            }
+            // (a file without a name is still found while another one takes its place)
+            if metadata.nlink() > 0 {
+                break;
+            }
+            thread::sleep(self.rt, Duration::from_millis(10));
+        }
+        Err(io::Error::other("it was changed in the meantime"))
     }
 
     fn remove(&mut self, name: &str) -> io::Result<()> {
@@ -182,37 +270,66 @@ impl Folder for Disk<'_> {
     }
 
     fn report(&mut self, name: &str, outcome: &Outcome) -> bool {
-        if self.write_report(name, outcome).is_err() {
-            self.is_broken = true;
-        }
-        !self.is_broken && fs::symlink_metadata(self.rt, self.stop).is_err()
+        self.counts.add(outcome);
+        self.print(name, outcome);
+        self.reports.show_progress(self.counts.done(), self.all);
+        !self.reports.is_broken() && !self.room.is_stopped(self.rt)
     }
 }
 
-// Gives a new file its bytes, its owner and its mode.
+// Refuses what isn't a file.
+fn expect_file(metadata: &Metadata) -> io::Result<()> {
+    if metadata.is_dir() {
+        Err(io::Error::from(ErrorKind::IsADirectory))
+    } else if metadata.is_file() {
+        Ok(())
+    } else {
+        Err(io::Error::other("it is not a file"))
+    }
+}
+
+// Which state of which file it is.
+fn version_of(metadata: &Metadata) -> Version {
+    Version {
+        device: metadata.dev(),
+        inode: metadata.ino(),
+        size: metadata.size(),
+        modified: (metadata.mtime(), metadata.mtime_nsec()),
+        changed: (metadata.ctime(), metadata.ctime_nsec()),
+    }
+}
+
+// Gives a new file its bytes and its access, and waits until they are on the disk.
 fn fill(mut file: fs::File, bytes: &[u8], access: Access) -> io::Result<()> {
     file.write_all(bytes)?;
     let made = file.metadata()?;
-    if made.uid() != access.owner || made.gid() != access.group {
-        fchown(&file, Some(access.owner), Some(access.group))?;
-    }
-    file.set_permissions(Permissions::from_mode(access.mode))
+    let keeps_owner = made.uid() == access.owner || fchown(&file, Some(access.owner), None).is_ok();
+    let keeps_group = made.gid() == access.group || fchown(&file, None, Some(access.group)).is_ok();
+    let mode = narrowed_mode(access.mode, keeps_owner, keeps_group);
+    file.set_permissions(Permissions::from_mode(mode))?;
+    file.sync_all()
 }
 
-// Reports that a file couldn't be read or written, and why.
-fn tell_fault<W: Write>(
-    errors: &mut W,
-    name: &str,
-    what: &str,
-    error: &io::Error,
-) -> io::Result<()> {
-    match error.kind() {
-        ErrorKind::NotFound => write!(errors, "{name}: {what}: no such file\n"),
-        ErrorKind::PermissionDenied => write!(errors, "{name}: {what}: no permission\n"),
-        ErrorKind::IsADirectory => write!(errors, "{name}: {what}: it is a folder\n"),
-        ErrorKind::InvalidInput => write!(errors, "{name}: {what}: it is not a file\n"),
-        ErrorKind::StorageFull => write!(errors, "{name}: {what}: the disk is full\n"),
-        ErrorKind::ReadOnlyFilesystem => write!(errors, "{name}: {what}: the disk is read-only\n"),
-        _ => write!(errors, "{name}: {what}: {error}\n"),
+// Bits that tell this run from others.
+fn random_bits(rt: &HostRuntime) -> io::Result<u64> {
+    let mut bytes = [0; 8];
+    rt.fill_bytes(&mut bytes)?;
+    Ok(u64::from_le_bytes(bytes))
+}
+
+// The place of the first byte that differs, or the end of the shorter text.
+fn first_difference(before: &[u8], after: &[u8]) -> Place {
+    let mut place = Place { line: 1, column: 1 };
+    for (old, new) in before.iter().zip(after) {
+        if old != new {
+            return place;
+        }
+        if *old == b'\n' {
+            place.line = place.line.saturating_add(1);
+            place.column = 1;
+        } else {
+            place.column = place.column.saturating_add(1);
+        }
     }
+    place
 }

@@ -1,11 +1,12 @@
 //! How each file is laid out.
 use crate::options::Options;
+use crate::paths::resolved;
 use cedar_policy_formatter::Config;
 use cedar_settings::{Project, ProjectProblem, ProjectSetting, ProjectSettings};
-use std::alloc::{AllocError, Global};
+use std::alloc::AllocError;
 use std::collections::BTreeSet;
+use std::io;
 use std::io::Write;
-use std::{env, io};
 
 /// The layouts of files: what the options ask for, or else the project of a file, or else the default.
 #[derive(Drop)]
@@ -13,12 +14,10 @@ pub struct Layouts<'a> {
     rt: &'a HostRuntime,
     options: &'a Options<'a>,
     // The working folder, without a slash at the end.
-    folder: String,
+    folder: &'a str,
     project: Project,
     // What was told about files `.editorconfig`.
     told: BTreeSet<String>,
-    // Whether layouts and problems are told.
-    tells: bool,
 }
 
 // A setting in columns, and where it was taken from.
@@ -29,26 +28,17 @@ struct Choice {
 }
 
 impl<'a> Layouts<'a> {
-    /// The layouts of a run with these options. With `tells`, what is wrong in files `.editorconfig` is told on standard
-    /// error, and so is each layout if the options ask for that.
-    pub fn new(
-        rt: &'a HostRuntime,
-        options: &'a Options<'a>,
-        tells: bool,
-    ) -> io::Result<Layouts<'a>> {
+    /// The layouts of a run with these options, in the working folder with this absolute path. What is wrong in files
+    /// `.editorconfig` is reported on standard error, and so is each layout if the options ask for that.
+    pub fn new(rt: &'a HostRuntime, options: &'a Options<'a>, folder: &'a str) -> Layouts<'a> {
         let alloc = rt.alloc();
-        let folder = match env::current_dir(rt) {
-            Ok(folder) => resolved(alloc, "", folder.as_path().as_str())?,
-            Err(_) => String::new(alloc),
-        };
-        Ok(Layouts {
+        Layouts {
             rt,
             options,
             folder,
             project: Project::new(alloc),
             told: BTreeSet::new(alloc),
-            tells,
-        })
+        }
     }
 
     /// The layout of the file with this name, which need not exist.
@@ -57,7 +47,7 @@ impl<'a> Layouts<'a> {
         if !self.options.reads_config {
             return self.choose(name, None, None);
         }
-        let path = resolved(alloc, self.folder.as_str(), name)?;
+        let path = resolved(alloc, self.folder, name)?;
         let settings = self.project.settings_of(self.rt, path.as_str())?;
         let ProjectSettings {
             indent_width,
@@ -93,7 +83,7 @@ impl<'a> Layouts<'a> {
                 None => default.line_width,
             },
         };
-        if self.tells && self.options.tells_layouts {
+        if self.options.tells_layouts {
             write!(
                 self.rt.stderr(),
                 "{name}: indentation {} ({}), width {} ({})\n",
@@ -133,9 +123,6 @@ impl<'a> Layouts<'a> {
 
     // Tells what is wrong in files `.editorconfig`, each line once.
     fn tell_problems(&mut self, problems: &[ProjectProblem]) -> io::Result<()> {
-        if !self.tells {
-            return Ok(());
-        }
         let alloc = self.rt.alloc();
         for problem in problems {
             let path = self.shown(problem.path.as_str());
@@ -153,7 +140,7 @@ impl<'a> Layouts<'a> {
 
     // An absolute path as it is shown: from the working folder on, if it is below that.
     fn shown<'p>(&self, path: &'p str) -> &'p str {
-        match path.strip_prefix(self.folder.as_str()) {
+        match path.strip_prefix(self.folder) {
             Some(rest) => rest.strip_prefix('/').unwrap_or(path),
             None => path,
         }
@@ -166,25 +153,4 @@ fn source_of(choice: &Option<Choice>) -> &str {
         Some(choice) => choice.source.as_str(),
         None => "default",
     }
-}
-
-// The absolute path of a file, without `.` and `..`, from a folder that is given without a slash at the end.
-fn resolved(alloc: Global, folder: &str, name: &str) -> Result<String, AllocError> {
-    let mut parts = Vec::new(alloc);
-    let folder = if name.starts_with('/') { "" } else { folder };
-    for part in folder.split('/').chain(name.split('/')) {
-        match part {
-            "" | "." => {}
-            ".." => {
-                let _ = parts.pop();
-            }
-            _ => parts.push(part)?,
-        }
-    }
-    let mut path = String::new(alloc);
-    for part in &parts {
-        path.push('/')?;
-        path.push_str(part)?;
-    }
-    Ok(path)
 }

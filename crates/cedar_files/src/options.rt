@@ -14,10 +14,24 @@ pub enum Mode {
     Diff,
 }
 
+/// How a run prints what it has to say.
+#[derive(Clone, Copy, Debug, PartialEq, Eq)]
+pub enum Format {
+    /// In lines for people.
+    Text,
+    /// As workflow commands of GitHub.
+    Github,
+    /// As objects of JSON, one a line.
+    Json,
+}
+
 /// What a run is asked for.
 #[derive(Drop)]
 pub struct Options<'a> {
     pub mode: Mode,
+    pub format: Format,
+    /// Whether a zero byte follows a name, in place of a line feed.
+    pub ends_with_zero: bool,
     /// The indentation of a level in columns, if it is asked for.
     pub indent_width: Option<u16>,
     /// The width of a line in columns, if it is asked for.
@@ -28,21 +42,24 @@ pub struct Options<'a> {
     pub tells_layouts: bool,
     /// The name of the file that standard input stands for.
     pub input_name: Option<&'a str>,
-    /// How many processes share the files. 0 means as many as there are cores.
-    pub jobs: u16,
     /// Whether only faults and names are printed.
     pub quiet: bool,
-    /// Files and folders that are skipped: names, or paths as they are walked.
+    /// Which files and folders are skipped, as globs.
     pub excluded: Vec<&'a str>,
+    /// Whether files and folders that are named are skipped too.
+    pub excludes_named: bool,
     /// The files and folders, in order.
     pub paths: Vec<&'a str>,
 }
+
+static FORMATS: [&str; 3] = ["text", "github", "json"];
 
 static EXAMPLES: &str =
     "Names of files that were replaced, or aren't formatted, go to standard output, and faults as \
 FILE:LINE:COLUMN: WHY to standard error; columns are counted in bytes.
 Status: 0; 3 with --check or --diff where a file isn't formatted; 1 where a file is refused, or can't be read or written
-(the others are done all the same); 2 for a usage error.
+(the others are done all the same), or where the output can't be written; 2 for a usage error.
+A file .cedar-files.NUMBER.LETTERS is left by a run that was killed, and can be removed.
 
 Examples:
   cedar-files policies
@@ -56,7 +73,8 @@ fn command<'a>(alloc: Global) -> Result<Command<'a>, AllocError> {
         .about("Formats files of Cedar policies in place, or checks them")
         .version(VERSION)
         .after_help(EXAMPLES);
-    with_files(alloc, with_layout(alloc, with_modes(alloc, command)?)?)
+    let command = with_output(alloc, with_modes(alloc, command)?)?;
+    with_files(alloc, with_layout(alloc, command)?)
 }
 
 // What is done, and how.
@@ -76,13 +94,31 @@ fn with_modes<'a>(alloc: Global, command: Command<'a>) -> Result<Command<'a>, Al
         .long("jobs")
         .value_name("N")
         .value_parser(value_parser!(u16).range(1..))
-        .help("The number of processes that share the files [default: the number of cores]");
+        .help("Accepted and without effect: one process does all files");
     let quiet = Arg::new(alloc, "quiet")
         .short('q')
         .long("quiet")
         .action(ArgAction::SetTrue)
         .help("Don't show the progress and the summary");
     command.arg(check)?.arg(diff)?.arg(jobs)?.arg(quiet)
+}
+
+// What is printed, and how.
+fn with_output<'a>(alloc: Global, command: Command<'a>) -> Result<Command<'a>, AllocError> {
+    let format = Arg::new(alloc, "format")
+        .long("output-format")
+        .value_name("FORMAT")
+        .value_parser(FORMATS.as_slice())
+        .conflicts_with("diff")?
+        .help(
+            "Print names and faults to standard output as workflow commands of GitHub, or as JSON, one object a line",
+        );
+    let zero = Arg::new(alloc, "zero")
+        .short('0')
+        .long("null")
+        .action(ArgAction::SetTrue)
+        .help("End names with a zero byte, and don't quote them");
+    command.arg(format)?.arg(zero)
 }
 
 // How files are laid out.
@@ -118,9 +154,15 @@ fn with_layout<'a>(alloc: Global, command: Command<'a>) -> Result<Command<'a>, A
 fn with_files<'a>(alloc: Global, command: Command<'a>) -> Result<Command<'a>, AllocError> {
     let exclude = Arg::new(alloc, "exclude")
         .long("exclude")
-        .value_name("NAME")
+        .value_name("GLOB")
         .action(ArgAction::Append)
-        .help("Leave files and folders of this name, or with this path, alone; may be repeated");
+        .help(
+            "Leave these files and folders alone: a name, or a path from the folder or from here, with *, ** and ?; may be repeated",
+        );
+    let force = Arg::new(alloc, "force-exclude")
+        .long("force-exclude")
+        .action(ArgAction::SetTrue)
+        .help("With --exclude: leave files and folders alone that are named, too");
     let input_name = Arg::new(alloc, "stdin-filename")
         .long("stdin-filename")
         .value_name("NAME")
@@ -131,7 +173,7 @@ fn with_files<'a>(alloc: Global, command: Command<'a>) -> Result<Command<'a>, Al
         .num_args(1..)
         .required(true)
         .help("A file, or a folder that is searched for *.cedar; - for standard input");
-    command.arg(exclude)?.arg(input_name)?.arg(path)
+    command.arg(exclude)?.arg(force)?.arg(input_name)?.arg(path)
 }
 
 /// What the words ask for, or why they are refused, or the help or the version that they ask for.
@@ -139,14 +181,20 @@ pub fn read_options<'a>(alloc: Global, words: &'a [&'a str]) -> Result<Options<'
     let matches = command(alloc)?.try_get_matches_from(words)?;
     Ok(Options {
         mode: mode_of(&matches),
+        format: match matches.get_str("format") {
+            Some("github") => Format::Github,
+            Some("json") => Format::Json,
+            _ => Format::Text,
+        },
+        ends_with_zero: matches.get_flag("zero"),
         indent_width: matches.get_one::<u16>("indent"),
         line_width: matches.get_one::<u16>("width"),
         reads_config: !matches.get_flag("no-config"),
         tells_layouts: matches.get_flag("verbose"),
         input_name: matches.get_str("stdin-filename"),
-        jobs: matches.get_one::<u16>("jobs").unwrap_or(0),
         quiet: matches.get_flag("quiet"),
         excluded: texts(alloc, &matches, "exclude")?,
+        excludes_named: matches.get_flag("force-exclude"),
         paths: texts(alloc, &matches, "path")?,
     })
 }

@@ -1,8 +1,6 @@
-//! How a refused text is reported.
+//! Where a text is refused, and why.
 use cedar_policy_formatter::{FormatError, explain};
 use std::alloc::{AllocError, Global};
-use std::io;
-use std::io::Write;
 use unicode_width::UnicodeWidthStr;
 
 const BYTE_ORDER_MARK: char = '\u{feff}';
@@ -10,11 +8,16 @@ const BYTE_ORDER_MARK: char = '\u{feff}';
 // The most characters shown before a place and after it.
 const SHOWN: usize = 60;
 
+/// A place in a text. Both numbers are counted from 1, columns in bytes, and only a line feed ends a line.
+#[derive(Clone, Copy)]
+pub struct Place {
+    pub line: usize,
+    pub column: usize,
+}
+
 /// A text that is refused.
 #[derive(Clone, Copy)]
 pub struct Refusal<'a> {
-    /// The name of the text.
-    pub name: &'a str,
     /// The text.
     pub text: &'a str,
     /// Why it is refused.
@@ -22,44 +25,47 @@ pub struct Refusal<'a> {
 }
 
 impl Refusal<'_> {
-    /// Reports it as `NAME:LINE:COLUMN: WHY`. Line and column are counted from 1, columns in bytes, and only a line feed ends a
-    /// line. With `shows_line` that line follows, and below it a mark under the place.
-    pub fn tell<W: Write>(
-        &self,
-        alloc: Global,
-        errors: &mut W,
-        shows_line: bool,
-    ) -> io::Result<()> {
+    /// Where it is refused, if that is one place.
+    pub fn place(&self) -> Option<Place> {
+        let at = place_of(self.error)?;
+        let (before, _) = self.text.split_at(self.text.floor_char_boundary(at));
+        let line = before.bytes().filter(|byte| *byte == b'\n').count();
+        Some(Place {
+            line: line.saturating_add(1),
+            column: last_line(before).len().saturating_add(1),
+        })
+    }
+
+    /// Why it is refused.
+    pub fn reason(&self, alloc: Global) -> Result<String, AllocError> {
+        match place_of(self.error) {
+            None => format!(in alloc; "{}", self.error),
+            Some(0) if self.text.starts_with(BYTE_ORDER_MARK) => {
+                String::from_str(alloc, "a byte order mark at the start")
+            }
+            Some(_) => explain(alloc, self.text, self.error),
+        }
+    }
+
+    /// The line of the place, and below it a mark under the place.
+    pub fn marked_line(&self, alloc: Global) -> Result<Option<String>, AllocError> {
         let Some(at) = place_of(self.error) else {
-            return write!(errors, "{}: {}\n", self.name, self.error);
+            return Ok(None);
         };
         let (before, after) = self.text.split_at(self.text.floor_char_boundary(at));
-        let line = before.bytes().filter(|byte| *byte == b'\n').count();
-        let left = match before.rsplit_once('\n') {
-            Some((_, left)) => left,
-            None => before,
-        };
         let right = match after.split_once('\n') {
             Some((right, _)) => right,
             None => after,
         };
-        let why = if at == 0 && after.starts_with(BYTE_ORDER_MARK) {
-            String::from_str(alloc, "a byte order mark at the start")?
-        } else {
-            explain(alloc, self.text, self.error)?
-        };
-        write!(
-            errors,
-            "{}:{}:{}: {why}\n",
-            self.name,
-            line.saturating_add(1),
-            left.len().saturating_add(1)
-        )?;
-        if shows_line {
-            let shown = line_with_mark(alloc, left, right)?;
-            write!(errors, "{shown}\n")?;
-        }
-        Ok(())
+        Ok(Some(line_with_mark(alloc, last_line(before), right)?))
+    }
+}
+
+// What follows the last line feed.
+fn last_line(text: &str) -> &str {
+    match text.rsplit_once('\n') {
+        Some((_, line)) => line,
+        None => text,
     }
 }
 

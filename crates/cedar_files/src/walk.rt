@@ -1,7 +1,12 @@
 //! The files that the words name.
+use crate::beside::is_left;
+use crate::excludes::Excludes;
 use crate::options::Options;
+use crate::paths::resolved;
+use crate::reports::{Kind, Remark, Reports};
 use std::collections::BTreeSet;
-use std::io::{ErrorKind, Write};
+use std::fs::DirEntry;
+use std::io::ErrorKind;
 use std::{fs, io};
 
 /// The files to do, in order, each name once, and how many faults were reported on the way.
@@ -12,15 +17,26 @@ pub struct Found {
 }
 
 /// The files of all paths: each that is named itself, and the files `*.cedar` below each folder, ordered by their bytes.
-/// Hidden files and folders below one are skipped, and so is what is excluded.
-pub fn find_files(rt: &HostRuntime, options: &Options<'_>) -> io::Result<Found> {
-    let mut seen = BTreeSet::new(rt.alloc());
+/// Hidden files and folders below one are skipped, and so are links that lead out of it and what is excluded.
+pub fn find_files(
+    rt: &HostRuntime,
+    options: &Options<'_>,
+    folder: &str,
+    excludes: &mut Excludes<'_>,
+    reports: &mut Reports<'_>,
+) -> io::Result<Found> {
+    let alloc = rt.alloc();
+    let mut seen = BTreeSet::new(alloc);
     let mut found = Found {
-        files: Vec::new(rt.alloc()),
+        files: Vec::new(alloc),
         faults: 0,
     };
     for path in &options.paths {
-        let mut walk = Walk::new(rt, &options.excluded);
+        let absolute = resolved(alloc, folder, path)?;
+        if options.excludes_named && excludes.leaves_named(alloc, absolute.as_str())? {
+            continue;
+        }
+        let mut walk = Walk::new(rt, absolute.as_str(), excludes, reports);
         walk.take(path)?;
         found.faults = found.faults.saturating_add(walk.faults);
         for file in walk.files {
@@ -34,20 +50,35 @@ pub fn find_files(rt: &HostRuntime, options: &Options<'_>) -> io::Result<Found> 
 
 // A walk through one path.
 #[derive(Drop)]
-struct Walk<'a> {
+struct Walk<'a, 'e, 'r> {
     rt: &'a HostRuntime,
-    excluded: &'a [&'a str],
+    // The absolute path of the folder, and the same with no link in it.
+    absolute: &'a str,
+    real: Option<String>,
+    // How many bytes the path of the folder has, as it was named.
+    named: usize,
+    excludes: &'a mut Excludes<'e>,
+    reports: &'a mut Reports<'r>,
     // Folders that are still to be listed.
     folders: Vec<String>,
     files: Vec<String>,
     faults: usize,
 }
 
-impl<'a> Walk<'a> {
-    fn new(rt: &'a HostRuntime, excluded: &'a [&'a str]) -> Walk<'a> {
+impl<'a, 'e, 'r> Walk<'a, 'e, 'r> {
+    fn new(
+        rt: &'a HostRuntime,
+        absolute: &'a str,
+        excludes: &'a mut Excludes<'e>,
+        reports: &'a mut Reports<'r>,
+    ) -> Walk<'a, 'e, 'r> {
         Walk {
             rt,
-            excluded,
+            absolute,
+            real: None,
+            named: 0,
+            excludes,
+            reports,
             folders: Vec::new(rt.alloc()),
             files: Vec::new(rt.alloc()),
             faults: 0,
@@ -65,14 +96,16 @@ impl<'a> Walk<'a> {
             self.files.push(String::from_str(alloc, path)?)?;
             return Ok(());
         }
-        self.folders
-            .push(String::from_str(alloc, path.trim_end_matches('/'))?)?;
+        let folder = path.trim_end_matches('/');
+        self.named = folder.len();
+        self.real = real_path(self.rt, path)?;
+        self.folders.push(String::from_str(alloc, folder)?)?;
         for _ in 0..u64::MAX {
             let Some(folder) = self.folders.pop() else {
                 break;
             };
             if let Err(error) = self.list(folder.as_str()) {
-                self.tell(folder.as_str(), &error);
+                self.fail(folder.as_str(), &error)?;
             }
         }
         self.files.sort()?;
@@ -84,60 +117,118 @@ impl<'a> Walk<'a> {
         let root = if folder.is_empty() { "/" } else { folder };
         for entry in fs::read_dir(self.rt, root)? {
             match entry {
-                Ok(entry) => {
-                    let kind = entry.file_type()?;
-                    self.sort_in(
-                        folder,
-                        entry.file_name(),
-                        kind.is_dir(),
-                        kind.is_file() || kind.is_symlink(),
-                    )?;
-                }
-                Err(error) => self.tell(folder, &error),
+                Ok(entry) => self.enter(folder, &entry)?,
+                Err(error) => self.fail(folder, &error)?,
             }
         }
         Ok(())
     }
 
-    // Adds a folder, or a file or link whose name ends in `.cedar`.
-    fn sort_in(
-        &mut self,
-        folder: &str,
-        name: &str,
-        is_folder: bool,
-        is_file: bool,
-    ) -> io::Result<()> {
+    // Adds an entry of a folder, unless it is hidden or excluded.
+    fn enter(&mut self, folder: &str, entry: &DirEntry) -> io::Result<()> {
         let alloc = self.rt.alloc();
+        let name = entry.file_name();
         let path = format!(in alloc; "{folder}/{name}")?;
-        if name.starts_with('.') || self.is_excluded(name) || self.is_excluded(path.as_str()) {
+        if name.starts_with('.') {
+            if is_left(self.rt, alloc, name)? {
+                self.note(
+                    path.as_str(),
+                    "left by a run that was killed; it can be removed",
+                );
+            }
             return Ok(());
         }
-        if is_folder {
-            self.folders.push(path)?;
-        } else if is_file && name.ends_with(".cedar") {
-            self.files.push(path)?;
+        let (_, below) = path
+            .as_str()
+            .split_at(path.as_str().floor_char_boundary(self.named));
+        let absolute = format!(in alloc; "{}{below}", self.absolute)?;
+        if self
+            .excludes
+            .leaves(alloc, absolute.as_str(), self.absolute)?
+        {
+            return Ok(());
+        }
+        match entry.file_type() {
+            Ok(kind) if kind.is_dir() => self.folders.push(path)?,
+            Ok(kind) if !name.ends_with(".cedar") || !(kind.is_file() || kind.is_symlink()) => {}
+            Ok(kind) => self.take_file(path, kind.is_symlink())?,
+            Err(error) if error.kind() == ErrorKind::NotFound => {
+                self.note(path.as_str(), "vanished in the meantime");
+            }
+            Err(error) => self.fail(path.as_str(), &error)?,
         }
         Ok(())
     }
 
-    fn is_excluded(&self, name: &str) -> bool {
-        self.excluded.iter().any(|it| *it == name)
+    // Adds a file, or a link to one in the same folder.
+    fn take_file(&mut self, path: String, is_link: bool) -> io::Result<()> {
+        if is_link {
+            if let Ok(metadata) = fs::metadata(self.rt, path.as_str()) {
+                if metadata.is_dir() {
+                    return Ok(());
+                }
+            }
+            if self.leads_out(path.as_str())? {
+                self.note(
+                    path.as_str(),
+                    "a link that leads out of the folder, which is left alone",
+                );
+                return Ok(());
+            }
+        }
+        self.files.push(path)?;
+        Ok(())
+    }
+
+    // Whether a link leads out of the folder that is walked through.
+    fn leads_out(&self, path: &str) -> io::Result<bool> {
+        let (Some(target), Some(folder)) = (real_path(self.rt, path)?, &self.real) else {
+            return Ok(false);
+        };
+        match target
+            .as_str()
+            .strip_prefix(folder.as_str().trim_end_matches('/'))
+        {
+            Some(rest) => Ok(!rest.starts_with('/')),
+            None => Ok(true),
+        }
+    }
+
+    fn note(&mut self, path: &str, message: &str) {
+        self.reports.add(&Remark {
+            kind: Kind::Note,
+            file: path,
+            place: None,
+            message,
+        });
     }
 
     // Reports that a folder, or a name in it, couldn't be read.
-    fn tell(&mut self, folder: &str, error: &io::Error) {
+    fn fail(&mut self, path: &str, error: &io::Error) -> io::Result<()> {
+        // (the memory for a name, and not the folder)
+        if error.kind() == ErrorKind::OutOfMemory {
+            return Err(*error);
+        }
         self.faults = self.faults.saturating_add(1);
-        let mut errors = self.rt.stderr();
-        let _ = match error.kind() {
-            ErrorKind::InvalidFilename => write!(
-                errors,
-                "{folder}: has a name that is not UTF-8, which is left alone\n"
-            ),
-            ErrorKind::PermissionDenied => write!(
-                errors,
-                "{folder}: cannot be read: no permission\n"
-            ),
-            _ => write!(errors, "{folder}: cannot be read: {error}\n"),
-        };
+        if error.kind() == ErrorKind::InvalidFilename && error.raw_os_error().is_none() {
+            self.reports.add(&Remark {
+                kind: Kind::Failed,
+                file: path,
+                place: None,
+                message: "has a name that is not UTF-8, which is left alone",
+            });
+        } else {
+            self.reports.fail(path, "cannot be read: ", error);
+        }
+        Ok(())
+    }
+}
+
+// The path with no link in it, if it leads to something.
+fn real_path(rt: &HostRuntime, path: &str) -> io::Result<Option<String>> {
+    match fs::canonicalize(rt, path) {
+        Ok(real) => Ok(Some(String::from_str(rt.alloc(), real.as_path().as_str())?)),
+        Err(error) if error.kind() == ErrorKind::OutOfMemory => Err(error),
+        Err(_) => Ok(None),
     }
 }

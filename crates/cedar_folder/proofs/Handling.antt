@@ -1,14 +1,14 @@
 -- How a file is handled.
-use Rattle.std.proofs.Common.{◌≡◌, ◌∙◌, ◌⊎◌, ℕ, List, Bool, true, false, Option, Some, refl, sym, ap, inl, inr, subst}
+use Rattle.std.proofs.Common.{◌≡◌, ◌∙◌, ◌⊎◌, [], ℕ, List, Bool, true, false, Option, Some, refl, sym, ap, inl, inr, subst}
 use Rattle.std.specs.Str.{IsUtf8}
 use Rattle.std.proofs.lemmas.Option.{same_Some}
 use Rattle.cedar_documents.specs.declared.config.Config.{Config}
-use Rattle.cedar_folder.specs.Folders.{Names, Picture, Stored}
+use Rattle.cedar_folder.specs.Folders.{HoldsMade, Names, Picture, Stored}
 use Rattle.cedar_policy_formatter.specs.Outputs.{HasOutput}
-use Rattle.cedar_folder.specs.Runs.{Became, Handles, HoldsOutput, HoldsOwnOutput, IsMoment, IsUnformatted, Replaced, Replaces}
+use Rattle.cedar_folder.specs.Runs.{Became, Handles, HoldsNew, HoldsOutput, HoldsOwnOutput, IsMoment, IsReplaced, IsUnformatted, Replaces}
 use Rattle.cedar_folder.specs.declared.folder.Outcome.{Outcome}
-use Rattle.cedar_folder.specs.declared.folder.Outcome.TheVariants.{Formatted, Unformatted, NotUtf8, Refused, Unread, Unwritten, LeftBeside}
-use Rattle.cedar_folder.proofs.Steps.{moments_are, no_moment}
+use Rattle.cedar_folder.specs.declared.folder.Outcome.TheVariants.{Formatted, Empty, Unformatted, Replaced, NotUtf8, Refused, Unread, Unwritten, LeftBeside}
+use Rattle.cedar_folder.proofs.Steps.{no_moment, untold_are}
 
 module _ (c : Config) (name : List ℕ) where
   -- nothing changed
@@ -32,28 +32,38 @@ module _ (c : Config) (name : List ℕ) where
 
   module _ (x : Stored) (ys : List ℕ) (unformatted : IsUnformatted c x.bytes)
       (output : HasOutput c x.bytes ys) (utf8 : IsUtf8 ys) where
-    abbrev new : Stored
-    new = record { bytes = ys; access = x.access }
+    holds_output : (h : Option Stored) → HoldsMade ys x.access h → HoldsOutput c x h
+    holds_output h (g, is, bytes, given) = (
+      g,
+      (
+        subst (λ z. HasOutput c x.bytes z) (sym bytes) output,
+        subst (λ z. IsUtf8 z) (sym bytes) utf8,
+        ([], given),
+      ),
+      is,
+    )
 
-    holds_output : (h : Option Stored) → h ≡ Some new → HoldsOutput c x h
-    holds_output h is = (new, (output, utf8, refl), is)
-
-    became : (o : Outcome) (h : Option Stored) → Replaced ys x.access x o h → Became false c x o h
+    became : (o : Outcome) (h : Option Stored) → IsReplaced ys x.access x o h
+        → Became false c x o h
     became Formatted h bad = absurd bad
-    became Unformatted h is = (unformatted, holds_output h is)
+    became Empty h bad = absurd bad
+    became (Unformatted bytes out) h bad = absurd bad
+    became Replaced h is = (refl, unformatted, holds_output h is)
     became NotUtf8 h bad = absurd bad
     became (Refused e bytes) h bad = absurd bad
     became (Unread e) h bad = absurd bad
     became (Unwritten e) h is = is
     became (LeftBeside e n) h is = is
 
-    at_moment : (p s : Names) → p name ≡ Some x → (n : List ℕ) (g : Stored) → p n ≡ Some g
-        → (s n ≡ Some g) ⊎ ((n ≡ name) × (s n ≡ Some new))
-        → (s n ≡ Some g) ⊎ ((n ≡ name) × HoldsOutput c g (s n))
-    at_moment p s read n g held (inl old) = inl old
-    at_moment p s read n g held (inr (e, is)) =
-        let same : x ≡ g = same_Some _ _ (sym read ∙ ap p (sym e) ∙ held) in
-        inr (e, subst (λ f. HoldsOutput c f (s n)) same (holds_output (s n) is))
+    at_moment : (p s : Names) → p name ≡ Some x → IsMoment (HoldsNew name ys x.access) p s
+        → IsMoment (HoldsOwnOutput c name) p s
+    at_moment p s read moment n g held =
+        elim (moment n g held) as (λ _. (s n ≡ Some g) ⊎ HoldsOwnOutput c name n g (s n)) [
+          | inl old ↦ inl old
+          | inr is ↦
+              let same : x ≡ g = same_Some _ _ (sym read ∙ ap p (sym is.0) ∙ held) in
+              inr (is.0, subst (λ f. HoldsOutput c f (s n)) same (holds_output (s n) is.1))
+        ]
 
     pub of_replaced : (o : Outcome) (p q r : Picture) → (q ≡ p) × (p.holds name ≡ Some x)
         → Replaces name ys x.access o q r → Handles c false name o p r
@@ -65,8 +75,9 @@ module _ (c : Config) (name : List ℕ) where
               (same_Some _ _ (sym read ∙ held)) (became o (r.holds name) (from_p.own x read));
           others = from_p.others;
           unused = from_p.unused x read;
-          moments = moments_are p r _ (IsMoment (HoldsOwnOutput c name) p.holds) (λ s h n g held.
-              at_moment p.holds s read n g held (h n g held)) (from_p.moments x read);
+          moments = untold_are p p r (IsMoment (HoldsNew name ys x.access) p.holds)
+              (IsMoment (HoldsOwnOutput c name) p.holds) refl
+              (λ s h. at_moment p.holds s read h) (from_p.moments x read);
           report = from_p.report;
           check = λ e. let bad : false ≡ true = e in cc;
         }

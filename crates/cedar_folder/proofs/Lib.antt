@@ -1,3 +1,4 @@
+pub mod Rights
 pub mod Steps
 pub mod Replacing
 pub mod Layouts

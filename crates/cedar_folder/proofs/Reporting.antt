@@ -1,25 +1,25 @@
 -- How a report grows.
-use Rattle.std.proofs.Common.{◌≡◌, ◌≢◌, ◌∙◌, ◌⊎◌, ◌++◌, ◌∷◌, [], ℕ, List, Bool, true, false, not, Option, None, Some, append-nil, append_assoc, length, take, drop, get_or, ◌+◌, ◌<◌, ◌≤◌, refl, sym, ap, inl, inr, subst, map}
+use Rattle.std.proofs.Common.{◌≡◌, ◌≢◌, ◌∙◌, ◌⊎◌, ◌++◌, ◌∷◌, [], ℕ, List, Bool, true, false, Option, None, Some, append-nil, append_assoc, length, take, drop, get_or, ◌+◌, ◌<◌, ◌≤◌, arith, refl, sym, ap, inl, inr, subst, map}
 use Rattle.std.specs.Prelude.{string_bytes}
 use Rattle.std.specs.List.{AllByRecursion}
 use Rattle.std.proofs.lemmas.List.{map-append, take-append-drop, take_all, take_more}
 use Rattle.cedar_tokens.specs.Listing.{ListingIsUnique}
 use Rattle.cedar_laws.specs.Canonical.{AcceptedHasOutput, OutputHasTheList, OutputsTellLists}
 use Rattle.cedar_documents.specs.declared.config.Config.{Config}
-use Rattle.cedar_folder.specs.Folders.{Names, Picture, Reports, Stored}
-use Rattle.cedar_folder.specs.Runs.{Became, Done, Handles, HandlesAll, HandlesThese, HoldsItsOutput, HoldsOutput, HoldsOwnOutput, HoldsReplaced, IsLeft, IsMoment, IsNamed, IsOutputFile, NoneTwice, SomeLeft, task_of}
+use Rattle.cedar_folder.specs.Folders.{Moment, Names, Picture, Reports, Since, Stored, Untold, with_report}
+use Rattle.cedar_folder.specs.Rights.{Given, GivenBy, Inherits}
+use Rattle.cedar_folder.specs.declared.folder.Access.{Access}
+use Rattle.cedar_folder.specs.Runs.{AllGoOn, Became, Done, Handles, HandlesAll, HandlesThese, HoldsItsOutput, HoldsOutput, HoldsOwnOutput, IsLeftAs, IsMoment, IsMomentOf, IsNamed, IsOutputFile, NoneTwice, SomeLeft, task_of, told}
 use Rattle.cedar_folder.specs.declared.files.Task.{Task}
 use Rattle.cedar_folder.specs.declared.folder.Outcome.{Outcome}
-use Rattle.cedar_folder.specs.declared.folder.Outcome.TheVariants.{Formatted, Unformatted, NotUtf8, Refused, Unread, Unwritten, LeftBeside}
+use Rattle.cedar_folder.specs.declared.folder.Outcome.TheVariants.{Formatted, Empty, Unformatted, Replaced, NotUtf8, Refused, Unread, Unwritten, LeftBeside}
 use Rattle.cedar_folder.proofs.Layouts.{output_of_output}
-use Rattle.cedar_folder.proofs.Steps.{moments_are, more_moments, same_or_other}
+use Rattle.cedar_folder.proofs.Steps.{moments_are, more_moments, no_moment, same_or_other}
+use Rattle.cedar_tokens.proofs.Lists.{All-append}
 
--- what a task asked for, and what the report says of its file
+-- what a task asked for
 abbrev pub asked : Done → List ℕ × Config
 asked t = (t.name, t.config)
-
-abbrev pub told : Done → List ℕ × Outcome
-told t = (t.name, t.outcome)
 
 -- ---- names
 
@@ -32,14 +32,16 @@ named_last : (done : List Done) (t : Done) → IsNamed (done ++ (t ∷ [])) t.na
 named_last [] t = inl refl
 named_last (u ∷ us) t = inr (named_last us t)
 
-left_more : (done : List Done) (t : Done) → SomeLeft done → SomeLeft (done ++ (t ∷ []))
-left_more [] t h = absurd h
-left_more (u ∷ us) t (inl e) = inl e
-left_more (u ∷ us) t (inr h) = inr (left_more us t h)
+left_more : (done : List Done) (t : Done) (n : List ℕ) → SomeLeft done n
+    → SomeLeft (done ++ (t ∷ [])) n
+left_more [] t n h = absurd h
+left_more (u ∷ us) t n (inl e) = inl e
+left_more (u ∷ us) t n (inr h) = inr (left_more us t n h)
 
-left_last : (done : List Done) (t : Done) → IsLeft t.outcome → SomeLeft (done ++ (t ∷ []))
-left_last [] t h = inl h
-left_last (u ∷ us) t h = inr (left_last us t h)
+left_last : (done : List Done) (t : Done) (n : List ℕ) → IsLeftAs n t.outcome
+    → SomeLeft (done ++ (t ∷ [])) n
+left_last [] t n h = inl h
+left_last (u ∷ us) t n h = inr (left_last us t n h)
 
 -- a report without repeated names is one before its last file, which it doesn't name
 none_before : (done : List Done) (t : Done) → NoneTwice (done ++ (t ∷ []))
@@ -83,34 +85,44 @@ output_is_named (t ∷ ts) n f h (inr is) = inr (output_is_named ts n f h is)
 -- ---- what became of a file lasts if no other is handled
 
 module _ (only : Bool) (c : Config) (f : Stored) where
-  lasts_replaced : (b : Bool) (h k : Option Stored) → ((g : Stored) → h ≡ Some g → k ≡ Some g)
-      → HoldsReplaced b c f h → HoldsReplaced b c f k
-  lasts_replaced true h k same is = same f is
-  lasts_replaced false h k same (g, is, held) = (g, is, same g held)
-
   lasts : (o : Outcome) (h k : Option Stored) → ((g : Stored) → h ≡ Some g → k ≡ Some g)
       → Became only c f o h → Became only c f o k
   lasts Formatted h k same (own, held) = (own, same f held)
-  lasts Unformatted h k same (isnt, held) = (isnt, lasts_replaced only h k same held)
+  lasts Empty h k same (none, held) = (none, same f held)
+  lasts (Unformatted bytes out) h k same (checks, isnt, are, output, held) =
+      (checks, isnt, are, output, same f held)
+  lasts Replaced h k same (writes, isnt, (g, is, held)) = (writes, isnt, (g, is, same g held))
   lasts NotUtf8 h k same (isnt, held) = (isnt, same f held)
   lasts (Refused e bytes) h k same (why, are, held) = (why, are, same f held)
   lasts (Unread e) h k same held = same f held
   lasts (Unwritten e) h k same held = same f held
   lasts (LeftBeside e n) h k same held = same f held
 
+-- one access more that is inherited
+given_more : (by : List Access) (a b d : Access) → GivenBy by a b → Given b d
+    → GivenBy (by ++ (b ∷ [])) a d
+given_more [] a b d h k = (h, k)
+given_more (c ∷ cs) a b d (first, rest) k = (first, given_more cs c b d rest k)
+
+given_by_both : (by more : List Access) (a b d : Access) → GivenBy by a b → GivenBy more b d
+    → Inherits a d
+given_by_both by [] a b d h k = (by ++ (b ∷ []), given_more by a b d h k)
+given_by_both by (c ∷ cs) a b d h (k, rest) =
+    given_by_both (by ++ (b ∷ [])) cs a c d (given_more by a b c h k) rest
+
+inherits_more : (a b d : Access) → Inherits a b → Inherits b d → Inherits a d
+inherits_more a b d (by, h) (more, k) = given_by_both by more a b d h k
+
 -- ---- one file more
 
 module _ (some : AcceptedHasOutput) (listed : OutputHasTheList) (tell : OutputsTellLists)
     (unique : ListingIsUnique) (only : Bool) where
-  replaced_is : (c : Config) (b : Bool) (f : Stored) (h : Option Stored) → HoldsReplaced b c f h
-      → (h ≡ Some f) ⊎ HoldsOutput c f h
-  replaced_is c true f h held = inl held
-  replaced_is c false f h is = inr is
-
   old_or_output : (c : Config) (f : Stored) (o : Outcome) (h : Option Stored)
       → Became only c f o h → (h ≡ Some f) ⊎ HoldsOutput c f h
   old_or_output c f Formatted h (own, held) = inl held
-  old_or_output c f Unformatted h (isnt, held) = replaced_is c only f h held
+  old_or_output c f Empty h (none, held) = inl held
+  old_or_output c f (Unformatted bytes out) h (checks, isnt, are, output, held) = inl held
+  old_or_output c f Replaced h (writes, isnt, is) = inr is
   old_or_output c f NotUtf8 h (isnt, held) = inl held
   old_or_output c f (Refused e bytes) h (why, are, held) = inl held
   old_or_output c f (Unread e) h held = inl held
@@ -125,7 +137,7 @@ module _ (some : AcceptedHasOutput) (listed : OutputHasTheList) (tell : OutputsT
     (
       output_of_output some listed tell unique d c f.bytes g.bytes k.bytes is.0 other.0,
       other.1,
-      other.2 ∙ is.2,
+      inherits_more f.access g.access k.access is.2 other.2,
     ),
     held,
   )
@@ -196,40 +208,107 @@ module _ (some : AcceptedHasOutput) (listed : OutputHasTheList) (tell : OutputsT
       became_more us (λ x. new (inr x)) h.1 last,
     )
 
-    still_unused : (n : List ℕ) → (q.holds n ≡ None) ⊎ SomeLeft done
-        → (r.holds n ≡ None) ⊎ SomeLeft more
-    still_unused n (inr left) = inr (left_more done t left)
+    still_unused : (n : List ℕ) → (q.holds n ≡ None) ⊎ SomeLeft done n
+        → (r.holds n ≡ None) ⊎ SomeLeft more n
+    still_unused n (inr left) = inr (left_more done t n left)
     still_unused n (inl none) =
-        elim (step.unused n none) as (λ _. (r.holds n ≡ None) ⊎ SomeLeft more)
-        [ inl same ↦ inl same | inr left ↦ inr (left_last done t left) ]
+        elim (step.unused n none) as (λ _. (r.holds n ≡ None) ⊎ SomeLeft more n)
+        [ inl same ↦ inl same | inr left ↦ inr (left_last done t n left) ]
 
-    reported : (s : Bool) → HandlesThese only more p
-        (record r { report = r.report ++ ((t.name, t.outcome) ∷ []); stopped = s })
-    reported s = record {
-      report = ap (λ z. z ++ ((t.name, t.outcome) ∷ [])) (step.report ∙ before.report)
-          ∙ append_assoc p.report (map told done) ((t.name, t.outcome) ∷ [])
-          ∙ ap (λ z. p.report ++ z) (sym (map-append told done (t ∷ [])));
-      became = λ once. let b = none_before done t once in
-          became_more done b.1 (before.became b.0) (last_became b.1);
-      holds = at_moment r.holds (λ n f held. at_end n f (same_or_other n t.name) held);
-      unused = λ n none. still_unused n (before.unused n none);
-      moments = more_moments p q r (IsMoment (HoldsItsOutput more) p.holds)
-          (moments_are p q (IsMoment (HoldsItsOutput done) p.holds)
-          (IsMoment (HoldsItsOutput more) p.holds) (λ s h. weaker p.holds s h) before.moments)
-          (moments_are q r (IsMoment (HoldsOwnOutput t.config t.name) q.holds)
-          (IsMoment (HoldsItsOutput more) p.holds) at_moment step.moments);
-      check = λ e. (
-        ap (λ z. z.holds) (step.check e) ∙ (before.check e).0,
-        ap (λ z. z.moments) (step.check e) ∙ (before.check e).1,
-      );
+    -- the moments before, those of the step, and the one of its report
+    earlier : (m : Moment) → IsMomentOf done p m → IsMomentOf more p m
+    earlier m h = record {
+      reported = h.reported;
+      next = h.next;
+      later = h.later ++ (t ∷ []);
+      order = ap (λ z. z ++ (t ∷ [])) h.order
+          ∙ append_assoc (h.reported ++ h.next) h.later (t ∷ []);
+      one = h.one;
+      report = h.report;
+      holds = h.holds;
     }
 
-  pub one_more : (done : List Done) (t : Done) (goes_on : Bool) (p q r s : Picture)
+    in_step : (m : Moment) → Untold q (IsMoment (HoldsOwnOutput t.config t.name) q.holds) m
+        → IsMomentOf more p m
+    in_step m h = record {
+      reported = done;
+      next = t ∷ [];
+      later = [];
+      order = sym (append-nil more);
+      one = omega arith;
+      report = h.0 ∙ before.report;
+      holds = at_moment m.holds h.1;
+    }
+
+    at_the_end : IsMoment (HoldsItsOutput more) p.holds r.holds
+    at_the_end =
+        at_moment r.holds (λ n f held. at_end n f (same_or_other n t.name) held)
+
+    all_told : r.report ++ (told t ∷ []) ≡ p.report ++ map told more
+    all_told = ap (λ z. z ++ (told t ∷ [])) (step.report ∙ before.report)
+        ∙ append_assoc p.report (map told done) (told t ∷ [])
+        ∙ ap (λ z. p.report ++ z) (sym (map-append told done (t ∷ [])))
+
+    abbrev at_report : Moment
+    at_report = record { holds = r.holds; report = r.report ++ (told t ∷ []) }
+
+    in_report : IsMomentOf more p at_report
+    in_report = record {
+      reported = more;
+      next = [];
+      later = [];
+      order = sym (append-nil (more ++ []) ∙ append-nil more);
+      one = omega arith;
+      report = all_told;
+      holds = subst (λ z. IsMoment (HoldsItsOutput z) p.holds r.holds) (sym (append-nil more)) at_the_end;
+    }
+
+    abbrev ended : Picture
+    ended = with_report r (told t)
+
+    one_at_report : (P : Moment → Type 0) → P at_report → Since r ended P
+    one_at_report P h = (at_report ∷ [], refl, (h, tt))
+
+    unchanged : (only ≡ true) → Since p ended (λ m. m.holds ≡ p.holds)
+    unchanged e = let same : r ≡ q = step.check e in
+        let was = before.check e in
+        more_moments p q ended (λ m. m.holds ≡ p.holds) was.1
+        (subst (λ z. Since z ended (λ m. m.holds ≡ p.holds)) same
+        (one_at_report (λ m. m.holds ≡ p.holds) (ap (λ z. z.holds) same ∙ was.0)))
+
+    reported : HandlesThese only more p ended
+    reported = record {
+      report = all_told;
+      became = λ once. let b = none_before done t once in
+          became_more done b.1 (before.became b.0) (last_became b.1);
+      holds = at_the_end;
+      unused = λ n none. still_unused n (before.unused n none);
+      moments = more_moments p q ended (IsMomentOf more p)
+          (moments_are p q (IsMomentOf done p) (IsMomentOf more p) earlier before.moments)
+          (more_moments q r ended (IsMomentOf more p)
+          (moments_are q r (Untold q (IsMoment (HoldsOwnOutput t.config t.name) q.holds))
+          (IsMomentOf more p) in_step step.moments)
+          (one_at_report (IsMomentOf more p) in_report));
+      check = λ e. (ap (λ z. z.holds) (step.check e) ∙ (before.check e).0, unchanged e);
+    }
+
+  pub one_more : (done : List Done) (t : Done) (p q r s : Picture)
       → HandlesThese only done p q → Handles t.config only t.name t.outcome q r
-      → Reports t.name t.outcome goes_on r s → HandlesThese only (done ++ (t ∷ [])) p s
-  one_more done t goes_on p q r s before step is =
+      → Reports t.name t.outcome t.goes_on r s → HandlesThese only (done ++ (t ∷ [])) p s
+  one_more done t p q r s before step is =
       subst (λ z. HandlesThese only (done ++ (t ∷ [])) p z) (sym is)
-      (reported done t p q r before step (not goes_on))
+      (reported done t p q r before step)
+
+-- nothing was done yet
+pub none_done : (only : Bool) (p : Picture) → HandlesThese only [] p p
+none_done only p = record {
+  report = sym (append-nil p.report);
+  became = λ once. tt;
+  holds = λ n f held. inl held;
+  unused = λ n none. inl none;
+  moments = no_moment p _;
+  check = λ e. (refl, no_moment p _);
+}
 
 -- ---- all of them
 
@@ -249,29 +328,32 @@ module _ (tasks : List Task) (done : List Done) (i : ℕ) where
       ∙ ap (λ z. given (take i tasks) ++ (z ∷ [])) same
       ∙ ap (λ z. z ++ (asked t ∷ [])) so_far ∙ sym (map-append asked done (t ∷ []))
 
-  pub until_stopped : (only : Bool) (p q : Picture) → given (take i tasks) ≡ map asked done
-      → q.stopped ≡ true → HandlesThese only done p q → HandlesAll only (given tasks) p q
-  until_stopped only p q so_far stop these = record {
+  pub until_stopped : (only : Bool) (most : List Done) (last : Done) (p q : Picture)
+      → done ≡ most ++ (last ∷ []) → AllGoOn most → last.goes_on ≡ false
+      → given (take i tasks) ≡ map asked done → HandlesThese only done p q
+      → HandlesAll only (given tasks) p q
+  until_stopped only most last p q parts go stop so_far these = record {
     done = done;
     rest = given (drop i tasks);
     order = ap given (sym (take-append-drop i tasks))
         ∙ map-append task_of (take i tasks) (drop i tasks)
         ∙ ap (λ z. z ++ given (drop i tasks)) so_far;
-    all = λ e. let bad : true ≡ false = sym stop ∙ e in cc;
+    obeyed = inr (most, last, parts, go, stop);
     these = these;
   }
 
   pub to_the_end : (only : Bool) (p q : Picture) → length tasks ≤ i
-      → given (take i tasks) ≡ map asked done → HandlesThese only done p q
+      → given (take i tasks) ≡ map asked done → AllGoOn done → HandlesThese only done p q
       → HandlesAll only (given tasks) p q
-  to_the_end only p q over so_far these = record {
+  to_the_end only p q over so_far go these = record {
     done = done;
     rest = [];
     order = ap given (sym (take_all i tasks over)) ∙ so_far ∙ sym (append-nil (map asked done));
-    all = λ e. refl;
+    obeyed = inl (go, refl);
     these = these;
   }
 
-pub stops_where : (m : List ℕ) (o : Outcome) (goes_on : Bool) (r s : Picture) → goes_on ≡ false
-    → Reports m o goes_on r s → s.stopped ≡ true
-stops_where m o goes_on r s e is = ap (λ z. z.stopped) is ∙ ap not e
+-- one more that asked to go on
+pub goes_on_more : (done : List Done) (t : Done) → AllGoOn done → t.goes_on ≡ true
+    → AllGoOn (done ++ (t ∷ []))
+goes_on_more done t go is = All-append (λ u. u.goes_on ≡ true) done (t ∷ []) go (is, tt)

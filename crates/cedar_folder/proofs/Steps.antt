@@ -3,7 +3,7 @@ use Rattle.std.proofs.Common.{◌≡◌, ◌≢◌, ◌∙◌, ◌⊎◌, ◌++�
 use Rattle.std.specs.List.{AllByRecursion}
 use Rattle.std.specs.Str.{bytes_eq}
 use Rattle.std.specs.Cmp.Lexicographic.{bytes_decides}
-use Rattle.cedar_folder.specs.Folders.{Follows, Names, Picture, Since, Stored}
+use Rattle.cedar_folder.specs.Folders.{Follows, Moment, Names, Picture, Since, Stored, Untold}
 use Rattle.cedar_tokens.proofs.Lists.{All-append}
 
 -- what is known of one step is known of it as another, and of two as one
@@ -39,22 +39,28 @@ of_four f (Some p) (Some q) (Some r) None k a b c d = absurd c
 of_four f (Some p) (Some q) (Some r) (Some s) None a b c d = absurd d
 of_four f (Some p) (Some q) (Some r) (Some s) (Some t) a b c d = f p q r s t a b c d
 
-pub all_are : {P Q : Names → Type 0} → ((s : Names) → P s → Q s) → (xs : List Names)
+pub all_are : {P Q : Moment → Type 0} → ((m : Moment) → P m → Q m) → (xs : List Moment)
     → AllByRecursion P xs → AllByRecursion Q xs
 all_are f [] h = tt
 all_are f (x ∷ xs) h = (f x h.0, all_are f xs h.1)
 
 -- no moment, and those of two steps
-pub no_moment : (p : Picture) (P : Names → Type 0) → Since p p P
+pub no_moment : (p : Picture) (P : Moment → Type 0) → Since p p P
 no_moment p P = ([], sym (append-nil p.moments), tt)
 
-pub more_moments : (p q r : Picture) (P : Names → Type 0) → Since p q P → Since q r P → Since p r P
+pub more_moments : (p q r : Picture) (P : Moment → Type 0) → Since p q P → Since q r P → Since p r P
 more_moments p q r P (xs, e, h) (ys, f, k) =
     (xs ++ ys, f ∙ ap (λ l. l ++ ys) e ∙ append_assoc p.moments xs ys, All-append P xs ys h k)
 
-pub moments_are : (p q : Picture) (P Q : Names → Type 0) → ((s : Names) → P s → Q s) → Since p q P
+pub moments_are : (p q : Picture) (P Q : Moment → Type 0) → ((m : Moment) → P m → Q m) → Since p q P
     → Since p q Q
 moments_are p q P Q f (xs, e, h) = (xs, e, all_are f xs h)
+
+-- moments at which nothing more was reported than at an earlier picture, which had the same report
+pub untold_are : (p q r : Picture) (P Q : Names → Type 0) → q.report ≡ p.report
+    → ((s : Names) → P s → Q s) → Since q r (Untold q P) → Since q r (Untold p Q)
+untold_are p q r P Q same f h =
+    moments_are q r (Untold q P) (Untold p Q) (λ m k. (k.0 ∙ same, f m.holds k.1)) h
 
 -- a name is another one, or it isn't
 by_test : (n m : List ℕ) (b : Bool) → bytes_eq n m ≡ b → (n ≡ m) ⊎ (n ≢ m)

@@ -3,7 +3,7 @@ ghost use Rattle.std.specs.Prelude.{◌≡◌, map};
 ghost use Rattle.cedar_folder.specs.Folders.{Follows};
 ghost use Rattle.cedar_folder.specs.Runs.{GivesLayout, Handles, HandlesAll, Replaces, task_of};
 
-use crate::folder::{Access, File, Folder, Outcome};
+use crate::folder::{File, Folder, NotCreated, Outcome};
 use cedar_policy_formatter::fmt::outputs_are_canonical;
 use cedar_policy_formatter::lexer::listing_is_unique;
 use cedar_policy_formatter::{Config, FormatError, policies_str_to_pretty};
@@ -54,9 +54,13 @@ fn format_file<F: Folder>(
         Err(error) => return Outcome::Unread(error),
     };
     match layout_of(alloc, &file.bytes, config) {
+        Layout::Nothing => Outcome::Empty,
         Layout::Own => Outcome::Formatted,
-        Layout::Other(_) if only_checks => Outcome::Unformatted,
-        Layout::Other(output) => replace_file(alloc, folder, name, output.as_bytes(), file.access),
+        Layout::Other(output) if only_checks => Outcome::Unformatted {
+            bytes: file.bytes,
+            output,
+        },
+        Layout::Other(output) => replace_file(alloc, folder, name, output.as_bytes(), &file),
         Layout::NotUtf8 => Outcome::NotUtf8,
         Layout::Refused(error) => Outcome::Refused {
             error,
@@ -68,6 +72,8 @@ fn format_file<F: Folder>(
 // The result of laying out the bytes of a file.
 #[derive(Drop)]
 enum Layout {
+    // There are none.
+    Nothing,
     // They are their own output.
     Own,
     // They aren't; this is their output.
@@ -82,6 +88,9 @@ fn layout_of(alloc: Global, bytes: &[u8], config: &Config) -> Layout
 {
     outputs_are_canonical();
     listing_is_unique();
+    if bytes.is_empty() {
+        return Layout::Nothing;
+    }
     let Ok(text) = str::from_utf8(bytes) else {
         return Layout::NotUtf8;
     };
@@ -103,19 +112,22 @@ fn replace_file<F: Folder>(
     folder: &mut F,
     name: &str,
     bytes: &[u8],
-    access: Access,
+    old: &File,
 ) -> Outcome
-    ensures { Follows (Replaces name.now bytes.now access result) (F.picture folder.old) (F.picture folder.new) }
+    ensures { Follows (Replaces name.now bytes.now old.now.access result) (F.picture folder.old) (F.picture folder.new) }
 {
     let beside = match folder.unused_name(alloc, name) {
         Ok(beside) => beside,
         Err(error) => return Outcome::Unwritten(error),
     };
-    if let Err(error) = folder.create(beside.as_str(), bytes, access) {
+    if let Err(NotCreated { error, is_left }) = folder.create(beside.as_str(), bytes, old.access) {
+        if is_left {
+            return Outcome::LeftBeside { error, beside };
+        }
         return Outcome::Unwritten(error);
     }
-    let Err(error) = folder.rename(beside.as_str(), name) else {
-        return Outcome::Unformatted;
+    let Err(error) = folder.replace(beside.as_str(), name, old.version) else {
+        return Outcome::Replaced;
     };
     match folder.remove(beside.as_str()) {
         Ok(()) => Outcome::Unwritten(error),

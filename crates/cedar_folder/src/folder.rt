@@ -1,6 +1,6 @@
 //! What a run does with a folder.
 ghost use Rattle.std.specs.Prelude.{List, Option, string_bytes};
-ghost use Rattle.cedar_folder.specs.Folders.{Creates, FindsUnused, Follows, Picture, Reads, Removes, Renames, Reports};
+ghost use Rattle.cedar_folder.specs.Folders.{Creates, FindsUnused, Follows, Picture, PutsInPlace, Reads, Removes, Reports};
 
 use cedar_policy_formatter::FormatError;
 use std::alloc::Global;
@@ -17,6 +17,21 @@ pub struct Access {
     pub group: u32,
 }
 
+/// Which file a name held, and in which state: two states of one file differ in it.
+#[derive(Clone, Copy, Debug, PartialEq, Eq)]
+pub struct Version {
+    /// The number of the device.
+    pub device: u64,
+    /// The number of the file on its device.
+    pub inode: u64,
+    /// The number of bytes.
+    pub size: u64,
+    /// When the bytes were changed last: seconds and nanoseconds.
+    pub modified: (i64, i64),
+    /// When the bytes, the access or the links were changed last.
+    pub changed: (i64, i64),
+}
+
 /// What a name holds.
 #[derive(Debug, Drop)]
 pub struct File {
@@ -24,25 +39,39 @@ pub struct File {
     pub bytes: Vec<u8>,
     /// Its access.
     pub access: Access,
+    /// Which state of which file it is.
+    pub version: Version,
 }
 
 /// What became of a file.
 #[derive(Debug, Drop)]
 pub enum Outcome {
-    /// It was its own output, and is unchanged.
+    /// It is its own output, and wasn't touched.
     Formatted,
-    /// It is accepted and was not its own output. It was replaced; a run that only checks left it.
-    Unformatted,
-    /// It isn't UTF-8, and is unchanged.
+    /// It is empty, and wasn't touched.
+    Empty,
+    /// It is accepted and isn't its own output. The run only checks, and it wasn't touched. `bytes` are those of the file.
+    Unformatted { bytes: Vec<u8>, output: String },
+    /// It was accepted and not its own output, and was replaced by its output.
+    Replaced,
+    /// It isn't UTF-8, and wasn't touched.
     NotUtf8,
-    /// It is refused, and is unchanged. `bytes` are those of the file.
+    /// It is refused, and wasn't touched. `bytes` are those of the file.
     Refused { error: FormatError, bytes: Vec<u8> },
-    /// It couldn't be read, and is unchanged.
+    /// It couldn't be read, and wasn't touched.
     Unread(io::Error),
-    /// It couldn't be replaced, and is unchanged.
+    /// It couldn't be replaced, and wasn't touched.
     Unwritten(io::Error),
-    /// It couldn't be replaced, and is unchanged. The output is still in the file `beside`, which couldn't be removed.
+    /// It couldn't be replaced, and wasn't touched. A new file is still there as `beside`, which couldn't be removed.
     LeftBeside { error: io::Error, beside: String },
+}
+
+/// Why a file couldn't be created.
+#[derive(Debug, Drop)]
+pub struct NotCreated {
+    pub error: io::Error,
+    /// Whether a part of it is still there, and couldn't be removed.
+    pub is_left: bool,
 }
 
 /// Files by name, and a report of what was done with them.
@@ -62,13 +91,14 @@ pub trait Folder {
     fn unused_name(&mut self, alloc: Global, name: &str) -> io::Result<String>
         ensures { Follows (FindsUnused result) (picture self.old) (picture self.new) };
 
-    /// Creates a file. After an error each name holds what it held.
-    fn create(&mut self, name: &str, bytes: &[u8], access: Access) -> io::Result<()>
+    /// Creates a file, with this access or a narrower one. After an error each name holds what it held, unless a part is left.
+    fn create(&mut self, name: &str, bytes: &[u8], access: Access) -> Result<(), NotCreated>
         ensures { Follows (Creates name.now bytes.now access result) (picture self.old) (picture self.new) };
 
-    /// Renames a file, in one step. What the new name held is gone. After an error each name holds what it held.
-    fn rename(&mut self, from: &str, to: &str) -> io::Result<()>
-        ensures { Follows (Renames from.now to.now result) (picture self.old) (picture self.new) };
+    /// Renames a file, in one step, if the new name holds this version. What it held is gone. After an error each name holds
+    /// what it held.
+    fn replace(&mut self, from: &str, to: &str, version: Version) -> io::Result<()>
+        ensures { Follows (PutsInPlace from.now to.now version result) (picture self.old) (picture self.new) };
 
     /// Removes a file. After an error each name holds what it held.
     fn remove(&mut self, name: &str) -> io::Result<()>

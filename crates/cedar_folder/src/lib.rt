@@ -4,8 +4,10 @@
 //! are known, `format_files` says what each name holds afterwards and at every moment of the run, and what was reported.
 #![tactic(auto)]
 
+mod access;
 mod files;
 mod folder;
 
+pub use access::narrowed_mode;
 pub use files::{Task, format_files};
-pub use folder::{Access, File, Folder, Outcome};
+pub use folder::{Access, File, Folder, NotCreated, Outcome, Version};

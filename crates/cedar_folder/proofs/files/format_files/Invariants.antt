@@ -1,10 +1,10 @@
 use Rattle.std.proofs.Common.{◌≡◌, List, map, take}
 use Rattle.cedar_folder.specs.Folders.{Follows}
-use Rattle.cedar_folder.specs.Runs.{Done, HandlesThese, task_of}
+use Rattle.cedar_folder.specs.Runs.{AllGoOn, Done, HandlesThese, task_of}
 use Rattle.cedar_folder.proofs.Reporting.{asked}
 use Rattle.cedar_folder.proofs.files.format_files.Given as goal
 
 abbrev pub invariant-loop-task : goal.invariant-loop-task
 invariant-loop-task g l = (done : List Done)
-    × (map task_of (take l.task-index l.tasks) ≡ map asked done) × Follows (HandlesThese l.only_checks
+    × (map task_of (take l.task-index l.tasks) ≡ map asked done) × AllGoOn done × Follows (HandlesThese l.only_checks
     done) (g.F.Folder.picture l.fn.folder) (g.F.Folder.picture l.folder)

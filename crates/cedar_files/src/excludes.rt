@@ -1,0 +1,100 @@
+//! Which files and folders are left alone.
+use cedar_settings::{Glob, GlobError};
+use std::alloc::{AllocError, Global};
+
+/// The files and folders that are left alone.
+#[derive(Drop)]
+pub struct Excludes<'a> {
+    rules: Vec<Rule<'a>>,
+    // The absolute path of the working folder.
+    folder: &'a str,
+}
+
+// A word of the command line.
+#[derive(Drop)]
+struct Rule<'a> {
+    word: &'a str,
+    glob: Glob,
+    is_absolute: bool,
+    is_met: bool,
+}
+
+impl<'a> Excludes<'a> {
+    /// What these words leave alone. The working folder is given by its absolute path, without a slash at the end.
+    pub fn new(
+        alloc: Global,
+        words: &[&'a str],
+        folder: &'a str,
+    ) -> Result<Excludes<'a>, GlobError> {
+        let mut rules = Vec::new(alloc);
+        for word in words {
+            let rule = Rule::new(alloc, word)?;
+            if rules.push(rule).is_err() {
+                return Err(GlobError::OutOfMemory);
+            }
+        }
+        Ok(Excludes { rules, folder })
+    }
+
+    /// Whether a path that was met below a folder is left alone. Both are absolute.
+    pub fn leaves(&mut self, alloc: Global, path: &str, below: &str) -> Result<bool, AllocError> {
+        let mut is_left = false;
+        for rule in &mut self.rules {
+            if rule.matches(alloc, path, &[below, self.folder])? {
+                rule.is_met = true;
+                is_left = true;
+            }
+        }
+        Ok(is_left)
+    }
+
+    /// Whether an absolute path, or a folder that it is in, is left alone.
+    pub fn leaves_named(&mut self, alloc: Global, path: &str) -> Result<bool, AllocError> {
+        let folder = self.folder;
+        for (at, _) in path.match_indices('/') {
+            let (above, _) = path.split_at(path.floor_char_boundary(at));
+            if self.leaves(alloc, above, folder)? {
+                return Ok(true);
+            }
+        }
+        self.leaves(alloc, path, folder)
+    }
+
+    /// The words that nothing was met for.
+    pub fn unmet(&self, alloc: Global) -> Result<Vec<&'a str>, AllocError> {
+        let mut words = Vec::new(alloc);
+        for rule in &self.rules {
+            if !rule.is_met {
+                words.push(rule.word)?;
+            }
+        }
+        Ok(words)
+    }
+}
+
+impl<'a> Rule<'a> {
+    fn new(alloc: Global, word: &'a str) -> Result<Rule<'a>, GlobError> {
+        let glob = word.trim_start_matches("./").trim_end_matches('/');
+        Ok(Rule {
+            word,
+            glob: Glob::new(alloc, glob)?,
+            is_absolute: glob.starts_with('/'),
+            is_met: false,
+        })
+    }
+
+    // Whether the rule is for a path, as it is seen from one of these folders.
+    fn matches(&self, alloc: Global, path: &str, folders: &[&str]) -> Result<bool, AllocError> {
+        if self.is_absolute {
+            return self.glob.matches(alloc, path);
+        }
+        for folder in folders {
+            if let Some(rest) = path.strip_prefix(*folder) {
+                if rest.starts_with('/') && self.glob.matches(alloc, rest)? {
+                    return Ok(true);
+                }
+            }
+        }
+        Ok(false)
+    }
+}
