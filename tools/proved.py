@@ -29,6 +29,8 @@ class Records:
         self.rt, self.built = loaded(script), built
         self.rt.Crate.allowed = self.rt.handles_of(sources)
         self.crates, self.copies = ({it.name: it for it in self.rt.crates_of(top)} for top in (sources, built))
+        # (asking for the store would make it)
+        self.store, self.known = os.path.isdir(self.rt.STORE) and self.rt.Kept(list(self.crates.values())), {}
 
     def stamp(self, crate):
         """The sum of everything that a crate's program or library is made of."""
@@ -38,24 +40,31 @@ class Records:
         return of.stamp()
 
     def kept(self, crate):
-        """The sums of the files that `rt ci` built of a crate, by their names."""
-        # (otherwise it would be made)
-        if not os.path.isdir(self.rt.STORE):
+        """The sums of the files that `rt ci` built of a crate of these sources, by their names; none if the copy has other libraries."""
+        if crate not in self.known:
+            self.known[crate] = self.find(self.crates[crate], self.copies[crate])
+        return self.known[crate]
+
+    def find(self, of, own):
+        if not all(self.kept(it.name) for it in of.below()):
             return {}
-        of, kept = self.crates[crate], self.rt.Kept(list(self.crates.values()))
-        for it in self.copies[crate].below():
-            kept.is_built(it)
         try:
-            with open(f"{kept.place(of, False, kept.key(of))}/made.json", encoding="utf-8") as it:
-                return dict(json.load(it)["files"])
+            with open(f"{self.store.place(of, False, self.store.key(of))}/made.json", encoding="utf-8") as it:
+                made = dict(json.load(it)["files"])
         except (OSError, ValueError, KeyError):
             return {}
+        if of.makes_rlib():
+            if any(self.rt.rtlib.sum_of(f"{own.folder}/out/{it}") != sum for it, sum in made.items()):
+                return {}
+            self.store.is_built(own)
+        return made
 
     def are_of(self, crate, name):
         """Whether the prover recorded the file of this name in a crate's folder out, as it is, for these sources."""
         file = f"{self.built}/crates/{crate}/out/{name}"
         sum_of, text_of = self.rt.rtlib.sum_of, self.rt.rtlib.text_of
-        return self.kept(crate).get(name) == sum_of(file) or text_of(f"{file}.stamp") == self.stamp(crate) + sum_of(file)
+        is_kept = self.store and self.kept(crate).get(name) == sum_of(file)
+        return is_kept or text_of(f"{file}.stamp") == self.stamp(crate) + sum_of(file)
 
     def note(self, crate, name):
         """Records a file that the prover has just passed and built."""
