@@ -15,7 +15,7 @@ use cedar_tokens::units::Units;
 use cedar_tree::error::FormatError;
 
 /// A token as the parser reads it.
-#[derive(Clone, Copy, Debug)]
+#[derive(Clone, Copy)]
 pub struct Lexeme<'src> {
     pub kind: Kind,
     pub text: &'src str,

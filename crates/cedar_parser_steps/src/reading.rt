@@ -12,7 +12,7 @@ use cedar_tokens::kind::Kind;
 use std::alloc::AllocFailed;
 
 /// Why tokens are refused; `left` counts the tokens from the refused one on.
-#[derive(Clone, Copy, Debug)]
+#[derive(Clone, Copy)]
 pub enum Refusal {
     Grammar { left: usize },
     TooDeep { left: usize },

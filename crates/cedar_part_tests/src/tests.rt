@@ -14,6 +14,7 @@ mod lookups;
 mod parts;
 mod readers;
 mod shapes;
+mod sheets;
 mod tokens;
 mod trees;
 

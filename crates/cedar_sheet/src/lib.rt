@@ -6,5 +6,3 @@ pub mod document;
 pub mod laws;
 pub mod layout;
 pub mod sheet;
-#[cfg(test)]
-mod tests;

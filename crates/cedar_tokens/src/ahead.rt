@@ -39,7 +39,7 @@ pub(crate) fn gap_len(text: &str) -> (usize, Option<usize>)
 }
 
 // A text from its next token on.
-#[derive(Clone, Copy, Debug)]
+#[derive(Clone, Copy)]
 pub(crate) struct Ahead<'src> {
     pub(crate) text: &'src str,
     // The length of that token; `None` if no token begins there.

@@ -58,7 +58,7 @@ pub enum Kind {
 }
 
 /// Words that may stand at a place.
-#[derive(Clone, Copy, Debug)]
+#[derive(Clone, Copy)]
 pub enum Words {
     /// Words that can name something: all but `true false if then else in is like has`.
     Identifier,

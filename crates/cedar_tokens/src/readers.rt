@@ -42,7 +42,7 @@ pub fn commented_token<'src>(
 }
 
 // The token that a text begins with, its trailing text, the leading text of what comes next, and the text from there.
-#[derive(Clone, Copy, Debug)]
+#[derive(Clone, Copy)]
 struct FirstToken<'src> {
     text: &'src str,
     trailing: &'src str,
@@ -74,7 +74,7 @@ fn first_token<'src>(ahead: &Ahead<'src>) -> Option<FirstToken<'src>>
 
 /// The tokens of a text with their comments, one after the other, and the closing comments: those of
 /// `get_token_stream`, holding one token at a time.
-#[derive(Debug, Drop)]
+#[derive(Drop)]
 pub struct TokenReader<'src> {
     text: &'src str,
     // What leads the next token or, where none is left, closes the text.

@@ -4,14 +4,14 @@ ghost use Rattle.std.specs.Prelude.{◌≡◌};
 use crate::lexer::{UnitKind, first_unit};
 
 /// A unit of a text and its kind.
-#[derive(Clone, Copy, Debug)]
+#[derive(Clone, Copy)]
 pub struct Unit<'src> {
     pub kind: UnitKind,
     pub text: &'src str,
 }
 
 /// The remaining units of a text, up to its end or the first place where none begins.
-#[derive(Clone, Copy, Debug)]
+#[derive(Clone, Copy)]
 pub struct Units<'src> {
     rest: &'src str,
 }

@@ -207,14 +207,14 @@ pub struct Ref<'src> {
 }
 
 /// `?principal` or `?resource`.
-#[derive(Clone, Copy, Debug, PartialEq, Eq)]
+#[derive(Clone, Copy, PartialEq, Eq)]
 pub enum Slot {
     Principal,
     Resource,
 }
 
 /// `<`, `<=`, `>`, `>=`, `!=`, `==` or `in`.
-#[derive(Clone, Copy, Debug, PartialEq, Eq)]
+#[derive(Clone, Copy, PartialEq, Eq)]
 pub enum RelOp {
     Less,
     LessEq,
@@ -226,20 +226,20 @@ pub enum RelOp {
 }
 
 /// `+` or `-`.
-#[derive(Clone, Copy, Debug, PartialEq, Eq)]
+#[derive(Clone, Copy, PartialEq, Eq)]
 pub enum AddOp {
     Plus,
     Minus,
 }
 
 /// `*`.
-#[derive(Clone, Copy, Debug, PartialEq, Eq)]
+#[derive(Clone, Copy, PartialEq, Eq)]
 pub enum MultOp {
     Times,
 }
 
 /// How many `!` or `-` precede a member, one to four.
-#[derive(Clone, Copy, Debug, PartialEq, Eq)]
+#[derive(Clone, Copy, PartialEq, Eq)]
 pub enum NegOp {
     Bang(u8),
     Dash(u8),

@@ -37,7 +37,7 @@ struct ParsedPiece<'src> {
 }
 
 /// The policies of a text that are still to come. Memory is held for one policy at a time.
-#[derive(Debug, Drop)]
+#[derive(Drop)]
 pub struct PolicyReader<'src> {
     text: &'src str,
     at: usize,

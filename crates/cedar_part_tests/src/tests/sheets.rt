@@ -1,8 +1,8 @@
-//! What no clause says: the definitions agree with the worked examples, and calls succeed with ample memory.
-use crate::document::to_document;
-use crate::layout::lay_out;
-use crate::sheet::Sheet;
-use cedar_layout::layout::render;
+//! Documents as flat lists of marks: a sheet's layout, and that of the document which it stands for.
+use cedar_policy_formatter::layout::render;
+use cedar_sheet::document::to_document;
+use cedar_sheet::layout::lay_out;
+use cedar_sheet::sheet::Sheet;
 use std::alloc::{AllocError, Global};
 use std::process::Abort;
 
@@ -34,7 +34,7 @@ fn write(sheet: &mut Sheet<'static>, steps: &[Step]) -> Result<(), AllocError> {
     Ok(())
 }
 
-fn expect_text(rt: &impl Abort, got: &str, want: &str, name: &str, width: usize) {
+fn expect_layout(rt: &impl Abort, got: &str, want: &str, name: &str, width: usize) {
     assert_eq!(rt; got, want, "{name} at {width}");
 }
 
@@ -153,10 +153,10 @@ fn expect_row(rt: &impl Abort, sheet: &mut Sheet<'static>, row: &Row, alloc: Glo
     for (width, want) in row.layouts {
         let mut got = String::new(alloc);
         lay_out(sheet, *width, &mut got).expect(rt, row.name);
-        expect_text(rt, got.as_str(), want, row.name, *width);
+        expect_layout(rt, got.as_str(), want, row.name, *width);
         let mut rendered = String::new(alloc);
         render(alloc, &doc, *width, &mut rendered).expect(rt, row.name);
-        expect_text(rt, rendered.as_str(), want, row.name, *width);
+        expect_layout(rt, rendered.as_str(), want, row.name, *width);
     }
 }
 
