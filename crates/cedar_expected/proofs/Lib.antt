@@ -1,5 +1,5 @@
 mod SampleTokens
-mod Deciding
+pub mod Deciding
 mod KindLists
 mod NameLists
 mod Groups
@@ -7,8 +7,8 @@ mod Listings
 mod Tokens
 mod Following
 pub mod Splits
-mod Begun
+pub mod Begun
 pub mod Rests
-mod Probed
-mod FirstUnits
+pub mod Probed
+pub mod FirstUnits
 pub mod RightAfter

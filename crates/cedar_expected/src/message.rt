@@ -97,8 +97,8 @@ fn separator(index: usize, last: usize) -> &'static str
     }
 }
 
-// A token between quotes, cut to its first characters if it is long.
-fn write_token<W: fmt::Write>(f: &mut fmt::Formatter<W>, token: &str) -> fmt::Result
+/// Writes a token between quotes, cut to its first 30 characters if it is longer.
+pub fn write_token<W: fmt::Write>(f: &mut fmt::Formatter<W>, token: &str) -> fmt::Result
     ensures { DisplaysOnOk W.write_str_gives f.old result (Some (quoted (shown 30 (chars token.now)))) f.new }
 {
     f.write_str("'")?;
