@@ -1,0 +1,31 @@
+-- What is said of a fault.
+use Rattle.std.specs.Prelude.{ℕ, true, if◌then◌else◌, nat_lt, List, [], ◌∷◌, ◌++◌, Option, Some, None, chars, codes}
+use Rattle.std.specs.Borrow.{Bor}
+use Rattle.std.specs.Fmt.{digits}
+use Rattle.cedar_tree.specs.declared.error.FormatError.{FormatError}
+use Rattle.cedar_tree.specs.declared.error.FormatError.TheVariants.{UnknownCharacter, UnfinishedString, NumberTooLarge, TooDeep}
+use Rattle.cedar_expected.specs.declared.expectation.Expected.{Expected}
+use Rattle.cedar_expected.specs.Messages.{expected_text}
+use Rattle.cedar_expected.specs.Sentences.{sentence}
+use Rattle.cedar_faults.specs.declared.fault.Fault.{Fault}
+
+-- the code point of a character beyond ASCII
+abbrev pub code_point : List ℕ → List ℕ
+code_point (c ∷ []) = if nat_lt c 128 then [] else codes " (U+" ++ digits 16 true c ++ codes ")"
+code_point cs = []
+
+abbrev pub found_point : Option (Bor (List ℕ)) → List ℕ
+found_point None = []
+found_point (Some found) = code_point (chars found.now)
+
+-- what is wrong with what is there, or what was expected there
+abbrev pub sentence_of : FormatError → Expected → List ℕ
+sentence_of (UnknownCharacter at) e = expected_text e ++ found_point e.found
+sentence_of (UnfinishedString at) e = sentence (UnfinishedString at)
+sentence_of (NumberTooLarge at) e = sentence (NumberTooLarge at)
+sentence_of (TooDeep at) e = sentence (TooDeep at)
+sentence_of error e = expected_text e
+
+-- a fault in words
+abbrev pub said : Fault → List ℕ
+said f = sentence_of f.error f.expected

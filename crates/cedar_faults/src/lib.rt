@@ -1,0 +1,17 @@
+//! All faults of a text: for each policy that isn't accepted, the first byte at which no accepted text continues, what is there and
+//! what could be there.
+#![tactic(auto)]
+
+pub mod beginnings;
+pub mod fault;
+pub mod faults;
+pub mod laws;
+mod marks;
+mod moves;
+mod recovery;
+pub mod tips;
+mod words;
+
+pub use fault::Fault;
+pub use faults::{Faults, faults};
+pub use tips::Tip;
