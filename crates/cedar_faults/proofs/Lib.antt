@@ -1,0 +1,12 @@
+mod Chains
+mod Describing
+mod Ending
+mod Finding
+mod Furthest
+mod Leaving
+mod Near
+mod Passing
+mod Points
+mod Rooms
+mod Searching
+mod Slips

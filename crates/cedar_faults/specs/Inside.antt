@@ -2,4 +2,3 @@
 pub mod Ends
 pub mod Beginnings
 pub mod Searches
-pub mod Slips

@@ -1,4 +1,6 @@
 pub mod Faults
+pub mod FirstFaults
+pub mod Recovery
 pub mod Laws
 pub mod Marks
 pub mod Tips

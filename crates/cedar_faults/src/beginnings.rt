@@ -1,15 +1,17 @@
 //! What a text begins with: an accepted policy or a fault.
-ghost use Rattle.std.specs.Prelude.{◌≤◌, length, IfOk, MatchOption};
+ghost use Rattle.std.specs.Prelude.{IfOk, MatchOption};
 ghost use Rattle.cedar_grammar.specs.Texts.{Accepted};
 ghost use Rattle.cedar_parser_steps.specs.Tokens.{HasTokens};
 ghost use Rattle.cedar_tree.specs.Refusals.{Refuses};
-ghost use Rattle.cedar_faults.specs.Inside.Beginnings.{Is, IsTokenFault};
+ghost use Rattle.cedar_faults.specs.Inside.Beginnings.{Is, IsTokenFault, RefusesInside};
+ghost use Rattle.cedar_expected.specs.Inside.Beginnings.{TokensBegin};
 
 use cedar_cst::cst::parse_policies;
 use cedar_parser_steps::lexeme::{Lexeme, is_too_large};
 use cedar_pieces::pieces::read_piece;
 use cedar_tokens::units::Units;
 use cedar_tree::error::FormatError;
+use cedar_tree::laws::tree_is_of_accepted;
 use std::alloc::{AllocError, Global};
 
 /// What a text begins with.
@@ -31,7 +33,7 @@ struct TokenFault {
 }
 
 /// What `text` begins with. `room` is memory for the tokens of a policy, and its contents are unspecified afterwards.
-pub fn beginning<'src>(
+pub fn read_beginning<'src>(
     alloc: Global,
     text: &'src str,
     room: &mut Vec<Lexeme<'src>>,
@@ -41,7 +43,8 @@ pub fn beginning<'src>(
     let Some(len) = read_piece(text, room)? else {
         return last_beginning(alloc, text);
     };
-    match refusal(alloc, &text[..len])? {
+    // (a policy ends at its `;`, so none is missing)
+    match inner_refusal(alloc, &text[..len])? {
         Some(error) => Ok(Beginning::Faulty(error)),
         None => Ok(Beginning::Policy(len)),
     }
@@ -57,10 +60,20 @@ fn last_beginning(alloc: Global, text: &str) -> Result<Beginning, AllocError>
             None => Ok(Beginning::End),
         };
     };
-    match refusal(alloc, &text[..fault.at])? {
-        Some(FormatError::Grammar { at }) if at == fault.at => Ok(Beginning::Faulty(fault.error)),
+    match inner_refusal(alloc, &text[..fault.at])? {
         Some(error) => Ok(Beginning::Faulty(error)),
         None => Ok(Beginning::Faulty(fault.error)),
+    }
+}
+
+// Why the text is refused before its end, if it is; else some accepted list begins with its tokens.
+fn inner_refusal(alloc: Global, text: &str) -> Result<Option<FormatError>, AllocError>
+    requires { HasTokens text.now }
+    ensures { IfOk result (λ refusal. MatchOption refusal (TokensBegin text.now) (RefusesInside text.now)) }
+{
+    match refusal(alloc, text)? {
+        Some(FormatError::Grammar { at }) if at == text.len() => Ok(None),
+        other => Ok(other),
     }
 }
 
@@ -68,6 +81,7 @@ fn last_beginning(alloc: Global, text: &str) -> Result<Beginning, AllocError>
 fn refusal(alloc: Global, text: &str) -> Result<Option<FormatError>, AllocError>
     ensures { IfOk result (λ refusal. MatchOption refusal (Accepted text.now) (Refuses text.now)) }
 {
+    tree_is_of_accepted();
     match parse_policies(alloc, text) {
         Ok(_) => Ok(None),
         Err(FormatError::OutOfMemory) => Err(AllocError),

@@ -8,10 +8,12 @@ pub mod faults;
 pub mod laws;
 mod marks;
 mod moves;
+pub mod reader;
 mod recovery;
 pub mod tips;
 mod words;
 
 pub use fault::Fault;
-pub use faults::{Faults, faults};
+pub use faults::faults;
+pub use reader::Faults;
 pub use tips::Tip;

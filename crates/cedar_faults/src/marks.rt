@@ -1,7 +1,7 @@
 //! Which part of a text a fault is about.
 ghost use Rattle.std.specs.Prelude.{◌≡◌, ◌≤◌, length};
 ghost use Rattle.cedar_tokens.specs.Split.{Splits};
-ghost use Rattle.cedar_faults.specs.Faults.{IsFirstOf};
+ghost use Rattle.cedar_faults.specs.FirstFaults.{IsFirstOf};
 ghost use Rattle.cedar_faults.specs.Marks.{EndsLine, Marks, MarksLast, MarksUnit};
 ghost use Rattle.cedar_faults.specs.Inside.Ends.{EndsLastOf, HasUnitAt};
 

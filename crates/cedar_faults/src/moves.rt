@@ -1,6 +1,7 @@
 //! Faults of a part of a text as faults of the whole.
 ghost use Rattle.std.specs.Prelude.{◌≡◌, ◌+◌, ◌<◌, ◌^◌, ◌≢◌, MatchOption, None, Some, ⊤};
-ghost use Rattle.cedar_faults.specs.Faults.{later, moved, place_of};
+ghost use Rattle.cedar_faults.specs.Faults.{later, moved};
+ghost use Rattle.cedar_faults.specs.FirstFaults.{place_of};
 ghost use Rattle.cedar_faults.specs.Inside.Searches.{HasRoom};
 
 use crate::fault::Fault;
@@ -26,7 +27,7 @@ pub(crate) fn place(error: FormatError) -> usize
 /// The fault so many bytes later.
 pub(crate) fn moved<'src>(fault: Fault<'src>, by: usize) -> Fault<'src>
     requires { HasRoom by fault }
-    ensures { result ≡ moved by fault }
+    ensures { result ≡ moved by fault.entry }
 {
     Fault {
         error: later(fault.error, by),

@@ -1,7 +1,8 @@
 //! Faults in words.
-ghost use Rattle.std.specs.Prelude.{◌≡◌, Some};
+ghost use Rattle.std.specs.Prelude.{Some};
 ghost use Rattle.std.specs.Fmt.{DisplaysOnOk};
-ghost use Rattle.cedar_faults.specs.Words.{found_point, said};
+ghost use Rattle.std.specs.Str.{chars};
+ghost use Rattle.cedar_faults.specs.Words.{code_point, found_point, said};
 
 use crate::fault::Fault;
 use cedar_tree::error::FormatError;
@@ -15,7 +16,7 @@ impl fmt::Display for Fault<'_> {
         match self.error {
             FormatError::UnknownCharacter { .. } => {
                 write!(f, "{expected}")?;
-                write_point(f, expected.found)
+                write_found_point(f, expected.found)
             }
             FormatError::UnfinishedString { .. } => f.write_str("this string is not finished"),
             FormatError::NumberTooLarge { .. } => {
@@ -29,18 +30,29 @@ impl fmt::Display for Fault<'_> {
     }
 }
 
-// The code point of a character beyond ASCII.
-fn write_point<W: fmt::Write>(f: &mut fmt::Formatter<W>, found: Option<&str>) -> fmt::Result
-    ensures { DisplaysOnOk W.write_str_gives f.old result (Some (found_point found)) f.new }
+// The code point of what is there, if it is one character beyond ASCII.
+fn write_found_point<W: fmt::Write>(f: &mut fmt::Formatter<W>, found: Option<&str>) -> fmt::Result
+    ensures { DisplaysOnOk W.write_str_gives f.old result (Some (found_point found.entry)) f.new }
 {
-    let Some(found) = found else {
+    match found {
+        Some(found) => write_code_point(f, found),
+        None => Ok(()),
+    }
+}
+
+// The same of a text.
+fn write_code_point<W: fmt::Write>(f: &mut fmt::Formatter<W>, text: &str) -> fmt::Result
+    ensures { DisplaysOnOk W.write_str_gives f.old result (Some (code_point (chars text.now))) f.new }
+{
+    let mut characters = text.chars();
+    let Some(character) = characters.next() else {
         return Ok(());
     };
-    let mut characters = found.chars();
-    match (characters.next(), characters.next()) {
-        (Some(character), None) if !character.is_ascii() => {
-            write!(f, " (U+{:X})", character as u32)
-        }
-        _ => Ok(()),
+    if character.is_ascii() {
+        return Ok(());
+    }
+    match characters.next() {
+        Some(_) => Ok(()),
+        None => write!(f, " (U+{:X})", character as u32),
     }
 }

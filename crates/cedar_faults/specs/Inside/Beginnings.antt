@@ -1,5 +1,5 @@
 -- What a text begins with.
-use Rattle.std.specs.Prelude.{◌≡◌, ◌≤◌, ◌<◌, ℕ, false, List, length, take, drop}
+use Rattle.std.specs.Prelude.{◌≡◌, ◌≢◌, ◌≤◌, ◌<◌, ℕ, false, List, length, take, drop}
 use Rattle.std.specs.List.{list_any, sum_by}
 use Rattle.std.specs.Str.{IsCharBoundary}
 use Rattle.cedar_tokens.specs.Split.{Scans, IsFirstFault, fault_kind}
@@ -7,12 +7,13 @@ use Rattle.cedar_tokens.specs.declared.lexer.LexFaultKind.TheVariants as Lexical
 use Rattle.cedar_grammar.specs.Numbers.{is_too_large}
 use Rattle.cedar_grammar.specs.Texts.{Accepted}
 use Rattle.cedar_tree.specs.declared.error.FormatError.{FormatError}
-use Rattle.cedar_tree.specs.declared.error.FormatError.TheVariants.{UnknownCharacter, UnfinishedString, NumberTooLarge}
+use Rattle.cedar_tree.specs.declared.error.FormatError.TheVariants.{UnknownCharacter, UnfinishedString, NumberTooLarge, Grammar}
+use Rattle.cedar_tree.specs.Refusals.{Refuses}
 use Rattle.cedar_pieces.specs.Pieces.{IsPiece}
 use Rattle.cedar_faults.specs.declared.beginnings.Beginning.{Beginning}
 use Rattle.cedar_faults.specs.declared.beginnings.Beginning.TheVariants.{Policy, End, Faulty}
 use Rattle.cedar_faults.specs.declared.beginnings.TokenFault.{TokenFault}
-use Rattle.cedar_faults.specs.Faults.{IsFirstOf, IsTooLargeAt}
+use Rattle.cedar_faults.specs.FirstFaults.{IsFirstOf, IsTooLargeAt}
 
 -- an accepted policy and the rest of its line come first
 pub record IsPolicy (text : List ℕ) (n : ℕ) : Type 0 where
@@ -25,6 +26,10 @@ abbrev pub Is : List ℕ → Beginning → Type 0
 Is text (Policy n) = IsPolicy text n
 Is text End = Accepted text
 Is text (Faulty e) = IsFirstOf text e
+
+-- the text is refused before its end
+abbrev pub RefusesInside : List ℕ → FormatError → Type 0
+RefusesInside text e = Refuses text e × (e ≢ Grammar (length text))
 
 -- why the units of a text end at this byte
 abbrev pub Stops : List ℕ → ℕ → FormatError → Type 0

@@ -1,9 +1,11 @@
 -- How far a search for faults has come.
-use Rattle.std.specs.Prelude.{◌≡◌, ◌≤◌, ◌<◌, ◌+◌, ◌^◌, ℕ, List, length, Option, MatchOption, ⊤}
+use Rattle.std.specs.Prelude.{◌≡◌, ◌≤◌, ◌<◌, ◌+◌, ◌^◌, ℕ, List, length, drop, Option, MatchOption, ⊤}
 use Rattle.std.specs.Str.{IsCharBoundary}
 use Rattle.cedar_tree.specs.declared.error.FormatError.{FormatError}
 use Rattle.cedar_faults.specs.declared.fault.Fault.{Fault}
-use Rattle.cedar_faults.specs.Faults.{place_of}
+use Rattle.cedar_faults.specs.declared.reader.Found.{Found}
+use Rattle.cedar_faults.specs.Faults.{AreFaultsFrom}
+use Rattle.cedar_faults.specs.FirstFaults.{IsFirstOf, place_of}
 
 -- a text, and the byte at which the search goes on
 pub record Search : Type 0 where
@@ -21,3 +23,11 @@ pub record HasRoom (by : ℕ) (f : Fault) : Type 0 where
   pub start : by + f.part.start < 2 ^ 64
   pub end : by + f.part.end < 2 ^ 64
   pub at : by + f.expected.at < 2 ^ 64
+
+-- the policies from the byte `at` to where the faulty one begins are accepted; places in the text are numbers of 64 bits
+pub record Finds (text : List ℕ) (at : ℕ) (found : Found) : Type 0 where
+  pub inside : IsInside text found.from
+  pub order : at ≤ found.from
+  pub size : length text < 2 ^ 64
+  pub first : IsFirstOf (drop found.from text) found.error
+  pub passed : (fs : List Fault) → AreFaultsFrom text found.from fs → AreFaultsFrom text at fs
