@@ -269,9 +269,9 @@ impl Folder for Disk<'_, '_> {
         fs::remove_file(self.rt, name)
     }
 
-    fn report(&mut self, name: &str, outcome: &Outcome) -> bool {
-        self.counts.add(outcome);
-        self.print(name, outcome);
+    fn report(&mut self, name: &str, outcome: Outcome) -> bool {
+        self.counts.add(&outcome);
+        self.print(name, &outcome);
         self.reports.show_progress(self.counts.done(), self.all);
         !self.reports.is_broken() && !self.room.is_stopped(self.rt)
     }
