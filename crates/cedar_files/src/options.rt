@@ -19,7 +19,7 @@ pub enum Mode {
 impl Mode {
     /// Whether nothing is changed.
     pub fn only_checks(self) -> bool
-        ensures { IsTrue result ↔ (self ≢ Write) }
+        ensures { IsTrue result ↔ (self ≢ Mode.Write) }
     {
         self != Mode::Write
     }
