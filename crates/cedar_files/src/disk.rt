@@ -5,12 +5,13 @@
 ghost use Rattle.std.specs.Prelude.{None};
 
 use crate::beside::name_beside;
+use crate::counts::Counts;
 use crate::options::{Mode, Options};
-use crate::refusal::{Place, Refusal};
+use crate::places::first_difference;
+use crate::refusal::Refusal;
 use crate::reports::{Kind, Remark, Reports};
 use crate::room::Room;
 use cedar_folder::{Access, File, Folder, NotCreated, Outcome, Version, narrowed_mode};
-use cedar_policy_formatter::FormatError;
 use std::alloc::Global;
 use std::fs::{Metadata, OpenOptions, Permissions};
 use std::io::{ErrorKind, Read, Write};
@@ -24,46 +25,6 @@ const MOST_NAMES: u32 = 1000;
 
 // How often a file that is just being replaced is looked at.
 const MOST_TRIES: u32 = 100;
-
-/// How many files there were of each kind.
-#[derive(Clone, Copy)]
-pub struct Counts {
-    /// Not formatted, or replaced.
-    pub changed: usize,
-    /// Left as they are.
-    pub same: usize,
-    pub refused: usize,
-    /// Not read or not replaced.
-    pub failed: usize,
-}
-
-impl Counts {
-    /// How many files were done.
-    pub fn done(&self) -> usize {
-        self.changed
-            .saturating_add(self.same)
-            .saturating_add(self.refused)
-            .saturating_add(self.failed)
-    }
-
-    fn add(&mut self, outcome: &Outcome) {
-        match outcome {
-            Outcome::Unformatted { .. } | Outcome::Replaced => {
-                self.changed = self.changed.saturating_add(1);
-            }
-            Outcome::Formatted | Outcome::Empty => self.same = self.same.saturating_add(1),
-            Outcome::Refused { error, .. } if *error == FormatError::OutOfMemory => {
-                self.failed = self.failed.saturating_add(1);
-            }
-            Outcome::NotUtf8 | Outcome::Refused { .. } => {
-                self.refused = self.refused.saturating_add(1);
-            }
-            Outcome::Unread(_) | Outcome::Unwritten(_) | Outcome::LeftBeside { .. } => {
-                self.failed = self.failed.saturating_add(1);
-            }
-        }
-    }
-}
 
 /// The folder of the disk, as a run sees it.
 #[derive(Drop)]
@@ -93,12 +54,7 @@ impl<'a, 'r> Disk<'a, 'r> {
             room: Room::new(rt)?,
             reports,
             all,
-            counts: Counts {
-                changed: 0,
-                same: 0,
-                refused: 0,
-                failed: 0,
-            },
+            counts: Counts::new(),
             bits: random_bits(rt)?,
         })
     }
@@ -269,9 +225,9 @@ impl Folder for Disk<'_, '_> {
         fs::remove_file(self.rt, name)
     }
 
-    fn report(&mut self, name: &str, outcome: &Outcome) -> bool {
-        self.counts.add(outcome);
-        self.print(name, outcome);
+    fn report(&mut self, name: &str, outcome: Outcome) -> bool {
+        self.counts.add(&outcome);
+        self.print(name, &outcome);
         self.reports.show_progress(self.counts.done(), self.all);
         !self.reports.is_broken() && !self.room.is_stopped(self.rt)
     }
@@ -315,21 +271,4 @@ fn random_bits(rt: &HostRuntime) -> io::Result<u64> {
     let mut bytes = [0; 8];
     rt.fill_bytes(&mut bytes)?;
     Ok(u64::from_le_bytes(bytes))
-}
-
-// The place of the first byte that differs, or the end of the shorter text.
-fn first_difference(before: &[u8], after: &[u8]) -> Place {
-    let mut place = Place { line: 1, column: 1 };
-    for (old, new) in before.iter().zip(after) {
-        if old != new {
-            return place;
-        }
-        if *old == b'\n' {
-            place.line = place.line.saturating_add(1);
-            place.column = 1;
-        } else {
-            place.column = place.column.saturating_add(1);
-        }
-    }
-    place
 }

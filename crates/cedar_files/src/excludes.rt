@@ -1,4 +1,7 @@
 //! Which files and folders are left alone.
+ghost use Rattle.std.specs.Prelude.{◌↔◌, IfOk, IsTrue};
+ghost use Rattle.cedar_files.specs.Excludes.{IsMeant, IsMeantFrom};
+
 use cedar_settings::{Glob, GlobError};
 use std::alloc::{AllocError, Global};
 
@@ -40,7 +43,7 @@ impl<'a> Excludes<'a> {
     pub fn leaves(&mut self, alloc: Global, path: &str, below: &str) -> Result<bool, AllocError> {
         let mut is_left = false;
         for rule in &mut self.rules {
-            if rule.matches(alloc, path, &[below, self.folder])? {
+            if rule.matches(alloc, path, below, self.folder)? {
                 rule.is_met = true;
                 is_left = true;
             }
@@ -84,17 +87,31 @@ impl<'a> Rule<'a> {
     }
 
     // Whether the rule is for a path, as it is seen from one of these folders.
-    fn matches(&self, alloc: Global, path: &str, folders: &[&str]) -> Result<bool, AllocError> {
+    fn matches(
+        &self,
+        alloc: Global,
+        path: &str,
+        below: &str,
+        folder: &str,
+    ) -> Result<bool, AllocError>
+        ensures { IfOk result (λ found. IsTrue found ↔ IsMeant self.now.glob self.now.is_absolute path.now below.now folder.now) }
+    {
         if self.is_absolute {
             return self.glob.matches(alloc, path);
         }
-        for folder in folders {
-            if let Some(rest) = path.strip_prefix(*folder) {
-                if rest.starts_with('/') && self.glob.matches(alloc, rest)? {
-                    return Ok(true);
-                }
-            }
+        if self.matches_from(alloc, path, below)? {
+            return Ok(true);
         }
-        Ok(false)
+        self.matches_from(alloc, path, folder)
+    }
+
+    // Whether the glob matches a path, as it is seen from a folder.
+    fn matches_from(&self, alloc: Global, path: &str, folder: &str) -> Result<bool, AllocError>
+        ensures { IfOk result (λ found. IsTrue found ↔ IsMeantFrom self.now.glob path.now folder.now) }
+    {
+        match path.strip_prefix(folder) {
+            Some(rest) if rest.starts_with('/') => self.glob.matches(alloc, rest),
+            _ => Ok(false),
+        }
     }
 }

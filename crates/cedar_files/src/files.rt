@@ -1,12 +1,13 @@
 //! Files and folders.
-use crate::disk::{Counts, Disk};
+use crate::MISUSED;
+use crate::counts::{Counts, FAILED};
+use crate::disk::Disk;
 use crate::excludes::Excludes;
 use crate::layouts::Layouts;
 use crate::options::{Mode, Options};
 use crate::paths::working_folder;
 use crate::reports::Reports;
 use crate::walk::{Found, find_files};
-use crate::{FAILED, MISUSED, UNFORMATTED};
 use cedar_folder::{Task, format_files};
 use cedar_settings::GlobError;
 use std::alloc::AllocError;
@@ -29,7 +30,7 @@ pub fn run_files(rt: &HostRuntime, options: &Options<'_>) -> io::Result<u8> {
         reports.say(line.as_str());
     }
     Ok(if reports.end() {
-        status_of(options, &counts, tasks.len(), faults)
+        counts.status(options.mode.only_checks(), tasks.len(), faults)
     } else {
         FAILED
     })
@@ -70,7 +71,8 @@ fn format_all<'a>(
     tasks: &[Task],
 ) -> io::Result<Counts> {
     let mut disk = Disk::new(rt, options, reports, tasks.len())?;
-    format_files(rt.alloc(), &mut disk, tasks, options.mode != Mode::Write);
+    let only_checks = options.mode.only_checks();
+    format_files(rt.alloc(), &mut disk, tasks, only_checks);
     Ok(disk.counts())
 }
 
@@ -120,14 +122,4 @@ fn summary(
         }
     }
     Ok(line)
-}
-
-fn status_of(options: &Options<'_>, counts: &Counts, all: usize, faults: usize) -> u8 {
-    if counts.refused > 0 || counts.failed > 0 || faults > 0 || counts.done() < all {
-        FAILED
-    } else if options.mode != Mode::Write && counts.changed > 0 {
-        UNFORMATTED
-    } else {
-        0
-    }
 }

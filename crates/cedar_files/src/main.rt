@@ -7,6 +7,7 @@
 
 mod beside;
 mod changes;
+mod counts;
 mod diff;
 mod disk;
 mod excludes;
@@ -15,6 +16,7 @@ mod layouts;
 mod names;
 mod options;
 mod paths;
+mod places;
 mod refusal;
 mod reports;
 mod room;
@@ -23,18 +25,15 @@ mod walk;
 
 use clap::Error;
 use clap::error::ErrorKind;
+use counts::FAILED;
 use options::{Mode, Options, read_options};
 use reports::{Why, status_of};
 use std::io::Write;
 use std::process::ExitCode;
 use std::{env, io};
 
-// A fault other than one of the words.
-const FAILED: u8 = 1;
 // A usage error.
 const MISUSED: u8 = 2;
-// In a mode that changes nothing: something isn't formatted.
-const UNFORMATTED: u8 = 3;
 
 // The path that stands for standard input.
 const STANDARD_INPUT: &str = "-";

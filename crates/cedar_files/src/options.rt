@@ -1,4 +1,6 @@
 //! The words of the command line.
+ghost use Rattle.std.specs.Prelude.{◌≢◌, ◌↔◌, IsTrue};
+
 use cedar_program_words::VERSION;
 use clap::{Arg, ArgAction, ArgMatches, Command, Error, value_parser};
 use std::alloc::{AllocError, Global};
@@ -12,6 +14,15 @@ pub enum Mode {
     Check,
     /// What would change is printed.
     Diff,
+}
+
+impl Mode {
+    /// Whether nothing is changed.
+    pub fn only_checks(self) -> bool
+        ensures { IsTrue result ↔ (self ≢ Mode.Write) }
+    {
+        self != Mode::Write
+    }
 }
 
 /// How a run prints what it has to say.

@@ -1,4 +1,5 @@
 //! Where a text is refused, and why.
+use crate::places::{Place, first_line, last_line, place_after};
 use cedar_policy_formatter::{FormatError, explain};
 use std::alloc::{AllocError, Global};
 use unicode_width::UnicodeWidthStr;
@@ -7,13 +8,6 @@ const BYTE_ORDER_MARK: char = '\u{feff}';
 
 // The most characters shown before a place and after it.
 const SHOWN: usize = 60;
-
-/// A place in a text. Both numbers are counted from 1, columns in bytes, and only a line feed ends a line.
-#[derive(Clone, Copy)]
-pub struct Place {
-    pub line: usize,
-    pub column: usize,
-}
 
 /// A text that is refused.
 #[derive(Clone, Copy)]
@@ -29,11 +23,7 @@ impl Refusal<'_> {
     pub fn place(&self) -> Option<Place> {
         let at = place_of(self.error)?;
         let (before, _) = self.text.split_at(self.text.floor_char_boundary(at));
-        let line = before.bytes().filter(|byte| *byte == b'\n').count();
-        Some(Place {
-            line: line.saturating_add(1),
-            column: last_line(before).len().saturating_add(1),
-        })
+        Some(place_after(before.as_bytes()))
     }
 
     /// Why it is refused.
@@ -53,19 +43,8 @@ impl Refusal<'_> {
             return Ok(None);
         };
         let (before, after) = self.text.split_at(self.text.floor_char_boundary(at));
-        let right = match after.split_once('\n') {
-            Some((right, _)) => right,
-            None => after,
-        };
-        Ok(Some(line_with_mark(alloc, last_line(before), right)?))
-    }
-}
-
-// What follows the last line feed.
-fn last_line(text: &str) -> &str {
-    match text.rsplit_once('\n') {
-        Some((_, line)) => line,
-        None => text,
+        let line = line_with_mark(alloc, last_line(before), first_line(after))?;
+        Ok(Some(line))
     }
 }
 

@@ -1,9 +1,10 @@
 //! What a run prints.
-use crate::FAILED;
+use crate::counts::FAILED;
 use crate::diff::write_diff;
 use crate::names::{CommandText, JsonText, Shown};
 use crate::options::{Format, Options};
-use crate::refusal::{Place, Refusal};
+use crate::places::Place;
+use crate::refusal::Refusal;
 use cedar_policy_formatter::FormatError;
 use std::io::{BufWriter, ErrorKind, IsTerminal, Write};
 use std::rt::Stdout;

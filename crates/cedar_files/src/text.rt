@@ -1,10 +1,10 @@
 //! Standard input.
+use crate::counts::{FAILED, UNFORMATTED};
 use crate::layouts::Layouts;
 use crate::options::{Mode, Options};
 use crate::paths::working_folder;
 use crate::refusal::Refusal;
 use crate::reports::{Kind, Remark, Reports, status_of};
-use crate::{FAILED, UNFORMATTED};
 use cedar_policy_formatter::{ReadFault, Watched, policies_str_to_pretty, read_text};
 use std::io;
 use std::io::Write;

@@ -43,12 +43,12 @@ module _ (c : Config) (name : List ℕ) where
       is,
     )
 
-    became : (o : Outcome) (h : Option Stored) → IsReplaced ys x.access x o h
+    became : (o : Outcome) (h : Option Stored) → IsReplaced ys x x o h
         → Became false c x o h
     became Formatted h bad = absurd bad
     became Empty h bad = absurd bad
     became (Unformatted bytes out) h bad = absurd bad
-    became Replaced h is = (refl, unformatted, holds_output h is)
+    became Replaced h is = (refl, unformatted, holds_output h is.1)
     became NotUtf8 h bad = absurd bad
     became (Refused e bytes) h bad = absurd bad
     became (Unread e) h bad = absurd bad
@@ -66,10 +66,10 @@ module _ (c : Config) (name : List ℕ) where
         ]
 
     pub of_replaced : (o : Outcome) (p q r : Picture) → (q ≡ p) × (p.holds name ≡ Some x)
-        → Replaces name ys x.access o q r → Handles c false name o p r
+        → Replaces name ys x o q r → Handles c false name o p r
     of_replaced o p q r (same, read) done =
-        let from_p : Replaces name ys x.access o p r =
-        subst (λ s. Replaces name ys x.access o s r) same done in
+        let from_p : Replaces name ys x o p r =
+        subst (λ s. Replaces name ys x o s r) same done in
         record {
           own = λ f held. subst (λ g. Became false c g o (r.holds name))
               (same_Some _ _ (sym read ∙ held)) (became o (r.holds name) (from_p.own x read));

@@ -48,12 +48,19 @@ not_put b m v e p q h = record {
   report = h.report;
 }
 
-module _ (name xs : List ℕ) (a : Access) where
+module _ (name xs : List ℕ) (x : Stored) where
+  -- what was read
+  abbrev a : Access
+  a = x.access
+
+  abbrev v : Version
+  v = x.version
+
   -- nothing was done, or only a name that held nothing was touched
   pub untouched : (o : Outcome)
-      → ((f : Stored) (h : Option Stored) → h ≡ Some f → IsReplaced xs a f o h) → (p q : Picture)
-      → q ≡ p → Replaces name xs a o p q
-  untouched o keeps p q e = subst (λ r. Replaces name xs a o p r) (sym e) (record {
+      → ((f : Stored) (h : Option Stored) → h ≡ Some f → IsReplaced xs x f o h) → (p q : Picture)
+      → q ≡ p → Replaces name xs x o p q
+  untouched o keeps p q e = subst (λ r. Replaces name xs x o p r) (sym e) (record {
     own = λ f held. keeps f (p.holds name) held;
     others = λ n f other held. held;
     unused = λ f held n none. inl none;
@@ -69,9 +76,9 @@ module _ (name xs : List ℕ) (a : Access) where
   unused_still o p q b n spares gone none (inr other) = inl (spares n other ∙ none)
 
   pub beside_alone : (b : List ℕ) (o : Outcome)
-      → ((f : Stored) (h : Option Stored) → h ≡ Some f → IsReplaced xs a f o h) → (p q : Picture)
+      → ((f : Stored) (h : Option Stored) → h ≡ Some f → IsReplaced xs x f o h) → (p q : Picture)
       → p.holds b ≡ None → Touches b p q → (q.holds b ≡ None) ⊎ IsLeftAs b o
-      → Replaces name xs a o p q
+      → Replaces name xs x o p q
   beside_alone b o keeps p q unused t gone = record {
     own = λ f held.
         keeps f (q.holds name) (t.others name (held_is_other p.holds name b f held unused) ∙ held);
@@ -84,7 +91,7 @@ module _ (name xs : List ℕ) (a : Access) where
     report = t.report;
   }
 
-  module _ (b : List ℕ) (v : Version) (p q r : Picture) (unused : p.holds b ≡ None)
+  module _ (b : List ℕ) (p q r : Picture) (unused : p.holds b ≡ None)
       (made : Creates b xs a (Ok tt) p q) (put : PutsInPlace b name v (Ok tt) q r) (f : Stored)
       (held : p.holds name ≡ Some f) where
     apart : b ≢ name
@@ -129,26 +136,29 @@ module _ (name xs : List ℕ) (a : Access) where
     pub replaced_unused : (n : List ℕ) → p.holds n ≡ None → r.holds n ≡ None
     replaced_unused n none = nothing_left n none (same_or_other n b)
 
-  pub in_its_place : (b : List ℕ) (v : Version) (p q r : Picture) → p.holds b ≡ None
+  pub in_its_place : (b : List ℕ) (p q r : Picture) → p.holds b ≡ None
       → Creates b xs a (Ok tt) p q → PutsInPlace b name v (Ok tt) q r
-      → Replaces name xs a Replaced p r
-  in_its_place b v p q r unused made put = record {
-    own = λ f held. replaced_own b v p q r unused made put f held;
+      → Replaces name xs x Replaced p r
+  in_its_place b p q r unused made put = record {
+    own = λ f held. (
+      put.was f (made.others name (held_is_other p.holds name b f held unused) ∙ held),
+      replaced_own b p q r unused made put f held,
+    );
     others = λ n f other held. put.others n (held_is_other p.holds n b f held unused) other
         ∙ made.others n (held_is_other p.holds n b f held unused) ∙ held;
-    unused = λ f held n none. inl (replaced_unused b v p q r unused made put f held n none);
-    moments = λ f held. replaced_moments b v p q r unused made put f held;
+    unused = λ f held n none. inl (replaced_unused b p q r unused made put f held n none);
+    moments = λ f held. replaced_moments b p q r unused made put f held;
     report = put.report ∙ made.report;
   }
 
   -- the exits
   pub not_named : (e : Error) (p q : Picture) → (q ≡ p) × Unit {0}
-      → Replaces name xs a (Unwritten e) p q
+      → Replaces name xs x (Unwritten e) p q
   not_named e p q h = untouched (Unwritten e) (λ f h held. held) p q h.0
 
   pub not_created : (b : List ℕ) (e : NotCreated) (p q r : Picture) → e.is_left ≡ false
       → (q ≡ p) × (p.holds b ≡ None) → Creates b xs a (Err e) q r
-      → Replaces name xs a (Unwritten e.error) p r
+      → Replaces name xs x (Unwritten e.error) p r
   not_created b e p q r whole (same, unused) made =
       let from_p : Creates b xs a (Err e) p r = subst (λ s. Creates b xs a (Err e) s r) same made in
       beside_alone b (Unwritten e.error) (λ f h held. held) p r unused
@@ -156,40 +166,40 @@ module _ (name xs : List ℕ) (a : Access) where
 
   pub created_in_part : (n : String Global) (e : NotCreated) (p q r : Picture)
       → (q ≡ p) × (p.holds (string_bytes n) ≡ None) → Creates (string_bytes n) xs a (Err e) q r
-      → Replaces name xs a (LeftBeside e.error n) p r
+      → Replaces name xs x (LeftBeside e.error n) p r
   created_in_part n e p q r (same, unused) made =
       let b = string_bytes n in
       let from_p : Creates b xs a (Err e) p r = subst (λ s. Creates b xs a (Err e) s r) same made in
       beside_alone b (LeftBeside e.error n) (λ f h held. held) p r unused
       (created b xs a (Err e) p r from_p) (inr refl)
 
-  pub put : (b : List ℕ) (v : Version) (p q r s : Picture) → (q ≡ p) × (p.holds b ≡ None)
+  pub put : (b : List ℕ) (p q r s : Picture) → (q ≡ p) × (p.holds b ≡ None)
       → Creates b xs a (Ok tt) q r → PutsInPlace b name v (Ok tt) r s
-      → Replaces name xs a Replaced p s
-  put b v p q r s (same, unused) made renamed =
-      in_its_place b v p r s unused (subst (λ s. Creates b xs a (Ok tt) s r) same made) renamed
+      → Replaces name xs x Replaced p s
+  put b p q r s (same, unused) made renamed =
+      in_its_place b p r s unused (subst (λ s. Creates b xs a (Ok tt) s r) same made) renamed
 
-  pub kept : (b : List ℕ) (v : Version) (e : Error) (o : Outcome)
-      → ((f : Stored) (h : Option Stored) → h ≡ Some f → IsReplaced xs a f o h)
+  pub kept : (b : List ℕ) (e : Error) (o : Outcome)
+      → ((f : Stored) (h : Option Stored) → h ≡ Some f → IsReplaced xs x f o h)
       → (res : Result Unit Error) (p q r s t : Picture) → (q ≡ p) × (p.holds b ≡ None)
       → Creates b xs a (Ok tt) q r → PutsInPlace b name v (Err e) r s
-      → Removes b res s t → (t.holds b ≡ None) ⊎ IsLeftAs b o → Replaces name xs a o p t
-  kept b v e o keeps res p q r s t (same, unused) made renamed gone nothing =
+      → Removes b res s t → (t.holds b ≡ None) ⊎ IsLeftAs b o → Replaces name xs x o p t
+  kept b e o keeps res p q r s t (same, unused) made renamed gone nothing =
       let from_p : Creates b xs a (Ok tt) p r = subst (λ s. Creates b xs a (Ok tt) s r) same made in
       beside_alone b o keeps p t unused
       (touches_more b p r t (created b xs a (Ok tt) p r from_p)
       (touches_more b r s t (not_put b name v e r s renamed) (removed b res s t gone))) nothing
 
-  pub was_removed : (b : List ℕ) (v : Version) (e : Error) (p q r s t : Picture)
+  pub was_removed : (b : List ℕ) (e : Error) (p q r s t : Picture)
       → (q ≡ p) × (p.holds b ≡ None) → Creates b xs a (Ok tt) q r
       → PutsInPlace b name v (Err e) r s → Removes b (Ok tt) s t
-      → Replaces name xs a (Unwritten e) p t
-  was_removed b v e p q r s t found made renamed gone = kept b v e (Unwritten e) (λ f h held. held)
+      → Replaces name xs x (Unwritten e) p t
+  was_removed b e p q r s t found made renamed gone = kept b e (Unwritten e) (λ f h held. held)
       (Ok tt) p q r s t found made renamed gone (inl gone.ok)
 
-  pub was_left : (n : String Global) (v : Version) (e d : Error) (p q r s t : Picture)
+  pub was_left : (n : String Global) (e d : Error) (p q r s t : Picture)
       → (q ≡ p) × (p.holds (string_bytes n) ≡ None) → Creates (string_bytes n) xs a (Ok tt) q r
       → PutsInPlace (string_bytes n) name v (Err e) r s → Removes (string_bytes n) (Err d) s t
-      → Replaces name xs a (LeftBeside e n) p t
-  was_left n v e d p q r s t found made renamed gone = kept (string_bytes n) v e (LeftBeside e n)
+      → Replaces name xs x (LeftBeside e n) p t
+  was_left n e d p q r s t found made renamed gone = kept (string_bytes n) e (LeftBeside e n)
       (λ f h held. held) (Err d) p q r s t found made renamed gone (inr refl)

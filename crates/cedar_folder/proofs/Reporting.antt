@@ -1,12 +1,13 @@
 -- How a report grows.
 use Rattle.std.proofs.Common.{◌≡◌, ◌≢◌, ◌∙◌, ◌⊎◌, ◌++◌, ◌∷◌, [], ℕ, List, Bool, true, false, Option, None, Some, append-nil, append_assoc, length, take, drop, get_or, ◌+◌, ◌<◌, ◌≤◌, arith, refl, sym, ap, inl, inr, subst, map}
-use Rattle.std.specs.Prelude.{string_bytes}
-use Rattle.std.specs.List.{AllByRecursion}
+use Rattle.std.specs.Prelude.{if◌then◌else◌, string_bytes}
+use Rattle.std.specs.List.{AllByRecursion, flat_map}
+use Rattle.std.proofs.lemmas.List.Concat.{flat_map-append}
 use Rattle.std.proofs.lemmas.List.{map-append, take-append-drop, take_all, take_more}
 use Rattle.cedar_tokens.specs.Listing.{ListingIsUnique}
 use Rattle.cedar_laws.specs.Canonical.{AcceptedHasOutput, OutputHasTheList, OutputsTellLists}
 use Rattle.cedar_documents.specs.declared.config.Config.{Config}
-use Rattle.cedar_folder.specs.Folders.{Moment, Names, Picture, Reports, Since, Stored, Untold, with_report}
+use Rattle.cedar_folder.specs.Folders.{Moment, Names, Picture, Reports, Since, Told, Stored, Untold, with_report}
 use Rattle.cedar_folder.specs.Rights.{Given, GivenBy, Inherits}
 use Rattle.cedar_folder.specs.declared.folder.Access.{Access}
 use Rattle.cedar_folder.specs.Runs.{AllGoOn, Became, Done, Handles, HandlesAll, HandlesThese, HoldsItsOutput, HoldsOutput, HoldsOwnOutput, IsLeftAs, IsMoment, IsMomentOf, IsNamed, IsOutputFile, NoneTwice, SomeLeft, task_of, told}
@@ -114,6 +115,42 @@ inherits_more : (a b d : Access) → Inherits a b → Inherits b d → Inherits 
 inherits_more a b d (by, h) (more, k) = given_by_both by more a b d h k
 
 -- ---- one file more
+
+-- the moment of a task's report: what was held, and one report more
+abbrev IsTold : Picture → Done → Moment → Type 0
+IsTold r t m = (m.holds ≡ r.holds) × (m.report ≡ r.report ++ told t)
+
+-- the end of a task: it was reported, or it wasn't
+pub record Ends (t : Done) (r s : Picture) : Type 0 where
+  pub holds : s.holds ≡ r.holds
+  pub report : s.report ≡ r.report ++ told t
+  pub moments : Since r s (IsTold r t)
+
+module _ (n : List ℕ) (c : Config) (o : Outcome) (b : Bool) where
+  -- a task whose report was made, and one whose report wasn't
+  abbrev pub with_told : Bool → Done
+  with_told is_told = record { name = n; config = c; outcome = o; is_told = is_told; goes_on = b }
+
+  pub ends_told : (r s : Picture) → s ≡ with_report r (record { name = n; outcome = o; goes_on = b })
+      → Ends (with_told true) r s
+  ends_told r s is =
+      let at : Moment = record { holds = r.holds; report = r.report ++ told (with_told true) } in
+      subst (λ z. Ends (with_told true) r z) (sym is)
+      (record { holds = refl; report = refl; moments = (at ∷ [], refl, ((refl, refl), tt)) })
+
+  pub ends_untold : (r s : Picture) → s ≡ r → Ends (with_told false) r s
+  ends_untold r s is = subst (λ z. Ends (with_told false) r z) (sym is)
+      (record { holds = refl; report = sym (append-nil r.report); moments = no_moment r _ })
+
+  -- one that asked to go on was reported
+  pub ends_going_on : (r s : Picture) → b ≡ true → Reports n o b r s → Ends (with_told true) r s
+  ends_going_on r s go (inl is) = ends_told r s is
+  ends_going_on r s go (inr (stop, is)) = let bad : true ≡ false = sym go ∙ stop in cc
+
+  -- one that asked to stop was, or it wasn't
+  pub ends_at_all : (r s : Picture) → Reports n o b r s → (is_told : Bool) × Ends (with_told is_told) r s
+  ends_at_all r s (inl is) = (true, ends_told r s is)
+  ends_at_all r s (inr (stop, is)) = (false, ends_untold r s is)
 
 module _ (some : AcceptedHasOutput) (listed : OutputHasTheList) (tell : OutputsTellLists)
     (unique : ListingIsUnique) (only : Bool) where
@@ -244,60 +281,57 @@ module _ (some : AcceptedHasOutput) (listed : OutputHasTheList) (tell : OutputsT
     at_the_end =
         at_moment r.holds (λ n f held. at_end n f (same_or_other n t.name) held)
 
-    all_told : r.report ++ (told t ∷ []) ≡ p.report ++ map told more
-    all_told = ap (λ z. z ++ (told t ∷ [])) (step.report ∙ before.report)
-        ∙ append_assoc p.report (map told done) (told t ∷ [])
-        ∙ ap (λ z. p.report ++ z) (sym (map-append told done (t ∷ [])))
+    reports_more : (all : List Told) → all ≡ r.report ++ told t → all ≡ p.report ++ flat_map told more
+    reports_more all is = is ∙ ap (λ z. z ++ told t) (step.report ∙ before.report)
+        ∙ append_assoc p.report (flat_map told done) (told t)
+        ∙ ap (λ z. p.report ++ (flat_map told done ++ z)) (sym (append-nil (told t)))
+        ∙ ap (λ z. p.report ++ z) (sym (flat_map-append told done (t ∷ [])))
 
-    abbrev at_report : Moment
-    at_report = record { holds = r.holds; report = r.report ++ (told t ∷ []) }
-
-    in_report : IsMomentOf more p at_report
-    in_report = record {
+    in_report : (m : Moment) → IsTold r t m → IsMomentOf more p m
+    in_report m h = record {
       reported = more;
       next = [];
       later = [];
       order = sym (append-nil (more ++ []) ∙ append-nil more);
       one = omega arith;
-      report = all_told;
-      holds = subst (λ z. IsMoment (HoldsItsOutput z) p.holds r.holds) (sym (append-nil more)) at_the_end;
+      report = reports_more m.report h.1;
+      holds = subst (λ z. IsMoment (HoldsItsOutput z) p.holds m.holds) (sym (append-nil more))
+          (subst (λ s. IsMoment (HoldsItsOutput more) p.holds s) (sym h.0) at_the_end);
     }
 
-    abbrev ended : Picture
-    ended = with_report r (told t)
+    module _ (s : Picture) (end : Ends t r s) where
+      unchanged : (only ≡ true) → Since p s (λ m. m.holds ≡ p.holds)
+      unchanged e =
+          let was = before.check e in
+          let same : r.holds ≡ p.holds = ap (λ z. z.holds) (step.check e) ∙ was.0 in
+          more_moments p q s (λ m. m.holds ≡ p.holds) was.1
+          (subst (λ z. Since z s (λ m. m.holds ≡ p.holds)) (step.check e)
+          (moments_are r s (IsTold r t) (λ m. m.holds ≡ p.holds) (λ m h. h.0 ∙ same) end.moments))
 
-    one_at_report : (P : Moment → Type 0) → P at_report → Since r ended P
-    one_at_report P h = (at_report ∷ [], refl, (h, tt))
-
-    unchanged : (only ≡ true) → Since p ended (λ m. m.holds ≡ p.holds)
-    unchanged e = let same : r ≡ q = step.check e in
-        let was = before.check e in
-        more_moments p q ended (λ m. m.holds ≡ p.holds) was.1
-        (subst (λ z. Since z ended (λ m. m.holds ≡ p.holds)) same
-        (one_at_report (λ m. m.holds ≡ p.holds) (ap (λ z. z.holds) same ∙ was.0)))
-
-    reported : HandlesThese only more p ended
-    reported = record {
-      report = all_told;
-      became = λ once. let b = none_before done t once in
-          became_more done b.1 (before.became b.0) (last_became b.1);
-      holds = at_the_end;
-      unused = λ n none. still_unused n (before.unused n none);
-      moments = more_moments p q ended (IsMomentOf more p)
-          (moments_are p q (IsMomentOf done p) (IsMomentOf more p) earlier before.moments)
-          (more_moments q r ended (IsMomentOf more p)
-          (moments_are q r (Untold q (IsMoment (HoldsOwnOutput t.config t.name) q.holds))
-          (IsMomentOf more p) in_step step.moments)
-          (one_at_report (IsMomentOf more p) in_report));
-      check = λ e. (ap (λ z. z.holds) (step.check e) ∙ (before.check e).0, unchanged e);
-    }
+      pub reported : HandlesThese only more p s
+      reported = record {
+        report = reports_more s.report end.report;
+        became = λ once. let b = none_before done t once in
+            subst (λ h. AllByRecursion (λ u. (f : Stored) → p.holds u.name ≡ Some f
+            → Became only u.config f u.outcome (h u.name)) more) (sym end.holds)
+            (became_more done b.1 (before.became b.0) (last_became b.1));
+        holds = subst (λ h. IsMoment (HoldsItsOutput more) p.holds h) (sym end.holds) at_the_end;
+        unused = λ n none. subst (λ h. (h n ≡ None) ⊎ SomeLeft more n) (sym end.holds)
+            (still_unused n (before.unused n none));
+        moments = more_moments p q s (IsMomentOf more p)
+            (moments_are p q (IsMomentOf done p) (IsMomentOf more p) earlier before.moments)
+            (more_moments q r s (IsMomentOf more p)
+            (moments_are q r (Untold q (IsMoment (HoldsOwnOutput t.config t.name) q.holds))
+            (IsMomentOf more p) in_step step.moments)
+            (moments_are r s (IsTold r t) (IsMomentOf more p) in_report end.moments));
+        check = λ e.
+            (end.holds ∙ ap (λ z. z.holds) (step.check e) ∙ (before.check e).0, unchanged e);
+      }
 
   pub one_more : (done : List Done) (t : Done) (p q r s : Picture)
-      → HandlesThese only done p q → Handles t.config only t.name t.outcome q r
-      → Reports t.name t.outcome t.goes_on r s → HandlesThese only (done ++ (t ∷ [])) p s
-  one_more done t p q r s before step is =
-      subst (λ z. HandlesThese only (done ++ (t ∷ [])) p z) (sym is)
-      (reported done t p q r before step)
+      → HandlesThese only done p q → Handles t.config only t.name t.outcome q r → Ends t r s
+      → HandlesThese only (done ++ (t ∷ [])) p s
+  one_more done t p q r s before step end = reported done t p q r before step s end
 
 -- nothing was done yet
 pub none_done : (only : Bool) (p : Picture) → HandlesThese only [] p p
@@ -353,7 +387,8 @@ module _ (tasks : List Task) (done : List Done) (i : ℕ) where
     these = these;
   }
 
--- one more that asked to go on
-pub goes_on_more : (done : List Done) (t : Done) → AllGoOn done → t.goes_on ≡ true
+-- one more that was reported and asked to go on
+pub goes_on_more : (done : List Done) (t : Done) → AllGoOn done → t.is_told ≡ true → t.goes_on ≡ true
     → AllGoOn (done ++ (t ∷ []))
-goes_on_more done t go is = All-append (λ u. u.goes_on ≡ true) done (t ∷ []) go (is, tt)
+goes_on_more done t go told is =
+    All-append (λ u. (u.is_told ≡ true) × (u.goes_on ≡ true)) done (t ∷ []) go ((told, is), tt)

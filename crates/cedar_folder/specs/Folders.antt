@@ -105,6 +105,6 @@ with_report p t = let more = p.report ++ (t ∷ []) in record {
   moments = p.moments ++ (record { holds = p.holds; report = more } ∷ []);
 }
 
--- the report is longer by this file, and the answer says whether to continue
+-- the report is longer by this file, and the answer says whether to continue; or it couldn't be made, and the answer is to stop
 abbrev pub Reports : List ℕ → Outcome → Bool → Picture → Picture → Type 0
-Reports name outcome goes_on p q = q ≡ with_report p (record { name = name; outcome = outcome; goes_on = goes_on })
+Reports name outcome goes_on p q = (q ≡ with_report p (record { name = name; outcome = outcome; goes_on = goes_on })) ⊎ ((goes_on ≡ false) × (q ≡ p))

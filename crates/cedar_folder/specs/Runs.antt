@@ -1,6 +1,6 @@
 -- What a run does with the files of a folder.
-use Rattle.std.specs.Prelude.{◌≡◌, ◌≢◌, ◌⊎◌, ◌++◌, ◌∷◌, [], ℕ, ◌≤◌, List, Bool, true, false, length, Option, None, Some, map, string_bytes, ⊤}
-use Rattle.std.specs.List.{AllByRecursion}
+use Rattle.std.specs.Prelude.{◌≡◌, ◌≢◌, ◌⊎◌, ◌++◌, ◌∷◌, [], ℕ, ◌≤◌, List, Bool, true, false, length, if◌then◌else◌, Option, None, Some, map, string_bytes, ⊤}
+use Rattle.std.specs.List.{AllByRecursion, flat_map}
 use Rattle.std.specs.Str.{IsUtf8}
 use Rattle.cedar_grammar.specs.Texts.{Accepted}
 use Rattle.cedar_policy_formatter.specs.Outputs.{HasOutput}
@@ -62,20 +62,20 @@ HoldsOwnOutput c name n f h = (n ≡ name) × HoldsOutput c f h
 abbrev pub HoldsNew : List ℕ → List ℕ → Access → List ℕ → Stored → Option Stored → Type 0
 HoldsNew name bytes access n f h = (n ≡ name) × HoldsMade bytes access h
 
--- the named file has these bytes and was made with this access, or it is the very same as before
-abbrev pub IsReplaced : List ℕ → Access → Stored → Outcome → Option Stored → Type 0
-IsReplaced bytes access f Replaced h = HoldsMade bytes access h
-IsReplaced bytes access f (Unwritten e) h = h ≡ Some f
-IsReplaced bytes access f (LeftBeside e n) h = h ≡ Some f
-IsReplaced bytes access f o h = ⊥
+-- the named file f was in the state that was read, and a file with these bytes and its access is there; or f is there as before
+abbrev pub IsReplaced : List ℕ → Stored → Stored → Outcome → Option Stored → Type 0
+IsReplaced bytes read f Replaced h = (f.version ≡ read.version) × HoldsMade bytes read.access h
+IsReplaced bytes read f (Unwritten e) h = h ≡ Some f
+IsReplaced bytes read f (LeftBeside e n) h = h ≡ Some f
+IsReplaced bytes read f o h = ⊥
 
--- the named file is replaced in one step by one with these bytes and this access, or is unchanged; every other file is unchanged,
--- at every moment; and no file is left but the one that the outcome names
-pub record Replaces (name bytes : List ℕ) (access : Access) (o : Outcome) (p q : Picture) : Type 0 where
-  pub own : (f : Stored) → p.holds name ≡ Some f → IsReplaced bytes access f o (q.holds name)
+-- the named file is replaced in one step by one with these bytes and the access that was read, or is unchanged; every other file
+-- is unchanged, at every moment; and no file is left but the one that the outcome names
+pub record Replaces (name bytes : List ℕ) (read : Stored) (o : Outcome) (p q : Picture) : Type 0 where
+  pub own : (f : Stored) → p.holds name ≡ Some f → IsReplaced bytes read f o (q.holds name)
   pub others : (n : List ℕ) (f : Stored) → n ≢ name → p.holds n ≡ Some f → q.holds n ≡ Some f
   pub unused : (f : Stored) → p.holds name ≡ Some f → (n : List ℕ) → p.holds n ≡ None → (q.holds n ≡ None) ⊎ IsLeftAs n o
-  pub moments : (f : Stored) → p.holds name ≡ Some f → Since p q (Untold p (IsMoment (HoldsNew name bytes access) p.holds))
+  pub moments : (f : Stored) → p.holds name ≡ Some f → Since p q (Untold p (IsMoment (HoldsNew name bytes read.access) p.holds))
   pub report : q.report ≡ p.report
 
 -- the named file is handled, every other is unchanged, and no file is left but the one that the outcome names; a run that only
@@ -92,16 +92,17 @@ pub record Handles (c : Config) (only : Bool) (name : List ℕ) (o : Outcome) (p
 abbrev pub task_of : Task → List ℕ × Config
 task_of t = (string_bytes t.name, t.config)
 
--- a task that was done, what became of its file, and whether its report asked to go on
+-- a task that was done, what became of its file, whether that was reported, and whether the report asked to go on
 pub record Done : Type 0 where
   pub name : List ℕ
   pub config : Config
   pub outcome : Outcome
+  pub is_told : Bool
   pub goes_on : Bool
 
--- what the report says of it
-abbrev pub told : Done → Told
-told t = record { name = t.name; outcome = t.outcome; goes_on = t.goes_on }
+-- what the report has of it
+abbrev pub told : Done → List Told
+told t = if t.is_told then record { name = t.name; outcome = t.outcome; goes_on = t.goes_on } ∷ [] else []
 
 -- these name n, or one of them left a file under the name n
 abbrev pub IsNamed : List Done → List ℕ → Type 0
@@ -130,24 +131,25 @@ pub record IsMomentOf (done : List Done) (p : Picture) (m : Moment) : Type 0 whe
   pub later : List Done
   pub order : done ≡ reported ++ next ++ later
   pub one : length next ≤ 1
-  pub report : m.report ≡ p.report ++ map told reported
+  pub report : m.report ≡ p.report ++ flat_map told reported
   pub holds : IsMoment (HoldsItsOutput (reported ++ next)) p.holds m.holds
 
 -- tasks were done: each name holds what it held, or a named one its output, at every moment; the report has them in order, and
 -- what it says of a file is true; no file is left but those that the report names; and a run that only checks changes nothing
 pub record HandlesThese (only : Bool) (done : List Done) (p q : Picture) : Type 0 where
-  pub report : q.report ≡ p.report ++ map told done
+  pub report : q.report ≡ p.report ++ flat_map told done
   pub became : NoneTwice done → AllByRecursion (λ t. (f : Stored) → p.holds t.name ≡ Some f → Became only t.config f t.outcome (q.holds t.name)) done
   pub holds : IsMoment (HoldsItsOutput done) p.holds q.holds
   pub unused : (n : List ℕ) → p.holds n ≡ None → (q.holds n ≡ None) ⊎ SomeLeft done n
   pub moments : Since p q (IsMomentOf done p)
   pub check : only ≡ true → (q.holds ≡ p.holds) × Since p q (λ m. m.holds ≡ p.holds)
 
--- every report asked to go on
+-- every report was made and asked to go on
 abbrev pub AllGoOn : List Done → Type 0
-AllGoOn done = AllByRecursion (λ t. t.goes_on ≡ true) done
+AllGoOn done = AllByRecursion (λ t. (t.is_told ≡ true) × (t.goes_on ≡ true)) done
 
--- every report asked to go on and nothing is left to do, or the last one, and no other, asked to stop
+-- every report was made and asked to go on, and nothing is left to do; or the last one, and no other, asked to stop, or couldn't
+-- be made, which asks to stop too
 abbrev pub IsObeyed : List Done → List (List ℕ × Config) → Type 0
 IsObeyed done rest = (AllGoOn done × (rest ≡ [])) ⊎ ((most : List Done) × (last : Done) × (done ≡ most ++ (last ∷ [])) × AllGoOn most × (last.goes_on ≡ false))
 

@@ -1,6 +1,6 @@
 //! Formatting or checking the files of a folder.
 ghost use Rattle.std.specs.Prelude.{◌≡◌, map};
-ghost use Rattle.cedar_folder.specs.Folders.{Follows};
+ghost use Rattle.cedar_folder.specs.Folders.{Follows, stored};
 ghost use Rattle.cedar_folder.specs.Runs.{GivesLayout, Handles, HandlesAll, Replaces, task_of};
 
 use crate::folder::{File, Folder, NotCreated, Outcome};
@@ -24,7 +24,7 @@ pub struct Task {
 ///
 /// Afterwards each of these files that is accepted holds its output, with the access that it had; a refused one, one that
 /// couldn't be read or replaced, and every other file hold what they held. At every moment each file holds what it
-/// held or its output. With `only_checks` nothing changes. The run ends early if `report` says so.
+/// held or its output. With `only_checks` nothing changes. The run ends early if `report` says so, or can't be made.
 pub fn format_files<F: Folder>(alloc: Global, folder: &mut F, tasks: &[Task], only_checks: bool)
     ensures { Follows (HandlesAll only_checks (map task_of tasks.now)) (F.picture folder.old) (F.picture folder.new) }
 {
@@ -33,7 +33,7 @@ pub fn format_files<F: Folder>(alloc: Global, folder: &mut F, tasks: &[Task], on
     for task in tasks {
         let name = task.name.as_str();
         let outcome = format_file(alloc, folder, name, &task.config, only_checks);
-        if !folder.report(name, &outcome) {
+        if !folder.report(name, outcome) {
             return;
         }
     }
@@ -114,7 +114,7 @@ fn replace_file<F: Folder>(
     bytes: &[u8],
     old: &File,
 ) -> Outcome
-    ensures { Follows (Replaces name.now bytes.now old.now.access result) (F.picture folder.old) (F.picture folder.new) }
+    ensures { Follows (Replaces name.now bytes.now (stored old.now) result) (F.picture folder.old) (F.picture folder.new) }
 {
     let beside = match folder.unused_name(alloc, name) {
         Ok(beside) => beside,

@@ -104,7 +104,7 @@ pub trait Folder {
     fn remove(&mut self, name: &str) -> io::Result<()>
         ensures { Follows (Removes name.now result) (picture self.old) (picture self.new) };
 
-    /// Reports what became of a file, and returns whether to continue with the next.
-    fn report(&mut self, name: &str, outcome: &Outcome) -> bool
-        ensures { Follows (Reports name.now outcome.now result) (picture self.old) (picture self.new) };
+    /// Reports what became of a file, and returns whether to continue with the next. A report that can't be made asks to stop.
+    fn report(&mut self, name: &str, outcome: Outcome) -> bool
+        ensures { Follows (Reports name.now outcome result) (picture self.old) (picture self.new) };
 }

@@ -1,6 +1,6 @@
 use Rattle.std.proofs.Common.{Err, Ok, subst}
 use Rattle.std.specs.Prelude.{string_bytes}
-use Rattle.cedar_folder.specs.Folders.{Creates, Follows, Removes, PutsInPlace}
+use Rattle.cedar_folder.specs.Folders.{Creates, Follows, Removes, PutsInPlace, stored}
 use Rattle.cedar_folder.proofs.Steps.{of_four, of_three, of_two}
 use Rattle.cedar_folder.proofs.Replacing.{created_in_part, not_created, put, was_left, was_removed}
 use Rattle.cedar_folder.proofs.files.replace_file.Goals as goal
@@ -10,9 +10,10 @@ returns-then-is_left g c =
     let pic = g.F.Folder.picture in
     let name = c.args.name.now in
     let xs = c.args.bytes.now in
-    let a = c.args.old.now.access in
+    let x = stored c.args.old.now in
+    let a = x.access in
     let e = c.in-Err-create.field-0 in
-    of_two (λ p q r. created_in_part name xs a c.in-Ok.beside e p q r) (pic c.args.folder.now)
+    of_two (λ p q r. created_in_part name xs x c.in-Ok.beside e p q r) (pic c.args.folder.now)
     (pic c.unused_name.new.self) (pic c.create.new.self) c.in-Ok.ensures
     (subst (λ z. Follows (Creates z xs a (Err e)) (pic c.unused_name.new.self)
     (pic c.create.new.self)) c.as_str.ensures.value c.in-Err-create.ensures)
@@ -23,9 +24,10 @@ returns-in-Err-create g c =
     let b = string_bytes c.in-Ok.beside in
     let name = c.args.name.now in
     let xs = c.args.bytes.now in
-    let a = c.args.old.now.access in
+    let x = stored c.args.old.now in
+    let a = x.access in
     let e = c.in-Err-create.field-0 in
-    of_two (λ p q r. not_created name xs a b e p q r c.if-is_left.false)
+    of_two (λ p q r. not_created name xs x b e p q r c.if-is_left.false)
     (pic c.args.folder.now)
     (pic c.unused_name.new.self) (pic c.create.new.self) c.in-Ok.ensures
     (subst (λ z. Follows (Creates z xs a (Err e)) (pic c.unused_name.new.self)
@@ -37,9 +39,10 @@ returns-in_default-replace g c =
     let b = string_bytes c.in-Ok.beside in
     let name = c.args.name.now in
     let xs = c.args.bytes.now in
-    let a = c.args.old.now.access in
-    let v = c.args.old.now.version in
-    of_three (λ p q r s. put name xs a b v p q r s) (pic c.args.folder.now)
+    let x = stored c.args.old.now in
+    let a = x.access in
+    let v = x.version in
+    of_three (λ p q r s. put name xs x b p q r s) (pic c.args.folder.now)
     (pic c.unused_name.new.self) (pic c.create.new.self) (pic c.replace.new.self) c.in-Ok.ensures
     (subst (λ z. Follows (Creates z xs a (Ok tt)) (pic c.unused_name.new.self)
     (pic c.create.new.self)) c.as_str.ensures.value c.in_default.ensures)
@@ -52,10 +55,11 @@ returns-in-Ok-remove g c =
     let b = string_bytes c.in-Ok.beside in
     let name = c.args.name.now in
     let xs = c.args.bytes.now in
-    let a = c.args.old.now.access in
-    let v = c.args.old.now.version in
+    let x = stored c.args.old.now in
+    let a = x.access in
+    let v = x.version in
     let e = c.in-Err-replace.error in
-    of_four (λ p q r s t. was_removed name xs a b v e p q r s t) (pic c.args.folder.now)
+    of_four (λ p q r s t. was_removed name xs x b e p q r s t) (pic c.args.folder.now)
     (pic c.unused_name.new.self) (pic c.create.new.self) (pic c.replace.new.self)
     (pic c.remove.new.self) c.in-Ok.ensures
     (subst (λ z. Follows (Creates z xs a (Ok tt)) (pic c.unused_name.new.self)
@@ -71,11 +75,12 @@ returns-in-Err-remove g c =
     let b = string_bytes c.in-Ok.beside in
     let name = c.args.name.now in
     let xs = c.args.bytes.now in
-    let a = c.args.old.now.access in
-    let v = c.args.old.now.version in
+    let x = stored c.args.old.now in
+    let a = x.access in
+    let v = x.version in
     let e = c.in-Err-replace.error in
     let d = c.in-Err-remove.field-0 in
-    of_four (λ p q r s t. was_left name xs a c.in-Ok.beside v e d p q r s t) (pic c.args.folder.now)
+    of_four (λ p q r s t. was_left name xs x c.in-Ok.beside e d p q r s t) (pic c.args.folder.now)
     (pic c.unused_name.new.self) (pic c.create.new.self) (pic c.replace.new.self)
     (pic c.remove.new.self) c.in-Ok.ensures
     (subst (λ z. Follows (Creates z xs a (Ok tt)) (pic c.unused_name.new.self)
