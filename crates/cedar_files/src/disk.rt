@@ -8,7 +8,6 @@ use crate::beside::name_beside;
 use crate::counts::Counts;
 use crate::options::{Mode, Options};
 use crate::places::first_difference;
-use crate::refusal::Refusal;
 use crate::reports::{Kind, Remark, Reports};
 use crate::room::Room;
 use cedar_folder::{Access, File, Folder, NotCreated, Outcome, Version, narrowed_mode};
@@ -95,11 +94,7 @@ impl<'a, 'r> Disk<'a, 'r> {
             }),
             Outcome::Refused { error, bytes } => {
                 if let Ok(text) = str::from_utf8(bytes) {
-                    let refusal = Refusal {
-                        text,
-                        error: *error,
-                    };
-                    self.reports.refuse(name, &refusal);
+                    self.reports.refuse(name, text, *error);
                 }
             }
             Outcome::Unread(error) => self.reports.fail(name, "cannot be read: ", error),

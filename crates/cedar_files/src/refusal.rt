@@ -1,6 +1,6 @@
-//! Where a text is refused, and why.
+//! What is wrong with a text, and where.
 use crate::places::{Place, first_line, last_line, place_after};
-use cedar_policy_formatter::{FormatError, explain};
+use cedar_faults::Fault;
 use std::alloc::{AllocError, Global};
 use unicode_width::UnicodeWidthStr;
 
@@ -9,54 +9,50 @@ const BYTE_ORDER_MARK: char = '\u{feff}';
 // The most characters shown before a place and after it.
 const SHOWN: usize = 60;
 
-/// A text that is refused.
+/// A fault of a text.
 #[derive(Clone, Copy)]
-pub struct Refusal<'a> {
+pub struct Refusal<'a, 'src> {
     /// The text.
     pub text: &'a str,
-    /// Why it is refused.
-    pub error: FormatError,
+    /// The fault.
+    pub fault: &'a Fault<'src>,
 }
 
-impl Refusal<'_> {
-    /// Where it is refused, if that is one place.
-    pub fn place(&self) -> Option<Place> {
-        let at = place_of(self.error)?;
-        let (before, _) = self.text.split_at(self.text.floor_char_boundary(at));
-        Some(place_after(before.as_bytes()))
+impl Refusal<'_, '_> {
+    /// Where it is: at what can't be there, or after the last token of a text that ends too early.
+    pub fn place(&self) -> Place {
+        let (before, _) = self.halves();
+        place_after(before.as_bytes())
     }
 
-    /// Why it is refused.
+    /// What is wrong, and a tip if there is one.
     pub fn reason(&self, alloc: Global) -> Result<String, AllocError> {
-        match place_of(self.error) {
-            None => format!(in alloc; "{}", self.error),
-            Some(0) if self.text.starts_with(BYTE_ORDER_MARK) => {
-                String::from_str(alloc, "a byte order mark at the start")
-            }
-            Some(_) => explain(alloc, self.text, self.error),
+        if self.byte() == 0 && self.text.starts_with(BYTE_ORDER_MARK) {
+            return String::from_str(alloc, "a byte order mark at the start");
+        }
+        match self.fault.tip() {
+            Some(tip) => format!(in alloc; "{}; {tip}", self.fault),
+            None => format!(in alloc; "{}", self.fault),
         }
     }
 
     /// The line of the place, and below it a mark under the place.
-    pub fn marked_line(&self, alloc: Global) -> Result<Option<String>, AllocError> {
-        let Some(at) = place_of(self.error) else {
-            return Ok(None);
-        };
-        let (before, after) = self.text.split_at(self.text.floor_char_boundary(at));
-        let line = line_with_mark(alloc, last_line(before), first_line(after))?;
-        Ok(Some(line))
+    pub fn marked_line(&self, alloc: Global) -> Result<String, AllocError> {
+        let (before, after) = self.halves();
+        line_with_mark(alloc, last_line(before), first_line(after))
     }
-}
 
-// The byte of a refusal, if it has one.
-fn place_of(error: FormatError) -> Option<usize> {
-    match error {
-        FormatError::UnknownCharacter { at }
-        | FormatError::UnfinishedString { at }
-        | FormatError::NumberTooLarge { at }
-        | FormatError::Grammar { at }
-        | FormatError::TooDeep { at } => Some(at),
-        FormatError::NoDocument | FormatError::Unsound | FormatError::OutOfMemory => None,
+    // The byte of the place.
+    fn byte(&self) -> usize {
+        match self.fault.expected.found {
+            Some(_) => self.fault.part.start,
+            None => self.fault.part.end,
+        }
+    }
+
+    // The text before the place, and from it on.
+    fn halves(&self) -> (&str, &str) {
+        self.text.split_at(self.text.floor_char_boundary(self.byte()))
     }
 }
 

@@ -5,6 +5,7 @@ use crate::names::{CommandText, JsonText, Shown};
 use crate::options::{Format, Options};
 use crate::places::Place;
 use crate::refusal::Refusal;
+use cedar_faults::faults;
 use cedar_policy_formatter::FormatError;
 use std::io::{BufWriter, ErrorKind, IsTerminal, Write};
 use std::rt::Stdout;
@@ -90,9 +91,14 @@ impl<'a> Reports<'a> {
         self.keep(printed);
     }
 
-    /// Prints that a text is refused.
-    pub fn refuse(&mut self, file: &str, refusal: &Refusal<'_>) {
-        let printed = self.print_refusal(file, refusal);
+    /// Prints why a text is refused: all its faults, or why it couldn't be formatted.
+    pub fn refuse(&mut self, file: &str, text: &str, error: FormatError) {
+        let printed = match error {
+            FormatError::OutOfMemory | FormatError::NoDocument | FormatError::Unsound => {
+                self.print_failure(file, error)
+            }
+            _ => self.print_faults(file, text),
+        };
         self.keep(printed);
     }
 
@@ -226,24 +232,41 @@ impl<'a> Reports<'a> {
         )
     }
 
-    // Prints a refusal, and on a terminal its line.
-    fn print_refusal(&mut self, file: &str, refusal: &Refusal<'_>) -> io::Result<()> {
+    // Prints why an accepted text couldn't be formatted.
+    fn print_failure(&mut self, file: &str, error: FormatError) -> io::Result<()> {
+        let reason = format!(in self.rt.alloc(); "{error}")?;
+        self.add(&Remark {
+            kind: match error {
+                FormatError::OutOfMemory => Kind::Failed,
+                _ => Kind::Refused,
+            },
+            file,
+            place: None,
+            message: reason.as_str(),
+        });
+        Ok(())
+    }
+
+    // Prints the faults of a text, on a terminal each with its line.
+    fn print_faults(&mut self, file: &str, text: &str) -> io::Result<()> {
+        for fault in &faults(self.rt.alloc(), text)? {
+            self.print_refusal(file, &Refusal { text, fault })?;
+        }
+        Ok(())
+    }
+
+    fn print_refusal(&mut self, file: &str, refusal: &Refusal<'_, '_>) -> io::Result<()> {
         let alloc = self.rt.alloc();
         let reason = refusal.reason(alloc)?;
         self.add(&Remark {
-            kind: if refusal.error == FormatError::OutOfMemory {
-                Kind::Failed
-            } else {
-                Kind::Refused
-            },
+            kind: Kind::Refused,
             file,
-            place: refusal.place(),
+            place: Some(refusal.place()),
             message: reason.as_str(),
         });
         if self.is_watched && self.format == Format::Text {
-            if let Some(line) = refusal.marked_line(alloc)? {
-                return write!(self.rt.stderr(), "{line}\n");
-            }
+            let line = refusal.marked_line(alloc)?;
+            return write!(self.rt.stderr(), "{line}\n");
         }
         Ok(())
     }

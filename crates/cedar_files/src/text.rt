@@ -3,7 +3,6 @@ use crate::counts::{FAILED, UNFORMATTED};
 use crate::layouts::Layouts;
 use crate::options::{Mode, Options};
 use crate::paths::working_folder;
-use crate::refusal::Refusal;
 use crate::reports::{Kind, Remark, Reports, status_of};
 use cedar_policy_formatter::{ReadFault, Watched, policies_str_to_pretty, read_text};
 use std::io;
@@ -54,11 +53,7 @@ pub fn format_text(rt: &HostRuntime, options: &Options<'_>) -> io::Result<u8> {
             Ok(status_of(rt, &written))
         }
         Err(error) => {
-            let refusal = Refusal {
-                text: text.as_str(),
-                error,
-            };
-            reports.refuse(name, &refusal);
+            reports.refuse(name, text.as_str(), error);
             let _ = reports.end();
             Ok(FAILED)
         }

@@ -1,0 +1,1 @@
+allow (principal, action, resource);

@@ -1,0 +1,2 @@
+@id("owner");
+permit (principal, action, resource);

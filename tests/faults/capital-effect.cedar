@@ -1,0 +1,1 @@
+Permit (principal, action, resource);

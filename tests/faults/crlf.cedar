@@ -1,0 +1,3 @@
+permit (principal, action, resource)
+wen { true };
+permit (principal, action, resource);

@@ -1,0 +1,1 @@
+deny (principal, action, resource);

@@ -1,0 +1,2 @@
+permit (principal, action, resource) wen { true }; // one ; two
+permit (principal, action, resource);

@@ -1,0 +1,1 @@
+permt (principal, action, resource);

@@ -1,0 +1,1 @@
+permit (principal in [User::"a"], action, resource);

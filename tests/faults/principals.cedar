@@ -1,0 +1,1 @@
+permit (principals, action, resource);

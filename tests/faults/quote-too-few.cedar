@@ -1,0 +1,3 @@
+permit (principal == User::"a, action, resource);
+permit (principal == User::"b", action, resource);
+permit (principal, action, resource);

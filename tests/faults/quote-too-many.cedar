@@ -1,0 +1,3 @@
+permit (principal ", action, resource);
+permit (principal, action, resource) when { context.a == "x" };
+permit (principal, action, resource);

@@ -1,0 +1,2 @@
+permit (principal, action, resource) when { context.a; context.b };
+permit (principal, action, resource);

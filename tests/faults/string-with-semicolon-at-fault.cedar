@@ -1,0 +1,2 @@
+permit ("a;b", action, resource);
+permit (principal, action, resource);

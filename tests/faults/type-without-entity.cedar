@@ -1,0 +1,1 @@
+permit (principal is User in, action, resource);
