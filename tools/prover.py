@@ -7,8 +7,10 @@ the crates above need no more. A program and the library for C are compiled by L
 A library that was proved over kept work (out/incremental) says so, and such a verdict can't rest on it: the crates above are left
 to `rt lib` and `rt run`.
 """
+import contextlib
 import os
 import re
+import shutil
 import sys
 import tempfile
 
@@ -28,7 +30,7 @@ def is_over_others(rt, crate):
 
 def compiled(rt, crate, flags):
     """Proves and compiles a program or a static library."""
-    words, made = crate.words(flags, keeps=False), f"out/{proved.file_of(crate)}"
+    words, made, new = crate.words(flags, keeps=False), f"out/{proved.file_of(crate)}", f"out/{crate.name}.new"
     with tempfile.TemporaryDirectory(prefix="cedar-") as room:
         status = crate.prove(["check", *words, "-o", f"{room}/checked"])
         # (the verdict is taken from that check, and so are its logic and its jobs)
@@ -38,7 +40,14 @@ def compiled(rt, crate, flags):
         words += ["--crate-checked", f"{room}/checked", "--toolchain", f"{rt.KIT}/toolchain"]
         if crate.is_static:
             return status or crate.call(rt.rtlib.RATTLE, "build", *words, "--backend", "llvm", "-o", made)
-        return status or crate.compile_by("llvm", words, made)
+        # (this also holds what the program calls to HANDLES)
+        status = status or crate.compile_by("llvm", words, new)
+    if not status:
+        os.replace(new, made)
+    for it in (new, f"{new}.o"):
+        with contextlib.suppress(FileNotFoundError):
+            os.remove(it)
+    return status
 
 
 def main():
@@ -52,6 +61,9 @@ def main():
     os.makedirs("out", exist_ok=True)
     flags, before = ["--jobs", sys.argv[1]], records.stamp(name)
     status = crate.build_rlib(flags, anew=True) if crate.makes_rlib() else compiled(rt, crate, flags)
+    if status and crate.makes_rlib():
+        # (the prover may have written what the verdict refuses)
+        shutil.rmtree("out/rlib", ignore_errors=True)
     if status or before != records.stamp(name):
         return status or "prover: the files changed meanwhile, so nothing is recorded"
     if crate.makes_rlib():
