@@ -5,6 +5,7 @@ libraries, definitions and proofs too, and then the sum of the program. bindings
 Beside a library lies out/rlib/stamp, with the first of the two sums. `rt ci`, which ./check calls, keeps the sums of what it made
 beside the kit, by the sums of everything that the proof read. All this goes by rt's own functions, so this depends on them.
 """
+import contextlib
 import copy
 import importlib.machinery
 import importlib.util
@@ -31,6 +32,14 @@ def crates_of(rt, top):
 def file_of(crate):
     """The file in a crate's folder out that is made of a program or a static library."""
     return f"lib{crate.name}.a" if crate.is_static else crate.name
+
+
+def write_anew(file, text):
+    """Writes a file that may have another name elsewhere, as `rt` gives it to the files of libraries."""
+    with contextlib.suppress(FileNotFoundError):
+        os.remove(file)
+    with open(file, "w", encoding="utf-8") as it:
+        it.write(text)
 
 
 class Records:
@@ -80,11 +89,9 @@ class Records:
     def note(self, crate, name):
         """Records a program or a library for C that the prover has just passed and built."""
         file = f"{self.built}/crates/{crate}/out/{name}"
-        with open(f"{file}.stamp", "w", encoding="utf-8") as it:
-            it.write(self.stamp(crate) + self.rt.rtlib.sum_of(file))
+        write_anew(f"{file}.stamp", self.stamp(crate) + self.rt.rtlib.sum_of(file))
 
     def note_library(self, crate):
         """Records a library that the prover has passed."""
-        with open(f"{self.built}/crates/{crate}/out/rlib/stamp", "w", encoding="utf-8") as it:
-            it.write(self.crates[crate].stamp())
+        write_anew(f"{self.built}/crates/{crate}/out/rlib/stamp", self.crates[crate].stamp())
 
