@@ -1,80 +1,95 @@
-"""The worked rows of crates/cedar_tests: texts with their layouts, and texts with their refusals. And the golden policies."""
-import ast
+"""The worked rows of tests/rows: texts with their layouts, texts that are refused, and texts that are accepted.
+
+A row is a file NAME.cedar in the folder of its topic, with what is wanted beside it: in layouts/ a file
+NAME.WIDTH.INDENT.formatted for each width and indentation; in refused/ a file NAME.refused, in the words of the error; in
+accepted/ nothing. The bytes of the files are the text and its layout. Long texts are in rows/long.py.
+"""
 import glob
 import os
 import re
+from typing import NamedTuple, Optional
 
-TESTS = os.path.dirname(os.path.realpath(__file__))
-ROWS = f"{os.path.dirname(TESTS)}/crates/cedar_tests/src/tests"
-KINDS = {"UnknownCharacter": 1, "UnfinishedString": 2, "NumberTooLarge": 3, "Grammar": 4, "TooDeep": 5}
-TEXT = r'(?:r#".*?"#|"(?:[^"\\]|\\.)*")'
-LIMITS = {"usize::MAX": 2**64 - 1, "isize::MAX": 2**63 - 1, "isize::MIN": -(2**63)}
+from rows import long
 
-
-def text_of(literal):
-    """The text of a literal of the tables."""
-    if literal.startswith("r"):
-        return literal[3:-2].encode()
-    return ast.literal_eval(re.sub(r"\\u\{(\w+)\}", lambda it: chr(int(it[1], 16)), literal).replace("\n", "\\n")).encode()
+ROWS = f"{os.path.dirname(os.path.realpath(__file__))}/rows"
+NO_ROWS = "check", "long.py"
+# The words of the refusals, and their numbers in include/cedar_formatter.h.
+KINDS = {"unknown character": 1, "unfinished string": 2, "number too large": 3, "not in the grammar": 4, "nested too deeply": 5}
+REFUSAL = re.compile(f"({'|'.join(KINDS)}) at byte ([0-9]+)")
 
 
-def number_of(literal):
-    return LIMITS[literal] if literal in LIMITS else int(literal.replace("_", ""))
+class Row(NamedTuple):
+    """A text with its layout or its refusal; with neither, it is accepted."""
+
+    name: str
+    text: bytes
+    width: int = 80
+    indent: int = 2
+    layout: Optional[bytes] = None
+    refusal: Optional[str] = None
 
 
-def tables(file, kind, fields):
-    """The rows of a file's tables of a kind: for each row the fields that it names, as they are written there."""
-    with open(f"{ROWS}/{file}", encoding="utf-8") as it:
-        found = re.findall(rf"^(?:pub\(super\) )?static (\w+): \[{kind}; (\d+)\] = \[\n(.*?)\n\];\n", it.read(), re.S | re.M)
-    if not found:
-        raise ValueError(f"{file}: no table of {kind} is read")
-    for name, length, body in found:
-        yield from table(f"{file}: {name}", int(length), body, kind, fields)
+def bytes_of(path):
+    with open(path, "rb") as it:
+        return it.read()
 
 
-def table(where, length, body, kind, fields):
-    """The rows of a table, which is as long as it says."""
-    field = "|".join(rf"{name}: (?:{value})" for name, value in fields.items())
-    found = re.findall(rf"{kind} \{{\s*((?:(?:{field}),\s*)+)(?:\.\.\w+\s*)?\}}", body, re.S)
-    if len(found) != length:
-        raise ValueError(f"{where} has {length} rows, and {len(found)} of them are read")
-    one = "|".join(rf"({name}): ({value})" for name, value in fields.items())
-    for row in found:
-        yield dict([it for it in groups if it] for groups in re.findall(rf"(?:{one}),\s*", row, re.S))
+def row_of(stem, text, name, data):
+    """The row that a file beside a text makes, if it is named and filled as it has to be."""
+    kind, ending = stem.split("/")[0], name[len(stem) :]
+    if kind == "layouts" and (found := re.fullmatch(r"\.([0-9]+)\.(-?[0-9]+)\.formatted", ending)):
+        return Row(f"{stem} at {found[1]}, {found[2]}", text, int(found[1]), int(found[2]), layout=data)
+    if kind == "refused" and ending == ".refused" and (found := re.fullmatch(REFUSAL.pattern.encode() + b"\n", data)):
+        return Row(stem, text, refusal=found[0].decode().strip())
+    return None
+
+
+def in_files(folder=ROWS):
+    """The rows of a folder's files, and what is wrong with the files themselves."""
+    files = [os.path.relpath(it, folder) for it in sorted(glob.glob(f"{folder}/**", recursive=True)) if os.path.isfile(it)]
+    files = [it for it in files if it not in NO_ROWS and not it.startswith("__pycache__/")]
+    beside = {it[:-6]: [] for it in files if re.fullmatch(r"(layouts|refused|accepted)/[a-z-]+/[a-z0-9-]+\.cedar", it)}
+    rows, faults = [], []
+    for name in (it for it in files if it[:-6] not in beside):
+        if (stem := name.partition(".")[0]) in beside:
+            beside[stem].append(name)
+        else:
+            faults.append(f"{name} belongs to no row")
+    for stem, names in beside.items():
+        text, is_accepted = bytes_of(f"{folder}/{stem}.cedar"), stem.startswith("accepted/")
+        made = {it: row_of(stem, text, it, bytes_of(f"{folder}/{it}")) for it in names}
+        faults += [f"{it} isn't what stands beside a text there" for it, row in made.items() if not row]
+        if not names and not is_accepted:
+            faults.append(f"{stem}.cedar has nothing beside it")
+        rows += [Row(stem, text)] if is_accepted else [it for it in made.values() if it]
+    return rows, faults
+
+
+def in_parts():
+    """The rows of rows/long.py."""
+    rows = [Row(f"long.py: {name}", text.encode(), refusal=refusal) for name, text, refusal in long.NESTED]
+    return rows + [Row(f"long.py: {name}", text.encode(), layout=layout.encode()) for name, text, layout in long.LONG]
+
+
+def read():
+    rows, faults = in_files()
+    if faults:
+        raise ValueError("; ".join(faults))
+    return rows
 
 
 def layouts():
-    """(width, indentation, text, layout); 80 and 2 where a row says nothing else"""
-    number = r"-?[\d_]+|\w+::\w+"
-    fields = {"name": TEXT, "text": TEXT, "layout": TEXT, "width": number, "indent": number}
-    rows = tables("rows.rt", "Row", fields)
-    one = [(it.get("width", "80"), it.get("indent", "2"), it["text"], it["layout"]) for it in rows]
-    return [(number_of(w), number_of(i), text_of(a), text_of(b)) for w, i, a, b in one]
+    """(width, indentation, text, layout), without the long ones"""
+    return [(it.width, it.indent, it.text, it.layout) for it in read() if it.layout is not None]
 
 
-def answer_of(literal):
+def answer_of(refusal):
     """The kind and the byte of a refusal."""
-    kind, at = re.fullmatch(r"None|Some\((\w+) \{ at: (\d+) \}\)", literal).groups()
-    return (KINDS[kind], int(at)) if kind else None
+    kind, at = REFUSAL.fullmatch(refusal).groups()
+    return KINDS[kind], int(at)
 
 
 def refusals():
     """(text, kind and byte, or None where it is accepted)"""
-    refusal = r"None|Some\(\w+ \{ at: \d+ \}\)"
-    rows = tables("places.rt", "Answer", {"name": TEXT, "text": TEXT, "refusal": refusal})
-    one = [(text_of(it["text"]), answer_of(it["refusal"])) for it in rows]
-    part = rf"(?:Once\(|Times\((\d+), )({TEXT})\)"
-    parts = rf"&\[(?:\s*(?:Once\(|Times\(\d+, ){TEXT}\),?)+\s*\]"
-    for row in tables("places.rt", "Nesting", {"name": TEXT, "parts": parts, "refusal": refusal}):
-        text = b"".join(text_of(it) * int(times or 1) for times, it in re.findall(part, row["parts"], re.S))
-        one.append((text, answer_of(row["refusal"])))
-    return one
-
-
-def golden():
-    """The texts of tests/golden, laid out and not."""
-    found = []
-    for path in sorted(glob.glob(f"{TESTS}/golden/*.cedar") + glob.glob(f"{TESTS}/golden/*.formatted")):
-        with open(path, "rb") as it:
-            found.append(it.read())
-    return found
+    rows = [it for it in read() + in_parts() if it.layout is None]
+    return [(it.text, answer_of(it.refusal) if it.refusal else None) for it in rows]

@@ -1,5 +1,5 @@
-//! What no clause says: that the rules mean what the worked examples say, and that calls succeed with ample memory. The rows
-//! are tables, since each function is proved and a table isn't.
+//! What no clause says: that layouts are laid out as they are at many widths, what calls answer when memory or a device
+//! fails, and that they succeed with ample memory. Rows are tables, since each function is proved and a table isn't.
 use cedar_policy_formatter::cst::parse_policies;
 use cedar_policy_formatter::{Config, FormatError, policies_str_to_pretty};
 use cedar_test_rows::Part::{Once, Times};
@@ -11,19 +11,11 @@ mod answers;
 mod devices;
 mod documents;
 mod examples;
-mod large;
 mod memory;
-mod places;
 mod program;
-mod rows;
+mod refusals;
+mod samples;
 mod sweep;
-
-// A text, and its refusal if it is refused.
-struct Answer {
-    name: &'static str,
-    text: &'static str,
-    refusal: Option<FormatError>,
-}
 
 fn config(line_width: usize, indent_width: isize) -> Config {
     Config {
@@ -72,19 +64,4 @@ fn expect_told(
 
 fn expect_same(rt: &impl Abort, got: Option<bool>, want: Option<bool>, name: &str) {
     assert_eq!(rt; got, want, "{name}");
-}
-
-// The text is laid out like this, and the result is laid out as it is.
-fn expect_layout(
-    rt: &impl Abort,
-    alloc: Global,
-    name: &str,
-    text: &str,
-    config: &Config,
-    want: &str,
-) {
-    let got = policies_str_to_pretty(alloc, text, config).expect(rt, name);
-    expect_text(rt, got.as_str(), want, name);
-    let again = policies_str_to_pretty(alloc, want, config).expect(rt, name);
-    expect_text(rt, again.as_str(), want, name);
 }

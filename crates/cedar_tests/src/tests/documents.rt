@@ -1,6 +1,6 @@
-//! The worked layouts once more, from the documents of their policies: the formatter lays out what rows write on a sheet, and
+//! Layouts from the documents of policies are those of the formatter: it lays out what rows write on a sheet, and
 //! `render` what `to_doc` makes of the same rows.
-use super::rows::{COMMENTS, CONDITIONS, ENDS, SCOPES, WIDTHS};
+use super::samples::{COMMENTS, CONDITIONS, ENDS, SCOPES, Sample, WIDTHS};
 use super::*;
 use cedar_policy_formatter::Context;
 use cedar_policy_formatter::doc::Doc;
@@ -8,15 +8,15 @@ use cedar_policy_formatter::layout::render;
 use cedar_policy_formatter::lexer::{drop_trailing_commas, get_token_stream};
 use cedar_policy_formatter::utils::{in_order, remove_empty_lines};
 
-// The layouts of the policies of a row's text, an empty line between them, and then the closing comments.
+// The layouts of the policies of a sample's text, an empty line between them, and then the closing comments.
 fn rendered(
     rt: &impl Abort,
     alloc: Global,
-    row: &Row,
+    sample: &Sample,
     config: &Config,
 ) -> Result<String, FormatError> {
-    let tree = parse_policies(alloc, row.text)?;
-    let (mut tokens, closing) = get_token_stream(alloc, row.text)?.expect(rt, row.name);
+    let tree = parse_policies(alloc, sample.text)?;
+    let (mut tokens, closing) = get_token_stream(alloc, sample.text)?.expect(rt, sample.name);
     drop_trailing_commas(alloc, &mut tokens)?;
     let mut context = Context { config, tokens };
     let mut out = String::new(alloc);
@@ -43,38 +43,40 @@ fn rendered(
     Ok(out)
 }
 
-fn expect_row(rt: &impl Abort, alloc: Global, row: &Row) {
-    let got = rendered(rt, alloc, row, &config(row.width, row.indent)).expect(rt, row.name);
-    expect_text(rt, got.as_str(), row.layout, row.name);
+fn expect_alike(rt: &impl Abort, alloc: Global, sample: &Sample) {
+    let config = config(sample.width, sample.indent);
+    let want = policies_str_to_pretty(alloc, sample.text, &config).expect(rt, sample.name);
+    let got = rendered(rt, alloc, sample, &config).expect(rt, sample.name);
+    expect_text(rt, got.as_str(), want.as_str(), sample.name);
 }
 
-fn expect_rows(rt: &impl Abort, alloc: Global, rows: &[Row]) {
-    for row in rows {
-        expect_row(rt, alloc, row);
+fn expect_all_alike(rt: &impl Abort, alloc: Global, samples: &[Sample]) {
+    for sample in samples {
+        expect_alike(rt, alloc, sample);
     }
 }
 
 #[test]
 fn ends_from_documents(rt: HostRuntime) {
-    expect_rows(&rt, rt.alloc(), &ENDS);
+    expect_all_alike(&rt, rt.alloc(), &ENDS);
 }
 
 #[test]
 fn scopes_from_documents(rt: HostRuntime) {
-    expect_rows(&rt, rt.alloc(), &SCOPES);
+    expect_all_alike(&rt, rt.alloc(), &SCOPES);
 }
 
 #[test]
 fn comments_from_documents(rt: HostRuntime) {
-    expect_rows(&rt, rt.alloc(), &COMMENTS);
+    expect_all_alike(&rt, rt.alloc(), &COMMENTS);
 }
 
 #[test]
 fn conditions_from_documents(rt: HostRuntime) {
-    expect_rows(&rt, rt.alloc(), &CONDITIONS);
+    expect_all_alike(&rt, rt.alloc(), &CONDITIONS);
 }
 
 #[test]
 fn widths_from_documents(rt: HostRuntime) {
-    expect_rows(&rt, rt.alloc(), &WIDTHS);
+    expect_all_alike(&rt, rt.alloc(), &WIDTHS);
 }

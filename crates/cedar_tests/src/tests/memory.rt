@@ -132,6 +132,13 @@ fn layouts_without_memory(rt: HostRuntime) {
     }
 }
 
+// A text, and its refusal if it is refused.
+struct Answer {
+    name: &'static str,
+    text: &'static str,
+    refusal: Option<FormatError>,
+}
+
 static ANSWERS: [Answer; 6] = [
     Answer {
         name: "trailing comma and a comment",

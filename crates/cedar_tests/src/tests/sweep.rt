@@ -1,5 +1,5 @@
 //! Layouts are laid out as they are, at many widths and indentations.
-use super::rows::{COMMENTS, CONDITIONS, ENDS, SCOPES, WIDTHS};
+use super::samples::{COMMENTS, CONDITIONS, ENDS, SCOPES, Sample, WIDTHS};
 use super::*;
 use cedar_policy_formatter::lexer::{drop_trailing_commas, get_token_stream};
 use cedar_policy_formatter::token::{Token, WrappedToken};
@@ -62,35 +62,35 @@ fn sweep(rt: &impl Abort, alloc: Global, name: &str, text: &str) {
     }
 }
 
-fn sweep_rows(rt: &impl Abort, alloc: Global, rows: &[Row]) {
-    for row in rows {
-        sweep(rt, alloc, row.name, row.text);
+fn sweep_samples(rt: &impl Abort, alloc: Global, samples: &[Sample]) {
+    for sample in samples {
+        sweep(rt, alloc, sample.name, sample.text);
     }
 }
 
 #[test]
 fn ends_at_every_width(rt: HostRuntime) {
-    sweep_rows(&rt, rt.alloc(), &ENDS);
+    sweep_samples(&rt, rt.alloc(), &ENDS);
 }
 
 #[test]
 fn scopes_at_every_width(rt: HostRuntime) {
-    sweep_rows(&rt, rt.alloc(), &SCOPES);
+    sweep_samples(&rt, rt.alloc(), &SCOPES);
 }
 
 #[test]
 fn comments_at_every_width(rt: HostRuntime) {
-    sweep_rows(&rt, rt.alloc(), &COMMENTS);
+    sweep_samples(&rt, rt.alloc(), &COMMENTS);
 }
 
 #[test]
 fn conditions_at_every_width(rt: HostRuntime) {
-    sweep_rows(&rt, rt.alloc(), &CONDITIONS);
+    sweep_samples(&rt, rt.alloc(), &CONDITIONS);
 }
 
 #[test]
 fn widths_at_every_width(rt: HostRuntime) {
-    sweep_rows(&rt, rt.alloc(), &WIDTHS);
+    sweep_samples(&rt, rt.alloc(), &WIDTHS);
 }
 
 struct Accepted {

@@ -1,0 +1,1 @@
+permit(principal,action,resource)when{1 like "a*"||1 has "a"||1 has if_};

@@ -1,0 +1,1 @@
+@if@id("x")forbid(principal,action,resource)when{1}unless{2};

@@ -1,0 +1,1 @@
+permit(principal is A in ?principal,action,resource);

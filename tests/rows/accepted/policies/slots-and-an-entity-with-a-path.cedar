@@ -1,0 +1,1 @@
+permit(principal == ?principal,action in A::B::"x",resource in ?resource);

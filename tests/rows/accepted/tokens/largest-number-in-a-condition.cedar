@@ -1,0 +1,1 @@
+permit(principal,action,resource)when{18446744073709551615==7};

@@ -1,0 +1,2 @@
+// a// b
+permit(principal,action,resource);

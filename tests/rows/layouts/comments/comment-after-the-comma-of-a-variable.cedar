@@ -1,0 +1,2 @@
+permit(principal, // p
+action,resource);

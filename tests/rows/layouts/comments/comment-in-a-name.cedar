@@ -1,0 +1,2 @@
+permit(principal is A // x
+::B,action,resource);

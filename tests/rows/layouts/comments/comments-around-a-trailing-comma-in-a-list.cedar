@@ -1,0 +1,3 @@
+permit(principal,action,resource)when{[1 // a
+, // b
+]};

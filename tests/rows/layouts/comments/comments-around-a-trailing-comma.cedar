@@ -1,0 +1,5 @@
+permit(principal,action,resource // a
+// b
+, // c
+// d
+);

@@ -1,0 +1,3 @@
+permit(principal,action,resource)when{f(1 // x
+// y
+)};

@@ -1,0 +1,4 @@
+permit(principal,action,resource); // t
+// l
+permit(principal,action,resource);
+// e

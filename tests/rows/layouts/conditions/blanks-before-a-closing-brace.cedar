@@ -1,0 +1,4 @@
+permit (principal, action, resource)
+when { "a"   };
+permit (principal, action, resource)
+when { "b" };

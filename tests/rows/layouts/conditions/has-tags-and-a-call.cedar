@@ -1,0 +1,1 @@
+permit(principal,action,resource)unless{principal has a.b&&resource.tags.contains("x")};

@@ -1,0 +1,3 @@
+permit(principal,action,resource)when{"a
+
+// b"};

@@ -1,0 +1,1 @@
+permit(principal,action,resource)when{if a::"x"==principal then true else false};

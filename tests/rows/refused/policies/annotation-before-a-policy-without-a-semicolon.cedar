@@ -1,0 +1,1 @@
+@if permit(principal,action,resource)

@@ -1,0 +1,1 @@
+@id()permit(principal,action,resource);

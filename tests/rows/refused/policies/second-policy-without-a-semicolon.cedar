@@ -1,0 +1,2 @@
+permit(principal,action,resource);// c
+permit(principal,action,resource)

@@ -1,0 +1,1 @@
+@id("x",)permit(principal,action,resource);

@@ -1,0 +1,1 @@
+permit(principal == A::,action,resource);

@@ -1,0 +1,1 @@
+permit(resource,action,principal);

@@ -1,0 +1,2 @@
+permit(principal,action,resource);
+;18446744073709551616
