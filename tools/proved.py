@@ -1,10 +1,11 @@
 """What the prover recorded of the files that it built.
 
-`rt run`, which ./build calls, leaves out/CRATE.stamp beside a program: a sum of everything that the program is made of, its
-libraries, definitions and proofs too, and then the sum of the program. bindings/build leaves the same beside the library for C,
-once the prover has passed it. `rt ci`, which ./check calls, keeps the sum of a program beside the kit, by the sums of everything
-that its proof read. Both go by rt's own functions, so this depends on them.
+Beside a proved program, ./build leaves out/CRATE.stamp, as `rt run` does: a sum of everything that the program is made of, its
+libraries, definitions and proofs too, and then the sum of the program. bindings/build leaves the same beside the library for C.
+Beside a library lies out/rlib/stamp, with the first of the two sums. `rt ci`, which ./check calls, keeps the sums of what it made
+beside the kit, by the sums of everything that the proof read. All this goes by rt's own functions, so this depends on them.
 """
+import contextlib
 import copy
 import importlib.machinery
 import importlib.util
@@ -22,13 +23,32 @@ def loaded(script):
     return made
 
 
+def crates_of(rt, top):
+    """The crates of a copy of the repository, by their names."""
+    rt.rtlib.Crate = rt.Crate
+    return {it.name: it for it in rt.rtlib.crates_below(f"{top}/crates")}
+
+
+def file_of(crate):
+    """The file in a crate's folder out that is made of a program or a static library."""
+    return f"lib{crate.name}.a" if crate.is_static else crate.name
+
+
+def write_anew(file, text):
+    """Writes a file that may have another name elsewhere, as `rt` gives it to the files of libraries."""
+    with contextlib.suppress(FileNotFoundError):
+        os.remove(file)
+    with open(file, "w", encoding="utf-8") as it:
+        it.write(text)
+
+
 class Records:
     """The records of a copy of the repository, for the sources of another one, or of the same."""
 
     def __init__(self, script, sources, built):
         self.rt, self.built = loaded(script), built
         self.rt.Crate.allowed = self.rt.handles_of(sources)
-        self.crates, self.copies = ({it.name: it for it in self.rt.crates_of(top)} for top in (sources, built))
+        self.crates, self.copies = (crates_of(self.rt, top) for top in (sources, built))
         # (asking for the store would make it)
         self.store, self.known = os.path.isdir(self.rt.STORE) and self.rt.Kept(list(self.crates.values())), {}
 
@@ -67,8 +87,11 @@ class Records:
         return is_kept or text_of(f"{file}.stamp") == self.stamp(crate) + sum_of(file)
 
     def note(self, crate, name):
-        """Records a file that the prover has just passed and built."""
+        """Records a program or a library for C that the prover has just passed and built."""
         file = f"{self.built}/crates/{crate}/out/{name}"
-        with open(f"{file}.stamp", "w", encoding="utf-8") as it:
-            it.write(self.stamp(crate) + self.rt.rtlib.sum_of(file))
+        write_anew(f"{file}.stamp", self.stamp(crate) + self.rt.rtlib.sum_of(file))
+
+    def note_library(self, crate):
+        """Records a library that the prover has passed."""
+        write_anew(f"{self.built}/crates/{crate}/out/rlib/stamp", self.crates[crate].stamp())
 
