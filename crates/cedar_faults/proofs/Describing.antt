@@ -1,7 +1,7 @@
 -- What is known at the first fault of a text.
-use Rattle.std.specs.Prelude.{◌≡◌, ◌≢◌, ◌↔◌, ◌⊎◌, ◌≤◌, ◌<◌, ◌+◌, ℕ, Bool, true, false, IsTrue, List, [], ◌∷◌, ◌++◌, length, take, drop, Option, Some, None, slice_index, ◌==◌, ◌||◌}
+use Rattle.std.specs.Prelude.{◌≡◌, ◌≢◌, ◌↔◌, ◌⊎◌, ◌≤◌, ◌<◌, ◌+◌, ℕ, Bool, IsTrue, List, length, take, drop, Some, None, slice_index, ◌==◌, ◌||◌}
 use Rattle.std.specs.Str.{IsUtf8, IsCharBoundary}
-use Rattle.std.proofs.Common.{refl, sym, ap, ◌∙◌, arith, subst, inl, inr}
+use Rattle.std.proofs.Common.{sym, ◌∙◌, arith, subst, inl, inr}
 use Rattle.std.proofs.lemmas.List.{drop-drop, length-drop}
 use Rattle.std.proofs.lemmas.Str.{IsUtf8-drop, IsCharBoundary-from_drop}
 use Rattle.std.proofs.lemmas.Bool.Decides.{nat_tests}
@@ -16,14 +16,12 @@ use Rattle.cedar_grammar.specs.Texts.{only_tokens}
 use Rattle.cedar_parser_steps.specs.Tokens.{HasTokens}
 use Rattle.cedar_tree.specs.declared.error.FormatError.{FormatError}
 use Rattle.cedar_tree.specs.declared.error.FormatError.TheVariants.{UnknownCharacter, UnfinishedString, NumberTooLarge, Grammar, TooDeep, NoDocument, Unsound, OutOfMemory}
-use Rattle.cedar_expected.specs.declared.expectation.Expected.{Expected}
 use Rattle.cedar_expected.specs.Expectations.{AreAllAfter, IsList}
 use Rattle.cedar_expected.specs.Inside.Beginnings.{HasTree, KindsFollow}
-use Rattle.cedar_expected.specs.Naming.{AreNamed}
 use Rattle.cedar_expected.proofs.Probed.{of_units}
-use Rattle.cedar_faults.specs.Faults.{Expects, IsFound}
+use Rattle.cedar_faults.specs.Faults.{IsFound}
 use Rattle.cedar_faults.specs.FirstFaults.{IsFirstOf, Reaches, place_of}
-use Rattle.cedar_faults.specs.Marks.{EndsLine, EndsUnit, EndsCharacter, Marks, MarksUnit, MarksLast}
+use Rattle.cedar_faults.specs.Marks.{EndsLine, EndsUnit, Marks, MarksUnit, MarksLast}
 use Rattle.cedar_faults.proofs.Ending.{reached_ends}
 use Rattle.cedar_faults.proofs.Leaving.{Start, start_tokens, start_splits}
 

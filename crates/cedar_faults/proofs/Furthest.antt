@@ -1,14 +1,13 @@
 -- No place after a first fault is reached.
-use Rattle.std.specs.Prelude.{◌≡◌, ◌≢◌, ◌↔◌, ◌⊎◌, ◌≤◌, ◌<◌, ◌+◌, ℕ, Bool, true, false, List, [], ◌∷◌, ◌++◌, length, take, drop, Option, Some, None}
+use Rattle.std.specs.Prelude.{◌≡◌, ◌⊎◌, ◌≤◌, ◌<◌, ◌+◌, ℕ, Bool, true, false, List, [], ◌∷◌, ◌++◌, length, drop, Some}
 use Rattle.std.specs.List.{concat, list_any, sum_by}
-use Rattle.std.proofs.Common.{refl, sym, ap, ◌∙◌, arith, subst, inl, inr, append_assoc, append-nil, length-append}
+use Rattle.std.proofs.Common.{refl, sym, ap, ◌∙◌, arith, subst, inl, inr, append_assoc, length-append}
 use Rattle.std.proofs.lemmas.List.{drop_all, drop-drop, length-drop}
 use Rattle.std.proofs.lemmas.List.Elements.{filter-append}
 use Rattle.std.proofs.lemmas.List.Folds.{list_any-append}
 use Rattle.std.proofs.lemmas.List.Sums.{sum_by-cons}
 use Rattle.cedar_tokens.specs.Units.{IsUnit, IsFirstUnit, is_token}
-use Rattle.cedar_tokens.specs.Split.{Scans, SplitsInto, IsFirstFault}
-use Rattle.cedar_tokens.proofs.Gaps.{split_after}
+use Rattle.cedar_tokens.specs.Split.{Scans, IsFirstFault}
 use Rattle.cedar_tokens.proofs.Prefixes.{longest_unique}
 use Rattle.cedar_tokens.proofs.Scanning.{empty_begins_none, fault_prevents, split_unique}
 use Rattle.cedar_tokens.proofs.UnitsSoFar.{concat_length, scans_concat, units_length}
@@ -16,7 +15,7 @@ use Rattle.cedar_grammar.proofs.Booleans.{neither_first as or_left, neither_seco
 use Rattle.cedar_grammar.specs.Beginnings.{Begins}
 use Rattle.cedar_grammar.specs.Grammar.{IsSyntaxTree}
 use Rattle.cedar_grammar.specs.Numbers.{is_too_large}
-use Rattle.cedar_grammar.specs.Texts.{greatest_depth, only_tokens, Accepted, IsAccepted, LeaveAfter}
+use Rattle.cedar_grammar.specs.Texts.{greatest_depth, only_tokens, Accepted, LeaveAfter}
 use Rattle.cedar_tree.specs.declared.error.FormatError.{FormatError}
 use Rattle.cedar_tree.specs.declared.error.FormatError.TheVariants.{UnknownCharacter, UnfinishedString, NumberTooLarge, Grammar, TooDeep, NoDocument, Unsound, OutOfMemory}
 use Rattle.cedar_tree.specs.Refusals.{Refuses}

@@ -1,18 +1,16 @@
 -- Where a part of a text leaves the grammar, the text does.
-use Rattle.std.specs.Prelude.{◌≡◌, ◌≢◌, ◌≤◌, ◌+◌, ℕ, Bool, true, false, List, [], ◌∷◌, ◌++◌, length, take, drop, codes}
+use Rattle.std.specs.Prelude.{◌≡◌, ◌≢◌, ◌≤◌, ℕ, Bool, true, false, List, [], ◌∷◌, ◌++◌, length, take, drop, codes}
 use Rattle.std.specs.List.{concat, list_any, sum_by}
-use Rattle.std.specs.Str.{IsCharBoundary}
 use Rattle.std.proofs.Common.{refl, sym, ap, ◌∙◌, arith, subst, append_assoc, append-nil, length-append}
 use Rattle.std.proofs.Math.Seq.{take-append_seam}
-use Rattle.std.proofs.lemmas.List.{drop_all, length-take-le, take_all}
-use Rattle.std.proofs.lemmas.List.Sums.{sum_by-append}
+use Rattle.std.proofs.lemmas.List.{length-take-le}
 use Rattle.std.proofs.lemmas.List.Folds.{list_any-append}
-use Rattle.cedar_tokens.specs.Units.{IsToken, is_token}
+use Rattle.cedar_tokens.specs.Units.{IsToken}
 use Rattle.cedar_tokens.specs.Split.{Scans, SplitsInto, IsFirstFault}
 use Rattle.cedar_tokens.specs.TokenKinds.{kind_of}
 use Rattle.cedar_tokens.proofs.Lists.{All-parts}
 use Rattle.cedar_tokens.proofs.Scanning.{fault_prevents, split_unique}
-use Rattle.cedar_tokens.proofs.UnitsSoFar.{EndsAt, ends_at, concat_length, scans_concat, units_length}
+use Rattle.cedar_tokens.proofs.UnitsSoFar.{ends_at, concat_length, scans_concat, units_length}
 use Rattle.cedar_grammar.proofs.Booleans.{neither_first as or_left, neither_second as or_right}
 use Rattle.cedar_grammar.proofs.Texts.Cuts.{fit_part}
 use Rattle.cedar_grammar.proofs.Texts.Grammars.{grammars_agree, texts_are_tokens}
@@ -33,9 +31,9 @@ use Rattle.cedar_pieces.proofs.Refusals.{piece_tokens}
 use Rattle.cedar_pieces.proofs.Sequences.{list_parts}
 use Rattle.cedar_expected.specs.Expectations.{IsList}
 use Rattle.cedar_expected.specs.Inside.Beginnings.{TokensBegin}
-use Rattle.cedar_expected.proofs.Begun.{leaves_end, list_accepted}
+use Rattle.cedar_expected.proofs.Begun.{list_accepted}
 use Rattle.cedar_expected.proofs.Probed.{of_units}
-use Rattle.cedar_faults.specs.FirstFaults.{IsFirstOf, IsNext, LeavesAt, Reaches}
+use Rattle.cedar_faults.specs.FirstFaults.{IsFirstOf, LeavesAt, Reaches}
 use Rattle.cedar_faults.specs.Inside.Beginnings.{RefusesInside, IsTokenFault, Stops}
 use Rattle.cedar_faults.specs.declared.beginnings.TokenFault.{TokenFault}
 

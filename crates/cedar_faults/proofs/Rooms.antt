@@ -1,6 +1,6 @@
 -- Places of faults in a text are numbers of 64 bits.
-use Rattle.std.specs.Prelude.{◌≡◌, ◌≤◌, ◌<◌, ◌+◌, ◌^◌, ◌⊎◌, ℕ, List, [], ◌∷◌, ◌++◌, length, drop, Some, None}
-use Rattle.std.proofs.Common.{refl, sym, ap, ◌∙◌, arith, subst, inl, inr, length-append}
+use Rattle.std.specs.Prelude.{◌≡◌, ◌≤◌, ◌<◌, ◌+◌, ◌^◌, ◌⊎◌, ℕ, List, [], ◌∷◌, length, drop}
+use Rattle.std.proofs.Common.{ap, arith, inl, inr}
 use Rattle.std.specs.List.{sum_by}
 use Rattle.std.proofs.lemmas.List.{length-drop}
 use Rattle.std.proofs.lemmas.List.Sums.{sum_by-append, sum_by-cons}
@@ -11,11 +11,11 @@ use Rattle.cedar_tree.specs.declared.error.FormatError.{FormatError}
 use Rattle.cedar_tree.specs.declared.error.FormatError.TheVariants.{UnknownCharacter, UnfinishedString, NumberTooLarge, Grammar, TooDeep, NoDocument, Unsound, OutOfMemory}
 use Rattle.cedar_grammar.specs.Texts.{only_tokens}
 use Rattle.cedar_faults.specs.Faults.{IsFault}
-use Rattle.cedar_faults.specs.FirstFaults.{IsFirstOf, Reaches, place_of}
+use Rattle.cedar_faults.specs.FirstFaults.{IsFirstOf}
 use Rattle.cedar_faults.specs.Inside.Searches.{HasRoom}
 use Rattle.cedar_faults.specs.Marks.{EndsLastToken, EndsUnit, Marks, MarksLast, MarksUnit}
 use Rattle.cedar_faults.specs.declared.fault.Fault.{Fault}
-use Rattle.cedar_faults.proofs.Describing.{reached, reached_inside}
+use Rattle.cedar_faults.proofs.Describing.{reached_inside}
 
 unit_inside : (text : List ℕ) (at to : ℕ) → at ≤ length text → EndsUnit text at to → to ≤ length text
 unit_inside text at to l u = omega (arith, l, u.2, begins_fits (drop at text) u.0 u.1.begins, length-drop at text)

@@ -1,21 +1,20 @@
 -- A search goes on at characters of the text.
-use Rattle.std.specs.Prelude.{◌≡◌, ◌≢◌, ◌≤◌, ◌<◌, ◌+◌, ◌-◌, ◌^◌, ◌⊎◌, ℕ, false, List, [], ◌∷◌, ◌++◌, length, take, drop, Some, None, codes}
+use Rattle.std.specs.Prelude.{◌≡◌, ◌≤◌, ◌<◌, ◌+◌, ◌-◌, ◌⊎◌, ℕ, false, List, [], ◌∷◌, ◌++◌, length, drop, codes}
 use Rattle.std.specs.List.{list_any, sum_by}
 use Rattle.std.specs.Str.{IsUtf8, IsCharBoundary}
-use Rattle.std.proofs.Common.{refl, sym, ap, ◌∙◌, arith, subst, inl, inr}
+use Rattle.std.proofs.Common.{refl, sym, ap, arith, subst, inl, inr}
 use Rattle.std.proofs.lemmas.List.{drop-drop, length-drop}
 use Rattle.std.proofs.lemmas.List.Sums.{sum_by-append, sum_by-cons}
 use Rattle.std.proofs.lemmas.Str.{IsUtf8-drop, IsCharBoundary-from_drop}
 use Rattle.cedar_tree.specs.declared.error.FormatError.{FormatError}
 use Rattle.cedar_pieces.specs.Pieces.{is_semicolon}
 use Rattle.cedar_pieces.proofs.Accepted.{accepted_empty}
-use Rattle.cedar_grammar.specs.Texts.{Accepted}
 use Rattle.cedar_faults.specs.Faults.{IsFault}
 use Rattle.cedar_faults.specs.FirstFaults.{IsFirstOf}
 use Rattle.cedar_faults.specs.Inside.Searches.{IsInside}
-use Rattle.cedar_faults.specs.Recovery.{IsPassed, Passes, Resumes}
+use Rattle.cedar_faults.specs.Recovery.{Passes, Resumes}
 use Rattle.cedar_faults.specs.declared.fault.Fault.{Fault}
-use Rattle.cedar_faults.proofs.Passing.{passed_boundary, passed_inside, passed_nonempty}
+use Rattle.cedar_faults.proofs.Passing.{passed_boundary, passed_inside}
 use Rattle.cedar_faults.proofs.Furthest.{no_first}
 
 pub rest_is : (text : List ℕ) (from : ℕ) (rest : List ℕ) → rest ≡ drop from text → rest ≡ drop from text

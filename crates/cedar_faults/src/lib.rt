@@ -4,16 +4,11 @@
 
 pub mod beginnings;
 pub mod fault;
-pub mod faults;
 pub mod laws;
+pub mod listing;
 mod marks;
 mod moves;
 pub mod reader;
 mod recovery;
 pub mod tips;
 mod words;
-
-pub use fault::Fault;
-pub use faults::faults;
-pub use reader::Faults;
-pub use tips::Tip;

@@ -19,14 +19,14 @@ use std::marker::Model;
 
 /// The faults of a text that are still to come. Memory is held for one policy at a time.
 #[derive(Drop)]
-pub struct Faults<'src> {
+pub struct FaultReader<'src> {
     text: &'src str,
     at: usize,
     // Room for the tokens of a policy.
     room: Vec<Lexeme<'src>>,
 }
 
-impl<'src> Model for Faults<'src> {
+impl<'src> Model for FaultReader<'src> {
     ghost use Rattle.cedar_faults.specs.Inside.Searches.{Search, IsInside};
 
     ghost Value = { Search };
@@ -36,13 +36,13 @@ impl<'src> Model for Faults<'src> {
     ghost invariant = { λ f. IsInside f.text.now f.at };
 }
 
-impl<'src> Faults<'src> {
+impl<'src> FaultReader<'src> {
     /// The faults of `text`. Reads nothing yet, and allocates nothing.
-    pub fn new(alloc: Global, text: &'src str) -> Faults<'src>
+    pub fn new(alloc: Global, text: &'src str) -> FaultReader<'src>
         ensures text { result.text ≡ text.now }
         ensures at { result.at ≡ 0 }
     {
-        Faults {
+        FaultReader {
             text,
             at: 0,
             room: Vec::new(alloc),

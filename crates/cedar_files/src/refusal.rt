@@ -1,6 +1,6 @@
 //! What is wrong with a text, and where.
 use crate::places::{Place, first_line, last_line, place_after};
-use cedar_faults::Fault;
+use cedar_faults::fault::Fault;
 use std::alloc::{AllocError, Global};
 use unicode_width::UnicodeWidthStr;
 

@@ -5,7 +5,7 @@ use crate::names::{CommandText, JsonText, Shown};
 use crate::options::{Format, Options};
 use crate::places::Place;
 use crate::refusal::Refusal;
-use cedar_faults::faults;
+use cedar_faults::listing::faults;
 use cedar_policy_formatter::FormatError;
 use std::io::{BufWriter, ErrorKind, IsTerminal, Write};
 use std::rt::Stdout;

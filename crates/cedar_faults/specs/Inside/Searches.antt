@@ -1,7 +1,6 @@
 -- How far a search for faults has come.
-use Rattle.std.specs.Prelude.{◌≡◌, ◌≤◌, ◌<◌, ◌+◌, ◌^◌, ℕ, List, length, drop, Option, MatchOption, ⊤}
+use Rattle.std.specs.Prelude.{◌≤◌, ◌<◌, ◌+◌, ◌^◌, ℕ, List, length, drop, MatchOption, ⊤}
 use Rattle.std.specs.Str.{IsCharBoundary}
-use Rattle.cedar_tree.specs.declared.error.FormatError.{FormatError}
 use Rattle.cedar_faults.specs.declared.fault.Fault.{Fault}
 use Rattle.cedar_faults.specs.declared.reader.Found.{Found}
 use Rattle.cedar_faults.specs.Faults.{AreFaultsFrom}

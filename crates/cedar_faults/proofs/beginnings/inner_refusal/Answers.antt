@@ -1,5 +1,4 @@
-use Rattle.std.proofs.Common.{◌≡◌, false, rules, ◌∙◌, refl, sym, ap, subst, arith, length}
-use Rattle.cedar_grammar.specs.Texts.{LeavesGrammar}
+use Rattle.std.proofs.Common.{false, rules, arith}
 use Rattle.cedar_tree.specs.declared.error.FormatError.TheVariants.{Grammar}
 use Rattle.cedar_tree.specs.Refusals.{Refuses}
 use Rattle.cedar_expected.proofs.Begun.{leaves_end}

@@ -1,6 +1,5 @@
-use Rattle.std.proofs.Common.{◌≡◌, ◌∙◌, refl, sym, ap, subst, arith, length}
+use Rattle.std.proofs.Common.{◌∙◌}
 use Rattle.std.specs.Prelude.{take}
-use Rattle.cedar_parser_steps.specs.Tokens.{HasTokens}
 use Rattle.cedar_parser_steps.specs.Lexemes.{AreLexemes}
 use Rattle.cedar_pieces.specs.Pieces.{IsFirstPiece}
 use Rattle.cedar_faults.specs.Inside.Beginnings.{RefusesInside}

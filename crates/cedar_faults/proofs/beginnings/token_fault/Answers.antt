@@ -1,4 +1,4 @@
-use Rattle.std.proofs.Common.{◌≡◌, ◌+◌, ◌<◌, ◌≤◌, length, refl, sym, ap, ◌∙◌, arith, subst}
+use Rattle.std.proofs.Common.{◌<◌, length, refl, sym, ◌∙◌, arith}
 use Rattle.std.specs.Prelude.{drop}
 use Rattle.cedar_tokens.specs.Units.{IsFirstUnit}
 use Rattle.cedar_tokens.proofs.FirstUnit.{unit_nonempty}

@@ -1,5 +1,4 @@
-use Rattle.std.proofs.Common.{◌≡◌, ◌∙◌, refl, sym, ap, subst, arith, length, Some, None}
-use Rattle.std.specs.Prelude.{take}
+use Rattle.std.proofs.Common.{◌∙◌, arith}
 use Rattle.cedar_faults.specs.FirstFaults.{Reaches}
 use Rattle.cedar_faults.proofs.Describing.{end_there, front_tokens, kinds_there, nothing_found, part_end, part_start, reached, reached_boundary, reached_inside}
 use Rattle.cedar_faults.proofs.Passing.{from_start}

@@ -1,4 +1,4 @@
-use Rattle.std.proofs.Common.{◌≡◌, ◌∙◌, [], refl, sym, ap, subst, arith, length}
+use Rattle.std.proofs.Common.{[], arith}
 use Rattle.std.specs.Prelude.{drop}
 use Rattle.cedar_grammar.specs.Texts.{Accepted}
 use Rattle.cedar_faults.specs.Faults.AreFaultsFrom.{none, policy}

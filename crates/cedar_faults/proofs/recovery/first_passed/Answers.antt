@@ -1,7 +1,5 @@
-use Rattle.std.proofs.Common.{◌≡◌, ◌≢◌, ◌<◌, ◌≤◌, [], Some, None, true, false, length, take, refl, sym, ap, ◌∙◌, arith, subst}
-use Rattle.cedar_tokens.specs.Units.{IsUnit, BeginsNoUnit, FindsLongest}
-use Rattle.cedar_faults.specs.Marks.{EndsCharacter}
-use Rattle.cedar_faults.specs.Recovery.{IsPassed, spans_lines}
+use Rattle.std.proofs.Common.{◌≤◌, length, sym, ap, ◌∙◌, arith}
+use Rattle.cedar_faults.specs.Recovery.{spans_lines}
 use Rattle.cedar_faults.proofs.Passing.{nonempty, unit_passed, spanning, no_first, character_passed, from_start}
 use Rattle.cedar_faults.proofs.recovery.first_passed.Goals.{in-Some, in_default, in_default-via-in-Some+else-not-spans_lines, in_default-via-in_default}
 use Rattle.cedar_faults.proofs.recovery.first_passed.Goals as goal

@@ -1,8 +1,8 @@
-use Rattle.std.proofs.Common.{◌≢◌, arith, inl, inr}
+use Rattle.std.proofs.Common.{◌≢◌, arith}
 use Rattle.std.specs.Prelude.{codes}
 use Rattle.std.proofs.lemmas.Bool.Decides.{Decides-eqb}
 use Rattle.std.proofs.lemmas.Slice.Eq.{slice_eq-Decides}
-use Rattle.cedar_faults.proofs.Passing.{so_far_from, further, stops_here, goes_on, stops_at_end}
+use Rattle.cedar_faults.proofs.Passing.{so_far_from, further, stops_here, goes_on}
 use Rattle.cedar_faults.proofs.recovery.resume.Goals as goal
 
 pub loop-end-init : goal.loop-end-init

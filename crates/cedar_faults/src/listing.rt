@@ -3,7 +3,7 @@ ghost use Rattle.std.specs.Prelude.{IfOk};
 ghost use Rattle.cedar_faults.specs.Faults.{AreFaults};
 
 use crate::fault::Fault;
-use crate::reader::Faults;
+use crate::reader::FaultReader;
 use std::alloc::{AllocError, Global};
 
 /// All faults of a text, in order; none if and only if it is accepted.
@@ -11,7 +11,7 @@ pub fn faults<'src>(alloc: Global, text: &'src str) -> Result<Vec<Fault<'src>>, 
     ensures { IfOk result (λ faults. AreFaults text.now faults.items) }
 {
     let mut faults = Vec::new(alloc);
-    let mut reader = Faults::new(alloc, text);
+    let mut reader = FaultReader::new(alloc, text);
     'faults: loop {
         let Some(fault) = reader.next(alloc)? else {
             return Ok(faults);

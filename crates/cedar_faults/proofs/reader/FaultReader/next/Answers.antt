@@ -1,14 +1,12 @@
-use Rattle.std.proofs.Common.{◌≡◌, ◌∙◌, ◌+◌, ◌-◌, ◌<◌, ◌≤◌, [], ◌∷◌, refl, sym, ap, subst, arith, length, List}
-use Rattle.std.specs.Prelude.{drop}
+use Rattle.std.proofs.Common.{◌≡◌, sym, ap, subst, arith, length}
 use Rattle.std.proofs.lemmas.List.{length-drop}
 use Rattle.cedar_faults.specs.Faults.{AreFaultsFrom, IsFault}
 use Rattle.cedar_faults.specs.Faults.AreFaultsFrom.{fault}
 use Rattle.cedar_faults.specs.Inside.Searches.{Finds, IsInside}
-use Rattle.cedar_faults.specs.Recovery.{Resumes}
 use Rattle.cedar_faults.proofs.Describing.{reached_boundary, reached_inside}
 use Rattle.cedar_faults.proofs.Rooms.{has_room}
 use Rattle.cedar_faults.proofs.Searching.{inside_more, next_at, resumes_boundary, resumes_further, resumes_inside}
-use Rattle.cedar_faults.proofs.reader.Faults.next.Goals as goal
+use Rattle.cedar_faults.proofs.reader.FaultReader.next.Goals as goal
 
 pub resume-requires : goal.resume-requires
 resume-requires c =

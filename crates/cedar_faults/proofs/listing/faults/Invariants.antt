@@ -1,7 +1,7 @@
 use Rattle.std.proofs.Common.{◌≡◌, ◌-◌, ◌++◌, length, List}
 use Rattle.cedar_faults.specs.declared.fault.Fault.{Fault}
 use Rattle.cedar_faults.specs.Faults.{AreFaults, AreFaultsFrom}
-use Rattle.cedar_faults.proofs.faults.faults.Given as goal
+use Rattle.cedar_faults.proofs.listing.faults.Given as goal
 
 -- the faults so far, and those that are left, are those of the text
 abbrev pub invariant-faults : goal.invariant-faults
