@@ -62,3 +62,13 @@ pub data AreFaultsFrom (text : List ℕ) : ℕ → List Fault → Type 0 where
 
 abbrev pub AreFaults : List ℕ → List Fault → Type 0
 AreFaults text fs = AreFaultsFrom text 0 fs
+
+-- a text, and the byte at which a search for its faults continues
+pub record Search : Type 0 where
+  pub text : List ℕ
+  pub at : ℕ
+
+-- what a search finds next: no fault is left; or this one, and then those that the search finds from its new place on
+abbrev pub FindsNext : Search → Search → Option Fault → Type 0
+FindsNext old new None = AreFaultsFrom old.text old.at []
+FindsNext old new (Some f) = (fs : List Fault) → AreFaultsFrom old.text new.at fs → AreFaultsFrom old.text old.at (f ∷ fs)

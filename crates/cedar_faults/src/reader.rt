@@ -1,8 +1,8 @@
 //! The faults of a text, one after the other.
-ghost use Rattle.std.specs.Prelude.{◌≡◌, ◌<◌, List, [], ◌∷◌, IfOk, MatchOption, OnErr};
+ghost use Rattle.std.specs.Prelude.{◌≡◌, ◌<◌, [], IfOk, MatchOption, OnErr};
 ghost use Rattle.cedar_faults.specs.FirstFaults.{IsFirstOf};
 ghost use Rattle.cedar_faults.specs.Inside.Searches.{Finds, IsInside};
-ghost use Rattle.cedar_faults.specs.Faults.{AreFaultsFrom, IsFault};
+ghost use Rattle.cedar_faults.specs.Faults.{AreFaultsFrom, FindsNext, IsFault};
 
 use crate::beginnings::{Beginning, read_beginning};
 use crate::fault::Fault;
@@ -27,7 +27,8 @@ pub struct FaultReader<'src> {
 }
 
 impl<'src> Model for FaultReader<'src> {
-    ghost use Rattle.cedar_faults.specs.Inside.Searches.{Search, IsInside};
+    ghost use Rattle.cedar_faults.specs.Faults.{Search};
+    ghost use Rattle.cedar_faults.specs.Inside.Searches.{IsInside};
 
     ghost Value = { Search };
 
@@ -52,7 +53,7 @@ impl<'src> FaultReader<'src> {
     /// The next fault of the text, with its places in the whole text; `None` if there is none, however often it is called.
     /// After an error it is unchanged.
     pub fn next(&mut self, alloc: Global) -> Result<Option<Fault<'src>>, AllocError>
-        ensures faults { IfOk result (λ next. MatchOption next (AreFaultsFrom self.old.text self.old.at []) (λ f. (fs : List _) → AreFaultsFrom self.old.text self.new.at fs → AreFaultsFrom self.old.text self.old.at (f ∷ fs))) }
+        ensures faults { IfOk result (FindsNext self.old self.new) }
         ensures text { self.new.text ≡ self.old.text }
         ensures further { IfOk result (λ next. MatchOption next (self.new ≡ self.old) (λ _. self.old.at < self.new.at)) }
         ensures refused { OnErr result (self.new ≡ self.old) }

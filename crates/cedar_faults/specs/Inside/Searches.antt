@@ -6,11 +6,6 @@ use Rattle.cedar_faults.specs.declared.reader.Found.{Found}
 use Rattle.cedar_faults.specs.Faults.{AreFaultsFrom}
 use Rattle.cedar_faults.specs.FirstFaults.{IsFirstOf, place_of}
 
--- a text, and the byte at which the search goes on
-pub record Search : Type 0 where
-  pub text : List ℕ
-  pub at : ℕ
-
 -- a place between characters of the text
 pub record IsInside (text : List ℕ) (at : ℕ) : Type 0 where
   pub inside : at ≤ length text
