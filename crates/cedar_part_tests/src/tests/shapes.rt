@@ -48,9 +48,11 @@ fn operator(op: RelOp) -> &'static str {
 }
 
 fn show_signs(out: &mut String, op: Option<NegOp>) {
-    if let Some(op) = op {
-        let _ = write!(out, "{op:?} ");
-    }
+    let _ = match op {
+        None => Ok(()),
+        Some(NegOp::Bang(count)) => write!(out, "Bang({count}) "),
+        Some(NegOp::Dash(count)) => write!(out, "Dash({count}) "),
+    };
 }
 
 fn show_policy(out: &mut String, node: &Node<Policy<'_>>) {
