@@ -52,7 +52,8 @@ impl Refusal<'_, '_> {
 
     // The text before the place, and from it on.
     fn halves(&self) -> (&str, &str) {
-        self.text.split_at(self.text.floor_char_boundary(self.byte()))
+        self.text
+            .split_at(self.text.floor_char_boundary(self.byte()))
     }
 }
 
