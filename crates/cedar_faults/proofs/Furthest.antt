@@ -21,9 +21,9 @@ use Rattle.cedar_tree.specs.declared.error.FormatError.TheVariants.{UnknownChara
 use Rattle.cedar_tree.specs.Refusals.{Refuses}
 use Rattle.cedar_expected.proofs.Begun.{begins_front, list_begins}
 use Rattle.cedar_faults.specs.FirstFaults.{IsFirstOf, IsNext, LeavesAt, Reaches, place_of}
-use Rattle.cedar_faults.specs.Faults.{AreFaultsFrom}
-use Rattle.cedar_faults.specs.Faults.AreFaultsFrom.{none, policy, fault}
-use Rattle.cedar_faults.specs.Laws.{FirstIsFurthest, FirstIsBeforeRefusal, NoneIfAccepted}
+use Rattle.cedar_faults.specs.Faults.{SearchFinds}
+use Rattle.cedar_faults.specs.Faults.SearchFinds.{nothing, policy, fault}
+use Rattle.cedar_faults.specs.Laws.{FirstIsFurthest, FirstIsBeforeRefusal, FirstNoneIfAccepted, NoneIfAccepted}
 use Rattle.cedar_faults.specs.declared.fault.Fault.{Fault}
 use Rattle.cedar_faults.proofs.Describing.{reached}
 use Rattle.cedar_faults.proofs.Leaving.{leaves_whole, parts}
@@ -200,22 +200,31 @@ module _ (text : List ℕ) (a : Accepted text) where
   no_first Unsound f = f
   no_first OutOfMemory f = f
 
--- no faults are left where all is accepted, and none only there
-left_accepted : (text : List ℕ) (from : ℕ) (fs : List Fault) → AreFaultsFrom text from fs → fs ≡ []
-    → Accepted (drop from text)
-left_accepted text from fs (none at a) e = a
-left_accepted text from fs (policy at n gs p a more) e =
-    let rest = left_accepted text (at + n) gs more e in
-    accepted_join (drop at text) n p a (subst Accepted (sym (drop-drop n at text)) rest)
-left_accepted text from fs (fault at n f gs h r more) e = absurd cc
+-- a search that finds nothing passes over accepted policies
+passed_accepted : (text : List ℕ) (from to : ℕ) (fs : List Fault) → SearchFinds text from fs to → fs ≡ []
+    → Accepted (drop to text) → Accepted (drop from text)
+passed_accepted text from to fs (nothing at) e a = a
+passed_accepted text from to fs (policy at n end gs p more) e a =
+    let rest = passed_accepted text (at + n) to gs more e a in
+    accepted_join (drop at text) n p.piece p.accepted (subst Accepted (sym (drop-drop n at text)) rest)
+passed_accepted text from to fs (fault at n end f gs h r more) e a = absurd cc
 
-accepted_left : (text : List ℕ) (from : ℕ) (fs : List Fault) → AreFaultsFrom text from fs
+-- a search of an accepted text finds nothing
+pub finds_nothing : (text : List ℕ) (from to : ℕ) (fs : List Fault) → SearchFinds text from fs to
     → Accepted (drop from text) → fs ≡ []
-accepted_left text from fs (none at a) k = refl
-accepted_left text from fs (policy at n gs p a more) k = accepted_left text (at + n) gs more
-    (subst Accepted (drop-drop n at text) (accepted_parts (drop at text) n p k).1)
-accepted_left text from fs (fault at n f gs h r more) k =
+finds_nothing text from to fs (nothing at) k = refl
+finds_nothing text from to fs (policy at n end gs p more) k = finds_nothing text (at + n) to gs more
+    (subst Accepted (drop-drop n at text) (accepted_parts (drop at text) n p.piece k).1)
+finds_nothing text from to fs (fault at n end f gs h r more) k =
     absurd (no_first (drop at text) k f.error h.first)
 
 pub none_if_accepted : NoneIfAccepted
-none_if_accepted text fs a = (left_accepted text 0 fs a, accepted_left text 0 fs a)
+none_if_accepted text fs a =
+    (λ e. passed_accepted text 0 a.0 fs a.1 e a.2, finds_nothing text 0 a.0 fs a.1)
+
+pub first_none_if_accepted : FirstNoneIfAccepted
+first_none_if_accepted text limit fs l (inl (a, b)) = none_if_accepted text fs a
+first_none_if_accepted text limit fs l (inr (e, (to, f))) = (
+  λ n. absurd (omega (arith, l, e, ap length n)),
+  finds_nothing text 0 to fs f,
+)

@@ -4,9 +4,10 @@ mod Ending
 mod Finding
 mod Furthest
 mod Leaving
+mod Lines
 mod Near
 mod Passing
 mod Points
 mod Rooms
-mod Searching
+pub mod Searching
 mod Slips

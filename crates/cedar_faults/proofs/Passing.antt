@@ -1,19 +1,17 @@
 -- What is passed over after a fault.
-use Rattle.std.specs.Prelude.{◌≡◌, ◌≢◌, ◌+◌, ◌<◌, ◌≤◌, ◌-◌, ℕ, true, false, List, [], ◌∷◌, ◌++◌, length, take, drop, slice_range, Some, codes}
+use Rattle.std.specs.Prelude.{◌≡◌, ◌≢◌, ◌+◌, ◌<◌, ◌≤◌, ◌-◌, ℕ, false, List, [], ◌∷◌, ◌++◌, length, take, drop, slice_range, codes}
 use Rattle.std.specs.List.{list_any, sum_by}
 use Rattle.std.specs.Str.{IsUtf8, IsCharBoundary}
-use Rattle.std.proofs.Common.{refl, sym, ap, ◌∙◌, arith, subst, inl, inr}
-use Rattle.std.proofs.lemmas.List.{drop-drop, length-drop, length-take, length-take-le}
+use Rattle.std.proofs.Common.{refl, ap, ◌∙◌, arith, subst, inl, inr}
+use Rattle.std.proofs.lemmas.List.{drop-drop, length-drop, length-take}
 use Rattle.std.proofs.lemmas.Str.{IsUtf8-drop, IsCharBoundary-from_drop}
 use Rattle.std.proofs.lemmas.List.Sums.{sum_by-append}
 use Rattle.std.proofs.lemmas.List.Folds.{list_any-append}
 use Rattle.cedar_pieces.specs.Pieces.{is_semicolon}
 use Rattle.cedar_pieces.proofs.Semicolons.{differs}
 use Rattle.cedar_tokens.proofs.FirstUnit.{unit_nonempty, unit_boundary}
-use Rattle.cedar_tokens.specs.Units.{IsUnit, IsFirstUnit, BeginsNoUnit, FindsLongest}
-use Rattle.cedar_tokens.proofs.Prefixes.{begins_fits, longest_unique}
-use Rattle.cedar_faults.specs.Marks.{EndsCharacter}
-use Rattle.cedar_faults.specs.Recovery.{IsPassed, Passes, Resumes, spans_lines}
+use Rattle.cedar_tokens.proofs.Prefixes.{begins_fits}
+use Rattle.cedar_faults.specs.Recovery.{IsPassed, Passes, Resumes}
 
 -- passed over so far, from the byte `at` to the byte `end`; no `;` is among them
 pub record SoFar (text : List ℕ) (at end : ℕ) : Type 0 where
@@ -106,25 +104,6 @@ stops_at_end text at end s l = record {
   place = s.place;
   stops = inr (omega (arith, s.inside, l), s.none);
 }
-
-pub unit_passed : (text : List ℕ) (n : ℕ) → FindsLongest IsUnit text (Some n)
-    → spans_lines (take n text) ≡ false → IsPassed text (take n text)
-unit_passed text n f h = inl (f.1, h)
-
--- no unit is the first, or only one that spans lines
-pub spanning : (text : List ℕ) (n : ℕ) → FindsLongest IsUnit text (Some n)
-    → spans_lines (take n text) ≡ true → (v : List ℕ) → IsFirstUnit text v → spans_lines v ≡ true
-spanning text n f h v g = ap spans_lines (longest_unique IsUnit text v (take n text) g f.1) ∙ h
-
-pub no_first : (text : List ℕ) → BeginsNoUnit text → (v : List ℕ) → IsFirstUnit text v
-    → spans_lines v ≡ true
-no_first text n v f = absurd (n v f.kind f.begins)
-
-pub character_passed : (text : List ℕ) (n : ℕ) → EndsCharacter text 0 n → n ≤ length text
-    → ((v : List ℕ) → IsFirstUnit text v → spans_lines v ≡ true) → IsPassed text (take n text)
-character_passed text n c l h =
-    let e : length (take n text) ≡ n = length-take-le n text l in
-    inr (h, subst (λ z. EndsCharacter text 0 z) (sym e) c, ap (λ z. take z text) (sym e))
 
 pub from_start : (text : List ℕ) (n : ℕ) → slice_range text 0 n ≡ take n text
 from_start text n = let e : n - 0 ≡ n = omega arith in ap (λ k. take k text) e

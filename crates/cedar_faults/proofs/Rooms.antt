@@ -10,7 +10,7 @@ use Rattle.cedar_tokens.proofs.UnitsSoFar.{units_length}
 use Rattle.cedar_tree.specs.declared.error.FormatError.{FormatError}
 use Rattle.cedar_tree.specs.declared.error.FormatError.TheVariants.{UnknownCharacter, UnfinishedString, NumberTooLarge, Grammar, TooDeep, NoDocument, Unsound, OutOfMemory}
 use Rattle.cedar_grammar.specs.Texts.{only_tokens}
-use Rattle.cedar_faults.specs.Faults.{IsFault}
+use Rattle.cedar_faults.specs.Faults.{IsFault, IsInText, moved}
 use Rattle.cedar_faults.specs.FirstFaults.{IsFirstOf}
 use Rattle.cedar_faults.specs.Inside.Searches.{HasRoom}
 use Rattle.cedar_faults.specs.Marks.{EndsLastToken, EndsUnit, Marks, MarksLast, MarksUnit}
@@ -64,4 +64,16 @@ has_room text by f h l =
       start = omega (arith, p.0, l);
       end = omega (arith, p.1, l);
       at = omega (arith, at, l);
+    }
+
+-- and it has its places in the text
+pub in_text : (text rest : List ℕ) (from : ℕ) (f : Fault) → rest ≡ drop from text
+    → from ≤ length text → IsFault rest f → IsInText text (moved from f)
+in_text text rest from f e l h =
+    let p = part_inside rest f.error f.part h.first h.part in
+    let at = reached_inside rest f.expected.at h.expects.reached in
+    record {
+      at = omega (arith, at, ap length e, length-drop from text, l);
+      start = omega (arith, p.0, ap length e, length-drop from text, l);
+      end = omega (arith, p.1, ap length e, length-drop from text, l);
     }

@@ -1,15 +1,16 @@
 -- A search goes on at characters of the text.
-use Rattle.std.specs.Prelude.{◌≡◌, ◌≤◌, ◌<◌, ◌+◌, ◌-◌, ◌⊎◌, ℕ, false, List, [], ◌∷◌, ◌++◌, length, drop, codes}
+use Rattle.std.specs.Prelude.{◌≡◌, ◌≤◌, ◌<◌, ◌+◌, ◌⊎◌, ℕ, false, List, [], ◌∷◌, ◌++◌, length, drop, codes}
 use Rattle.std.specs.List.{list_any, sum_by}
 use Rattle.std.specs.Str.{IsUtf8, IsCharBoundary}
-use Rattle.std.proofs.Common.{refl, sym, ap, arith, subst, inl, inr}
+use Rattle.std.proofs.Common.{refl, sym, ap, arith, subst, inl, inr, append-nil}
 use Rattle.std.proofs.lemmas.List.{drop-drop, length-drop}
 use Rattle.std.proofs.lemmas.List.Sums.{sum_by-append, sum_by-cons}
 use Rattle.std.proofs.lemmas.Str.{IsUtf8-drop, IsCharBoundary-from_drop}
 use Rattle.cedar_tree.specs.declared.error.FormatError.{FormatError}
 use Rattle.cedar_pieces.specs.Pieces.{is_semicolon}
 use Rattle.cedar_pieces.proofs.Accepted.{accepted_empty}
-use Rattle.cedar_faults.specs.Faults.{IsFault}
+use Rattle.cedar_faults.specs.Faults.{AreFaults, AreFaultsFrom, IsFault, SearchFinds}
+use Rattle.cedar_faults.specs.Faults.SearchFinds.{nothing, policy, fault}
 use Rattle.cedar_faults.specs.FirstFaults.{IsFirstOf}
 use Rattle.cedar_faults.specs.Inside.Searches.{IsInside}
 use Rattle.cedar_faults.specs.Recovery.{Passes, Resumes}
@@ -29,6 +30,7 @@ inside_more text from n rest i b =
       inside = l;
       boundary = IsCharBoundary-from_drop text (from + n) l (subst (λ z. IsUtf8 z)
           (drop-drop n from text) (IsUtf8-drop (drop from text) n rest b));
+      size = i.size;
     }
 
 -- what is passed over ends at a character
@@ -79,7 +81,17 @@ resumes_further text f to h r = go r.stops
         (arith, r.place, ap (sum_by length) e, sum_by-append length front (codes ";" ∷ []))
     go (inr (e, n)) = omega (arith, e, nonempty text f.error h.first)
 
--- what is left of the rest is left of the text
-pub next_at : (text rest : List ℕ) (from to : ℕ) → rest ≡ drop from text → from ≤ length text
-    → to ≤ length rest → length text - (length rest - to) ≡ from + to
-next_at text rest from to e l m = omega (arith, l, m, ap length e, length-drop from text)
+-- one search after the other
+pub finds_on : (text : List ℕ) (from at to : ℕ) (fs gs : List Fault) → SearchFinds text from fs at
+    → SearchFinds text at gs to → SearchFinds text from (fs ++ gs) to
+finds_on text from at to fs gs (nothing a) h = h
+finds_on text from at to fs gs (policy a n b hs p more) h =
+    policy a n to (hs ++ gs) p (finds_on text (a + n) at to hs gs more h)
+finds_on text from at to fs gs (fault a n b f hs i r more) h =
+    fault a n to f (hs ++ gs) i r (finds_on text (a + n) at to hs gs more h)
+
+-- a search that comes to an end has found all faults
+pub all_found : (text : List ℕ) (at : ℕ) (fs : List Fault) → SearchFinds text 0 fs at
+    → AreFaultsFrom text at [] → AreFaults text fs
+all_found text at fs s (to, f, a) =
+    (to, subst (λ z. SearchFinds text 0 z to) (append-nil fs) (finds_on text 0 at to fs [] s f), a)

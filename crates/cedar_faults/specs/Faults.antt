@@ -1,6 +1,7 @@
 -- The faults of a text: for each policy that isn't accepted, the first byte at which no accepted text continues.
-use Rattle.std.specs.Prelude.{◌≡◌, ◌↔◌, ◌+◌, ◌<◌, ℕ, IsTrue, List, [], ◌∷◌, length, take, drop, slice_range, Option, Some, None}
+use Rattle.std.specs.Prelude.{◌≡◌, ◌↔◌, ◌⊎◌, ◌+◌, ◌<◌, ◌≤◌, ℕ, IsTrue, List, [], ◌∷◌, length, take, drop, slice_range, Option, Some, None, ⊤}
 use Rattle.std.specs.Option.{option_map}
+use Rattle.std.specs.Str.{IsCharBoundary}
 use Rattle.cedar_tokens.specs.declared.token.Span.{Span}
 use Rattle.cedar_grammar.specs.Texts.{only_tokens, Accepted}
 use Rattle.cedar_tree.specs.declared.error.FormatError.{FormatError}
@@ -13,6 +14,8 @@ use Rattle.cedar_faults.specs.FirstFaults.{IsFirstOf, Reaches, place_of}
 use Rattle.cedar_faults.specs.Marks.{Marks}
 use Rattle.cedar_faults.specs.Recovery.{Resumes}
 use Rattle.cedar_faults.specs.declared.fault.Fault.{Fault}
+use Rattle.cedar_faults.specs.declared.reader.Step.{Step}
+use Rattle.cedar_faults.specs.declared.reader.Step.TheVariants as step
 
 -- what could be there, and whether the text could end there
 pub record Expects (text : List ℕ) (e : Expected) : Type 0 where
@@ -53,22 +56,59 @@ moved by f = record {
   expected = record { at = by + f.expected.at; found = f.expected.found; kinds = f.expected.kinds; names = f.expected.names; end = f.expected.end };
 }
 
--- The faults of a text from the byte `from` on: an accepted policy is passed over with the rest of its line; a faulty one has its
--- first fault, after which reading continues; and where all that is left is accepted there are none.
-pub data AreFaultsFrom (text : List ℕ) : ℕ → List Fault → Type 0 where
-  none : (from : ℕ) → Accepted (drop from text) → AreFaultsFrom text from []
-  policy : (from n : ℕ) (fs : List Fault) → IsPiece (drop from text) n → Accepted (take n (drop from text)) → AreFaultsFrom text (from + n) fs → AreFaultsFrom text from fs
-  fault : (from n : ℕ) (f : Fault) (fs : List Fault) → IsFault (drop from text) f → Resumes (drop from text) f.expected.at n → AreFaultsFrom text (from + n) fs → AreFaultsFrom text from (moved from f ∷ fs)
+-- an accepted policy and the rest of its line come first: n bytes
+pub record BeginsWithPolicy (text : List ℕ) (n : ℕ) : Type 0 where
+  pub boundary : IsCharBoundary text n
+  pub piece : IsPiece text n
+  pub accepted : Accepted (take n text)
+
+-- A search of a text from the byte `from` on finds these faults, and then continues at the byte `to`: an accepted policy is passed
+-- over with the rest of its line; a faulty one has its first fault, after which reading continues.
+pub data SearchFinds (text : List ℕ) : ℕ → List Fault → ℕ → Type 0 where
+  nothing : (from : ℕ) → SearchFinds text from [] from
+  policy : (from n to : ℕ) (fs : List Fault) → BeginsWithPolicy (drop from text) n → SearchFinds text (from + n) fs to → SearchFinds text from fs to
+  fault : (from n to : ℕ) (f : Fault) (fs : List Fault) → IsFault (drop from text) f → Resumes (drop from text) f.expected.at n
+      → SearchFinds text (from + n) fs to → SearchFinds text from (moved from f ∷ fs) to
+
+-- the faults of a text from a byte on: those that a search finds before all that is left is accepted
+abbrev pub AreFaultsFrom : List ℕ → ℕ → List Fault → Type 0
+AreFaultsFrom text from fs = (to : ℕ) × SearchFinds text from fs to × Accepted (drop to text)
 
 abbrev pub AreFaults : List ℕ → List Fault → Type 0
 AreFaults text fs = AreFaultsFrom text 0 fs
+
+-- the first faults of a text, at most `limit`: all of them, or the first so many that a search finds
+abbrev pub AreFirstFaults : List ℕ → ℕ → List Fault → Type 0
+AreFirstFaults text limit fs = (AreFaults text fs × (length fs ≤ limit)) ⊎ ((length fs ≡ limit) × ((to : ℕ) × SearchFinds text 0 fs to))
 
 -- a text, and the byte at which a search for its faults continues
 pub record Search : Type 0 where
   pub text : List ℕ
   pub at : ℕ
 
--- what a search finds next: no fault is left; or this one, and then those that the search finds from its new place on
+-- the places of a fault are places of the text
+pub record IsInText (text : List ℕ) (f : Fault) : Type 0 where
+  pub at : f.expected.at ≤ length text
+  pub start : f.part.start ≤ length text
+  pub end : f.part.end ≤ length text
+
+-- what a search finds next: no fault is left; or this one, and the search continues after it
 abbrev pub FindsNext : Search → Search → Option Fault → Type 0
 FindsNext old new None = AreFaultsFrom old.text old.at []
-FindsNext old new (Some f) = (fs : List Fault) → AreFaultsFrom old.text new.at fs → AreFaultsFrom old.text old.at (f ∷ fs)
+FindsNext old new (Some f) = SearchFinds old.text old.at (f ∷ []) new.at
+
+-- What comes next: an accepted policy, after which a search continues; a fault; or nothing, since all that is left is accepted.
+abbrev pub IsStep : Search → Search → Step → Type 0
+IsStep old new step.Policy = (n : ℕ) × BeginsWithPolicy (drop old.at old.text) n × (new.at ≡ old.at + n)
+IsStep old new (step.Fault f) = FindsNext old new (Some f)
+IsStep old new step.End = Accepted (drop old.at old.text)
+
+-- the places of the fault, if it is one, are places of the text
+abbrev pub IsStepInText : List ℕ → Step → Type 0
+IsStepInText text (step.Fault f) = IsInText text f
+IsStepInText text s = ⊤
+
+-- the search is further on, unless it has come to the end
+abbrev pub GoesOn : ℕ → ℕ → Step → Type 0
+GoesOn old new step.End = new ≡ old
+GoesOn old new s = old < new

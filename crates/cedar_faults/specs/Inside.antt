@@ -1,4 +1,5 @@
 -- Definitions used only by private contracts.
 pub mod Ends
 pub mod Beginnings
+pub mod Lines
 pub mod Searches

@@ -1,15 +1,19 @@
 -- Laws of faults.
-use Rattle.std.specs.Prelude.{◌≡◌, ◌≤◌, ◌↔◌, ℕ, List, [], Some}
+use Rattle.std.specs.Prelude.{◌≡◌, ◌<◌, ◌≤◌, ◌↔◌, ℕ, List, [], Some}
 use Rattle.cedar_grammar.specs.Texts.{Accepted}
 use Rattle.cedar_tree.specs.declared.error.FormatError.{FormatError}
 use Rattle.cedar_tree.specs.Refusals.{Refuses}
 use Rattle.cedar_faults.specs.declared.fault.Fault.{Fault}
-use Rattle.cedar_faults.specs.Faults.{AreFaults}
+use Rattle.cedar_faults.specs.Faults.{AreFaults, AreFirstFaults}
 use Rattle.cedar_faults.specs.FirstFaults.{IsFirstOf, Reaches, place_of}
 
 -- an accepted text has no faults, and any other has some
 abbrev pub NoneIfAccepted : Type 0
 NoneIfAccepted = (text : List ℕ) (fs : List Fault) → AreFaults text fs → (fs ≡ []) ↔ Accepted text
+
+-- so it is with its first faults, if any are asked for
+abbrev pub FirstNoneIfAccepted : Type 0
+FirstNoneIfAccepted = (text : List ℕ) (limit : ℕ) (fs : List Fault) → 0 < limit → AreFirstFaults text limit fs → (fs ≡ []) ↔ Accepted text
 
 -- no accepted text begins as this one does up to any place after its first fault
 abbrev pub FirstIsFurthest : Type 0

@@ -8,6 +8,8 @@ use Rattle.cedar_expected.specs.declared.expectation.Expected.{Expected}
 use Rattle.cedar_expected.specs.Messages.{expected_text}
 use Rattle.cedar_expected.specs.Sentences.{sentence}
 use Rattle.cedar_faults.specs.declared.fault.Fault.{Fault}
+use Rattle.cedar_faults.specs.declared.tips.Tip.{Tip}
+use Rattle.cedar_faults.specs.Tips.{told, tip_for}
 
 -- the code point of a character beyond ASCII
 abbrev pub code_point : List ℕ → List ℕ
@@ -29,3 +31,12 @@ sentence_of error e = expected_text e
 -- a fault in words
 abbrev pub said : Fault → List ℕ
 said f = sentence_of f.error f.expected
+
+-- a sentence, with a tip after it if there is one
+abbrev pub with_tip : List ℕ → Option Tip → List ℕ
+with_tip sentence None = sentence
+with_tip sentence (Some tip) = sentence ++ (codes "; " ++ told tip)
+
+-- a fault in words, with its tip
+abbrev pub message : Fault → List ℕ
+message f = with_tip (said f) (tip_for f)

@@ -1,9 +1,10 @@
 //! Laws of faults. They are about the definitions alone, so their bodies do nothing.
-ghost use Rattle.cedar_faults.specs.Laws.{FirstIsBeforeRefusal, FirstIsFurthest, NoneIfAccepted};
+ghost use Rattle.cedar_faults.specs.Laws.{FirstIsBeforeRefusal, FirstIsFurthest, FirstNoneIfAccepted, NoneIfAccepted};
 
-/// An accepted text has no faults, and any other has some.
+/// An accepted text has no faults, and any other has some; so it is with its first faults, if any are asked for.
 pub fn none_if_accepted()
-    ensures { NoneIfAccepted }
+    ensures all { NoneIfAccepted }
+    ensures first { FirstNoneIfAccepted }
 {}
 
 /// No accepted text begins as a text does up to any place after its first fault.

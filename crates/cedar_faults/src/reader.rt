@@ -1,8 +1,8 @@
 //! The faults of a text, one after the other.
-ghost use Rattle.std.specs.Prelude.{◌≡◌, ◌<◌, [], IfOk, MatchOption, OnErr};
+ghost use Rattle.std.specs.Prelude.{◌≡◌, ◌<◌, ◌≤◌, ◌+◌, [], length, drop, IfOk, IfSome, MatchOption, OnErr, Some};
 ghost use Rattle.cedar_faults.specs.FirstFaults.{IsFirstOf};
 ghost use Rattle.cedar_faults.specs.Inside.Searches.{Finds, IsInside};
-ghost use Rattle.cedar_faults.specs.Faults.{AreFaultsFrom, FindsNext, IsFault};
+ghost use Rattle.cedar_faults.specs.Faults.{AreFaultsFrom, BeginsWithPolicy, FindsNext, GoesOn, IsFault, IsInText, IsStep, IsStepInText};
 
 use crate::beginnings::{Beginning, read_beginning};
 use crate::fault::Fault;
@@ -50,24 +50,96 @@ impl<'src> FaultReader<'src> {
         }
     }
 
+    /// The byte at which the search for the next fault begins.
+    pub fn at(&self) -> usize
+        ensures { result ≡ self.now.at }
+    {
+        self.at
+    }
+
+    /// The text from the byte on at which the search for the next fault begins.
+    pub fn rest(&self) -> &'src str
+        ensures { result.now ≡ drop self.now.at self.now.text }
+    {
+        &self.text[self.at..]
+    }
+
     /// The next fault of the text, with its places in the whole text; `None` if there is none, however often it is called.
     /// After an error it is unchanged.
     pub fn next(&mut self, alloc: Global) -> Result<Option<Fault<'src>>, AllocError>
         ensures faults { IfOk result (FindsNext self.old self.new) }
         ensures text { self.new.text ≡ self.old.text }
+        ensures inside { IfOk result (λ next. IfSome next (IsInText self.old.text)) }
+        ensures end { self.new.at ≤ length self.new.text }
         ensures further { IfOk result (λ next. MatchOption next (self.new ≡ self.old) (λ _. self.old.at < self.new.at)) }
         ensures refused { OnErr result (self.new ≡ self.old) }
     {
-        let text = self.text;
-        let Some(found) = find(alloc, text, self.at, &mut self.room)? else {
+        let Some(found) = find(alloc, self.text, self.at, &mut self.room)? else {
             return Ok(None);
         };
-        let rest = &text[found.from..];
-        let fault = describe(alloc, rest, found.error)?;
-        let left = rest.len() - resume(rest, fault.expected.at);
-        self.at = text.len() - left;
-        Ok(Some(moved(fault, found.from)))
+        Ok(Some(self.take(alloc, found)?))
     }
+
+    /// What comes next in the text: an accepted policy, after which the search continues; the next fault, as `next` gives it;
+    /// or the end. After an error it is unchanged.
+    pub fn step(&mut self, alloc: Global) -> Result<Step<'src>, AllocError>
+        ensures step { IfOk result (IsStep self.old self.new) }
+        ensures text { self.new.text ≡ self.old.text }
+        ensures inside { IfOk result (IsStepInText self.old.text) }
+        ensures further { IfOk result (GoesOn self.old.at self.new.at) }
+        ensures end { self.new.at ≤ length self.new.text }
+        ensures refused { OnErr result (self.new ≡ self.old) }
+    {
+        let from = self.at;
+        match read_beginning(alloc, &self.text[from..], &mut self.room)? {
+            Beginning::Policy(len) => {
+                self.at = from + len;
+                Ok(Step::Policy)
+            }
+            Beginning::End => Ok(Step::End),
+            Beginning::Faulty(error) => {
+                let fault = self.take(alloc, Found { from, error })?;
+                Ok(Step::Fault(fault))
+            }
+        }
+    }
+
+    /// Passes over an accepted policy with the rest of its line, `len` bytes that the caller knows to come next.
+    pub fn pass(&mut self, len: usize)
+        requires { BeginsWithPolicy (drop self.old.at self.old.text) len }
+        ensures text { self.new.text ≡ self.old.text }
+        ensures at { self.new.at ≡ self.old.at + len }
+    {
+        self.at += len;
+    }
+
+    // The fault that was found, with its places in the whole text. The search continues after it. After an error it is
+    // unchanged.
+    fn take(&mut self, alloc: Global, found: Found) -> Result<Fault<'src>, AllocError>
+        requires { Finds self.old.text self.old.at found }
+        ensures fault { IfOk result (λ fault. FindsNext self.old self.new (Some fault)) }
+        ensures text { self.new.text ≡ self.old.text }
+        ensures inside { IfOk result (IsInText self.old.text) }
+        ensures further { IfOk result (λ _. self.old.at < self.new.at) }
+        ensures end { self.new.at ≤ length self.new.text }
+        ensures refused { OnErr result (self.new ≡ self.old) }
+    {
+        let rest = &self.text[found.from..];
+        let fault = describe(alloc, rest, found.error)?;
+        self.at = found.from + resume(rest, fault.expected.at);
+        Ok(moved(fault, found.from))
+    }
+}
+
+/// What a search for faults meets next.
+#[derive(Debug, Drop)]
+pub enum Step<'src> {
+    /// An accepted policy with the rest of its line.
+    Policy,
+    /// A fault.
+    Fault(Fault<'src>),
+    /// Nothing: all that is left is accepted.
+    End,
 }
 
 // A policy that isn't accepted: where it begins, and its first fault, with its place counted from there.

@@ -1,11 +1,12 @@
 //! Faults in words.
-ghost use Rattle.std.specs.Prelude.{Some};
+ghost use Rattle.std.specs.Prelude.{◌≡◌, Some, IfOk, string_bytes};
 ghost use Rattle.std.specs.Fmt.{DisplaysOnOk};
 ghost use Rattle.std.specs.Str.{chars};
-ghost use Rattle.cedar_faults.specs.Words.{code_point, found_point, said};
+ghost use Rattle.cedar_faults.specs.Words.{code_point, found_point, message, said};
 
 use crate::fault::Fault;
 use cedar_tree::error::FormatError;
+use std::alloc::{AllocError, Global};
 use std::fmt;
 
 impl fmt::Display for Fault<'_> {
@@ -26,6 +27,18 @@ impl fmt::Display for Fault<'_> {
                 f.write_str("nested too deeply: more than 128 brackets and ifs")
             }
             _ => write!(f, "{expected}"),
+        }
+    }
+}
+
+impl Fault<'_> {
+    /// The fault in words, with its tip if there is one: `SENTENCE; TIP`.
+    pub fn message(&self, alloc: Global) -> Result<String, AllocError>
+        ensures { IfOk result (λ text. string_bytes text ≡ message self.now) }
+    {
+        match self.tip() {
+            Some(tip) => format!(in alloc; "{self}; {tip}"),
+            None => format!(in alloc; "{self}"),
         }
     }
 }

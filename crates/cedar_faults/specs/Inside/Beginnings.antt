@@ -1,5 +1,5 @@
 -- What a text begins with.
-use Rattle.std.specs.Prelude.{◌≡◌, ◌≢◌, ◌<◌, ℕ, false, List, length, take, drop}
+use Rattle.std.specs.Prelude.{◌≡◌, ◌≢◌, ◌<◌, ℕ, false, List, length, drop}
 use Rattle.std.specs.List.{list_any, sum_by}
 use Rattle.std.specs.Str.{IsCharBoundary}
 use Rattle.cedar_tokens.specs.Split.{Scans, IsFirstFault, fault_kind}
@@ -9,21 +9,15 @@ use Rattle.cedar_grammar.specs.Texts.{Accepted}
 use Rattle.cedar_tree.specs.declared.error.FormatError.{FormatError}
 use Rattle.cedar_tree.specs.declared.error.FormatError.TheVariants.{UnknownCharacter, UnfinishedString, NumberTooLarge, Grammar}
 use Rattle.cedar_tree.specs.Refusals.{Refuses}
-use Rattle.cedar_pieces.specs.Pieces.{IsPiece}
 use Rattle.cedar_faults.specs.declared.beginnings.Beginning.{Beginning}
 use Rattle.cedar_faults.specs.declared.beginnings.Beginning.TheVariants.{Policy, End, Faulty}
 use Rattle.cedar_faults.specs.declared.beginnings.TokenFault.{TokenFault}
 use Rattle.cedar_faults.specs.FirstFaults.{IsFirstOf, IsTooLargeAt}
-
--- an accepted policy and the rest of its line come first
-pub record IsPolicy (text : List ℕ) (n : ℕ) : Type 0 where
-  pub boundary : IsCharBoundary text n
-  pub piece : IsPiece text n
-  pub accepted : Accepted (take n text)
+use Rattle.cedar_faults.specs.Faults.{BeginsWithPolicy}
 
 -- the text begins with this
 abbrev pub Is : List ℕ → Beginning → Type 0
-Is text (Policy n) = IsPolicy text n
+Is text (Policy n) = BeginsWithPolicy text n
 Is text End = Accepted text
 Is text (Faulty e) = IsFirstOf text e
 

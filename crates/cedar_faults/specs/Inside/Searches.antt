@@ -1,15 +1,16 @@
 -- How far a search for faults has come.
-use Rattle.std.specs.Prelude.{◌≤◌, ◌<◌, ◌+◌, ◌^◌, ℕ, List, length, drop, MatchOption, ⊤}
+use Rattle.std.specs.Prelude.{◌≤◌, ◌<◌, ◌+◌, ◌^◌, ℕ, List, [], length, drop, MatchOption, ⊤}
 use Rattle.std.specs.Str.{IsCharBoundary}
 use Rattle.cedar_faults.specs.declared.fault.Fault.{Fault}
 use Rattle.cedar_faults.specs.declared.reader.Found.{Found}
-use Rattle.cedar_faults.specs.Faults.{AreFaultsFrom}
+use Rattle.cedar_faults.specs.Faults.{SearchFinds}
 use Rattle.cedar_faults.specs.FirstFaults.{IsFirstOf, place_of}
 
--- a place between characters of the text
+-- a place between characters of the text, whose places are numbers of 64 bits
 pub record IsInside (text : List ℕ) (at : ℕ) : Type 0 where
   pub inside : at ≤ length text
   pub boundary : IsCharBoundary text at
+  pub size : length text < 2 ^ 64
 
 -- so many bytes later all places are still numbers of 64 bits
 pub record HasRoom (by : ℕ) (f : Fault) : Type 0 where
@@ -18,10 +19,9 @@ pub record HasRoom (by : ℕ) (f : Fault) : Type 0 where
   pub end : by + f.part.end < 2 ^ 64
   pub at : by + f.expected.at < 2 ^ 64
 
--- the policies from the byte `at` to where the faulty one begins are accepted; places in the text are numbers of 64 bits
+-- the policies from the byte `at` to where the faulty one begins are accepted
 pub record Finds (text : List ℕ) (at : ℕ) (found : Found) : Type 0 where
   pub inside : IsInside text found.from
   pub order : at ≤ found.from
-  pub size : length text < 2 ^ 64
   pub first : IsFirstOf (drop found.from text) found.error
-  pub passed : (fs : List Fault) → AreFaultsFrom text found.from fs → AreFaultsFrom text at fs
+  pub passed : SearchFinds text at [] found.from

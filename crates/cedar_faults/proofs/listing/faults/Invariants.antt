@@ -1,13 +1,12 @@
-use Rattle.std.proofs.Common.{◌≡◌, ◌-◌, ◌++◌, length, List}
-use Rattle.cedar_faults.specs.declared.fault.Fault.{Fault}
-use Rattle.cedar_faults.specs.Faults.{AreFaults, AreFaultsFrom}
+use Rattle.std.proofs.Common.{◌≡◌, ◌-◌, length}
+use Rattle.cedar_faults.specs.Faults.{SearchFinds}
 use Rattle.cedar_faults.proofs.listing.faults.Given as goal
 
--- the faults so far, and those that are left, are those of the text
+-- a search has found the faults so far
 abbrev pub invariant-faults : goal.invariant-faults
 invariant-faults l = record {
   of_text : l.reader.text ≡ l.text;
-  passed : (fs : List Fault) → AreFaultsFrom l.text l.reader.at fs → AreFaults l.text (l.faults.items ++ fs);
+  passed : SearchFinds l.text 0 l.faults.items l.reader.at;
 }
 
 abbrev pub decreases-faults : goal.decreases-faults

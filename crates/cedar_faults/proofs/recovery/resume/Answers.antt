@@ -1,31 +1,33 @@
-use Rattle.std.proofs.Common.{◌≢◌, arith}
-use Rattle.std.specs.Prelude.{codes}
-use Rattle.std.proofs.lemmas.Bool.Decides.{Decides-eqb}
-use Rattle.std.proofs.lemmas.Slice.Eq.{slice_eq-Decides}
-use Rattle.cedar_faults.proofs.Passing.{so_far_from, further, stops_here, goes_on}
+use Rattle.std.proofs.Common.{◌+◌, length, arith}
+use Rattle.cedar_faults.proofs.Passing.{stops_at_end}
+use Rattle.cedar_faults.proofs.Lines.{feed_passed, in_text, line_ends, line_of, semicolon_stops}
 use Rattle.cedar_faults.proofs.recovery.resume.Goals as goal
 
-pub loop-end-init : goal.loop-end-init
-loop-end-init c = so_far_from c.args.text.now c.args.at c.requires (omega (arith, c.requires))
+pub overflow_add-result : goal.overflow_add-result
+overflow_add-result c =
+    let line = c.first_line-line.result.now in
+    let f = line_of c.args.text.now c.range_from.result.now line c.lines.end c.range_from.ensures.value c.first_line-line.ensures in
+    let l = in_text c.args.text.now line c.args.at c.lines.end c.utf8.text c.lines.invariant f c.in-Some.len c.in-Some.ensures.inside in
+    omega (arith, l, c.range_from.ensures.len)
 
-pub returns-then-eq : goal.returns-then-eq
-returns-then-eq c =
-    let same = slice_eq-Decides Decides-eqb c.first_passed-passed.result.now _ c.eq.result c.eq.ensures in
-    stops_here c.args.text.now c.first_passed-passed.result.now c.range_from.result.now c.args.at
-    c.loop-end.end c.loop-end.invariant c.range_from.ensures.value c.first_passed-passed.ensures
-    c.range_from.utf8 (same.0 c.if-eq.true)
+pub returns-in-Some : goal.returns-in-Some
+returns-in-Some c =
+    let line = c.first_line-line.result.now in
+    let f = line_of c.args.text.now c.range_from.result.now line c.lines.end c.range_from.ensures.value c.first_line-line.ensures in
+    semicolon_stops c.args.text.now line c.args.at c.lines.end c.utf8.text c.lines.invariant f c.in-Some.len c.in-Some.ensures
 
-pub loop-end-smaller : goal.loop-end-smaller
-loop-end-smaller c =
-    further c.args.text.now c.first_passed-passed.result.now c.range_from.result.now c.args.at
-    c.loop-end.end c.loop-end.invariant c.range_from.ensures.value c.first_passed-passed.ensures
-    c.range_from.utf8
+pub returns-then-end-text : goal.returns-then-end-text
+returns-then-end-text c =
+    let text = c.args.text.now in
+    let line = c.first_line-line.result.now in
+    let f = line_of text c.range_from.result.now line c.lines.end c.range_from.ensures.value c.first_line-line.ensures in
+    let e = line_ends text line c.args.at c.lines.end c.utf8.text c.lines.invariant f c.in_default.ensures in
+    stops_at_end text c.args.at (c.lines.end + length line) e.0 (omega (arith, c.if-end-text.true))
 
-pub loop-end-preserved : goal.loop-end-preserved
-loop-end-preserved c =
-    let same = slice_eq-Decides Decides-eqb c.first_passed-passed.result.now _ c.eq.result c.eq.ensures in
-    let other : c.first_passed-passed.result.now ≢ codes ";" =
-    λ e. (let t = same.1 e in let f = c.if-eq.false in cc) in
-    goes_on c.args.text.now c.first_passed-passed.result.now c.range_from.result.now c.args.at
-    c.loop-end.end c.loop-end.invariant c.range_from.ensures.value c.first_passed-passed.ensures
-    c.range_from.utf8 other
+pub lines-preserved : goal.lines-preserved
+lines-preserved c =
+    let text = c.args.text.now in
+    let line = c.first_line-line.result.now in
+    let f = line_of text c.range_from.result.now line c.lines.end c.range_from.ensures.value c.first_line-line.ensures in
+    let e = line_ends text line c.args.at c.lines.end c.utf8.text c.lines.invariant f c.in_default.ensures in
+    feed_passed text f.tail c.args.at (c.lines.end + length line) c.utf8.text e.0 e.1 f.follows c.if-end-text.false
