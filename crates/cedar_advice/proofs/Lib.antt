@@ -1,0 +1,3 @@
+mod Expecting
+pub mod Lists
+mod Mending

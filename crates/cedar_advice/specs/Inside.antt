@@ -1,0 +1,2 @@
+-- Definitions used only by private contracts.
+pub mod Offers

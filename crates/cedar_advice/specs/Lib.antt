@@ -1,0 +1,5 @@
+pub mod Inside
+pub mod Diagnoses
+pub mod Fixes
+pub mod Completions
+pub mod Laws
