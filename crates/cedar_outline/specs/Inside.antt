@@ -1,0 +1,5 @@
+-- Definitions used only by private contracts.
+pub mod Ahead
+pub mod Heads
+pub mod Standing
+pub mod Folding

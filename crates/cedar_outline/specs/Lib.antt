@@ -1,0 +1,9 @@
+pub mod Parts
+pub mod PartSteps
+pub mod Classes
+pub mod Semantic
+pub mod Sections
+pub mod Symbols
+pub mod Folds
+pub mod Placed
+pub mod Inside

@@ -1,0 +1,1 @@
+permit(principl, action, resource) when { permit(1) && context.when() && a has "x" };

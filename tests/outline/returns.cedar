@@ -1,0 +1,4 @@
+// One.
+// Two.
+permit(
+  principal, action, resource);

@@ -1,0 +1,4 @@
+@id("")
+@id("b")
+permit(principal, action, resource) when { "x
+y" == "z" };
