@@ -206,6 +206,11 @@ fn request_of(alloc: Global, method: &str, text: &str) -> Result<Request, AllocE
         "textDocument/formatting" | "textDocument/willSaveWaitUntil" => formatting(alloc, text),
         "textDocument/rangeFormatting" => range_formatting(alloc, text),
         "textDocument/onTypeFormatting" => on_type_formatting(alloc, text),
+        "textDocument/codeAction" => code_action(alloc, text),
+        "textDocument/completion" => completion(alloc, text),
+        "textDocument/semanticTokens/full" => tokens(alloc, text),
+        "textDocument/documentSymbol" => symbols(alloc, text),
+        "textDocument/foldingRange" => folds(alloc, text),
         _ => Ok(Request::Other),
     }
 }
@@ -297,6 +302,61 @@ fn on_type_formatting(alloc: Global, text: &str) -> Result<Request, AllocError> 
             },
         },
         None => Request::Malformed,
+    })
+}
+
+fn code_action(alloc: Global, text: &str) -> Result<Request, AllocError> {
+    let Some(Message { params }) = read::<Message<Selecting>>(alloc, text)? else {
+        return Ok(Request::Malformed);
+    };
+    Ok(match range_of(&params.range) {
+        Some(range) => Request::Fixes {
+            uri: params.text_document.uri,
+            range,
+        },
+        None => Request::Malformed,
+    })
+}
+
+fn completion(alloc: Global, text: &str) -> Result<Request, AllocError> {
+    let Some(Message { params }) = read::<Message<Typing>>(alloc, text)? else {
+        return Ok(Request::Malformed);
+    };
+    Ok(match position_of(&params.position) {
+        Some(position) => Request::Completion {
+            uri: params.text_document.uri,
+            position,
+        },
+        None => Request::Malformed,
+    })
+}
+
+fn tokens(alloc: Global, text: &str) -> Result<Request, AllocError> {
+    Ok(match named(alloc, text)? {
+        Some(uri) => Request::Tokens { uri },
+        None => Request::Malformed,
+    })
+}
+
+fn symbols(alloc: Global, text: &str) -> Result<Request, AllocError> {
+    Ok(match named(alloc, text)? {
+        Some(uri) => Request::Symbols { uri },
+        None => Request::Malformed,
+    })
+}
+
+fn folds(alloc: Global, text: &str) -> Result<Request, AllocError> {
+    Ok(match named(alloc, text)? {
+        Some(uri) => Request::Folds { uri },
+        None => Request::Malformed,
+    })
+}
+
+// The URI of the document that a request is about.
+fn named(alloc: Global, text: &str) -> Result<Option<String>, AllocError> {
+    Ok(match read::<Message<OfDocument>>(alloc, text)? {
+        Some(Message { params }) => Some(params.text_document.uri),
+        None => None,
     })
 }
 

@@ -1,6 +1,8 @@
 //! Messages to the client, as JSON with their heads.
+use crate::outline::{folds_value, range_value, symbols_value, token_types, tokens_value};
 use cedar_server::{
-    Answer, Diagnosis, Edit, Encoding, Failure, Fault, FormatError, Id, Range, ServerMessage,
+    Answer, Code, Completions, Diagnosis, Edit, Encoding, Failure, Fault, Fix, Id, Kind, Range,
+    ServerMessage, sample,
 };
 use serde_json::{Value, json};
 use std::alloc::{AllocError, Global};
@@ -13,8 +15,8 @@ pub fn encode(alloc: Global, message: ServerMessage) -> Result<String, AllocErro
         ServerMessage::Diagnostics {
             uri,
             version,
-            diagnosis,
-        } => diagnostics(alloc, uri, version, diagnosis),
+            diagnoses,
+        } => diagnostics(alloc, uri, version, diagnoses),
         ServerMessage::Notice { uri } => notice(alloc, uri),
     }
 }
@@ -68,6 +70,11 @@ fn response(alloc: Global, id: Id, answer: Answer) -> Result<String, AllocError>
         } => capabilities(alloc, encoding, formats_on_save)?,
         Answer::Nothing => Value::Null,
         Answer::Edits(edits) => edits_value(alloc, edits)?,
+        Answer::Fixes { uri, fixes } => fixes_value(alloc, uri, fixes)?,
+        Answer::Completions(completions) => completions_value(alloc, completions)?,
+        Answer::Tokens(tokens) => tokens_value(alloc, tokens)?,
+        Answer::Symbols(symbols) => symbols_value(alloc, symbols)?,
+        Answer::Folds(folds) => folds_value(alloc, folds)?,
         Answer::Failure(failure) => {
             let (code, message) = words_of(failure);
             return error(alloc, id_value(id), code, message);
@@ -103,6 +110,7 @@ fn capabilities(
         Encoding::Utf8 => "utf-8",
         Encoding::Utf32 => "utf-32",
     };
+    let types = token_types(alloc)?;
     json!(in alloc; {
         "capabilities": {
             "positionEncoding": encoding,
@@ -110,6 +118,11 @@ fn capabilities(
             "documentFormattingProvider": true,
             "documentRangeFormattingProvider": true,
             "documentOnTypeFormattingProvider": {"firstTriggerCharacter": ";"},
+            "codeActionProvider": {"codeActionKinds": ["quickfix"]},
+            "completionProvider": {},
+            "documentSymbolProvider": true,
+            "foldingRangeProvider": true,
+            "semanticTokensProvider": {"legend": {"tokenTypes": types, "tokenModifiers": []}, "full": true},
         },
         "serverInfo": {"name": "cedar-lsp"},
     })
@@ -128,26 +141,17 @@ fn edit_value(alloc: Global, edit: Edit) -> Result<Value, AllocError> {
     json!(in alloc; {"range": range, "newText": edit.text})
 }
 
-fn range_value(alloc: Global, range: Range) -> Result<Value, AllocError> {
-    json!(in alloc; {
-        "start": {"line": range.start.line, "character": range.start.character},
-        "end": {"line": range.end.line, "character": range.end.character},
-    })
-}
-
 fn diagnostics(
     alloc: Global,
     uri: String,
     version: Option<i64>,
-    diagnosis: Option<Diagnosis>,
+    diagnoses: Vec<Diagnosis>,
 ) -> Result<String, AllocError> {
-    let list = match diagnosis {
-        Some(diagnosis) => {
-            let value = diagnosis_value(alloc, diagnosis)?;
-            json!(in alloc; [value])?
-        }
-        None => json!(in alloc; [])?,
-    };
+    let mut list = Vec::new(alloc);
+    for diagnosis in diagnoses {
+        list.push(diagnosis_value(alloc, diagnosis)?)?;
+    }
+    let list = Value::Array(list);
     let params = match version {
         Some(version) => { json!(in alloc; {"uri": uri, "version": version, "diagnostics": list})? }
         None => json!(in alloc; {"uri": uri, "diagnostics": list})?,
@@ -180,20 +184,70 @@ fn diagnosis_value(alloc: Global, diagnosis: Diagnosis) -> Result<Value, AllocEr
     json!(in alloc; {
         "range": range,
         "severity": 1,
-        "code": code_of(diagnosis.error),
+        "code": name_of(diagnosis.code),
         "source": "cedar",
         "message": diagnosis.message,
     })
 }
 
-// The kind of a refusal.
-fn code_of(error: FormatError) -> &'static str {
-    match error {
-        FormatError::UnknownCharacter { .. } => "unknown-character",
-        FormatError::UnfinishedString { .. } => "unfinished-string",
-        FormatError::NumberTooLarge { .. } => "number-too-large",
-        FormatError::Grammar { .. } => "grammar",
-        FormatError::TooDeep { .. } => "too-deep",
-        FormatError::NoDocument | FormatError::Unsound | FormatError::OutOfMemory => "internal",
+// The name of a code.
+fn name_of(code: Code) -> &'static str {
+    match code {
+        Code::UnknownCharacter => "unknown-character",
+        Code::UnfinishedString => "unfinished-string",
+        Code::NumberTooLarge => "number-too-large",
+        Code::Grammar => "grammar",
+        Code::TooDeep => "too-deep",
     }
+}
+
+fn fixes_value(alloc: Global, uri: String, fixes: Vec<Fix>) -> Result<Value, AllocError> {
+    let mut values = Vec::new(alloc);
+    for fix in fixes {
+        values.push(fix_value(alloc, uri.as_str(), fix)?)?;
+    }
+    Ok(Value::Array(values))
+}
+
+// An action that replaces the part that a fault is about.
+fn fix_value(alloc: Global, uri: &str, fix: Fix) -> Result<Value, AllocError> {
+    let token = sample(fix.kind);
+    let title = format!(in alloc; "Replace with '{token}'")?;
+    let range = range_value(alloc, fix.diagnosis.range)?;
+    let edits = json!(in alloc; [{"range": range, "newText": token}])?;
+    let changes = json!(in alloc; {uri: edits})?;
+    let diagnosis = diagnosis_value(alloc, fix.diagnosis)?;
+    json!(in alloc; {
+        "title": title,
+        "kind": "quickfix",
+        "diagnostics": [diagnosis],
+        "isPreferred": true,
+        "edit": {"changes": changes},
+    })
+}
+
+fn completions_value(alloc: Global, completions: Completions) -> Result<Value, AllocError> {
+    let mut items = Vec::new(alloc);
+    for kind in completions.kinds {
+        items.push(item_value(alloc, kind, completions.range)?)?;
+    }
+    Ok(Value::Array(items))
+}
+
+// The protocol's kinds of a keyword and of an operator.
+const KEYWORD: u8 = 14;
+
+const OPERATOR: u8 = 24;
+
+// A token that could come in place of a range.
+fn item_value(alloc: Global, kind: Kind, range: Range) -> Result<Value, AllocError> {
+    let token = sample(kind);
+    let is_word = token.ends_with(|character: char| character.is_ascii_lowercase());
+    let item = if is_word { KEYWORD } else { OPERATOR };
+    let range = range_value(alloc, range)?;
+    json!(in alloc; {
+        "label": token,
+        "kind": item,
+        "textEdit": {"range": range, "newText": token},
+    })
 }

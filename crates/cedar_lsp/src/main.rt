@@ -5,6 +5,7 @@ mod client;
 mod decode;
 mod encode;
 mod frames;
+mod outline;
 mod params;
 mod project;
 mod words;

@@ -8,7 +8,7 @@ pub struct Message<P> {
     pub params: P,
 }
 
-/// Of `didClose`, `formatting` and `willSaveWaitUntil`, and what tells the document of any other.
+/// Of `didClose`, `formatting`, `willSaveWaitUntil` and other requests about a whole document, and what tells the document of any other.
 #[derive(Drop, Deserialize)]
 #[serde(rename_all = "camelCase")]
 pub struct OfDocument {
@@ -54,7 +54,7 @@ pub struct ContentChange {
     pub text: String,
 }
 
-/// Of `rangeFormatting`.
+/// Of `rangeFormatting` and `codeAction`.
 #[derive(Drop, Deserialize)]
 #[serde(rename_all = "camelCase")]
 pub struct Selecting {
@@ -62,7 +62,7 @@ pub struct Selecting {
     pub range: Span,
 }
 
-/// Of `onTypeFormatting`.
+/// Of `onTypeFormatting` and `completion`.
 #[derive(Drop, Deserialize)]
 #[serde(rename_all = "camelCase")]
 pub struct Typing {

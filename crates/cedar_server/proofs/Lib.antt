@@ -1,6 +1,6 @@
-pub mod Ending
 pub mod Layouts
 pub mod Losing
 pub mod Maps
 pub mod Talks
 pub mod Standing
+mod Told

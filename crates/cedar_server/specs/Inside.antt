@@ -1,3 +1,2 @@
 -- Definitions used only by private contracts.
-pub mod Ends
 pub mod Standing

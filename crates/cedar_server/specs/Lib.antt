@@ -1,6 +1,6 @@
-pub mod Inside
-pub mod Marks
-pub mod Diagnoses
 pub mod Layouts
+pub mod Advice
+pub mod Outline
 pub mod Sessions
 pub mod Talks
+pub mod Inside

@@ -2,6 +2,9 @@
 use Rattle.std.specs.Prelude.{◌≡◌, ◌≢◌, ◌⊎◌, ℕ, ℤ, pos, List, [], ◌∷◌, ◌++◌, map, All, Any, Option, Some, None, MatchOption, option_map, unwrap_or, String, string_bytes, ⊤}
 use Rattle.std.specs.declared.alloc.Global.{Global}
 use Rattle.std.specs.BTreeMap.{BTreeMap, get_by_text}
+use Rattle.std.specs.declared.vec.Vec.{Vec}
+use Rattle.cedar_advice.specs.declared.diagnoses.Diagnosis.{Diagnosis}
+use Rattle.cedar_advice.specs.Diagnoses.{AreDiagnoses}
 use Rattle.cedar_positions.specs.declared.positions.Encoding.{Encoding}
 use Rattle.cedar_positions.specs.declared.positions.Encoding.TheVariants.{Utf16}
 use Rattle.cedar_positions.specs.declared.changes.Change.{Change}
@@ -12,7 +15,6 @@ use Rattle.cedar_server.specs.declared.messages.Answer.TheVariants as answer
 use Rattle.cedar_server.specs.declared.messages.ClientMessage.{ClientMessage}
 use Rattle.cedar_server.specs.declared.messages.ClientMessage.TheVariants as client
 use Rattle.cedar_server.specs.declared.messages.ClientOptions.{ClientOptions}
-use Rattle.cedar_server.specs.declared.messages.Diagnosis.{Diagnosis}
 use Rattle.cedar_server.specs.declared.messages.Failure.TheVariants.{NotInitialized, InvalidRequest, MethodNotFound, InvalidParams, NotOpen, Lost, OutOfMemory}
 use Rattle.cedar_server.specs.declared.messages.Fault.{Fault}
 use Rattle.cedar_server.specs.declared.messages.Fault.TheVariants.{NoMessage}
@@ -31,8 +33,9 @@ use Rattle.cedar_server.specs.declared.documents.Document.TheVariants as documen
 use Rattle.cedar_server.specs.declared.server.Phase.{Phase}
 use Rattle.cedar_server.specs.declared.server.Phase.TheVariants.{Starting, Running, ShutDown, Ended}
 use Rattle.cedar_server.specs.declared.server.Server.{Server}
-use Rattle.cedar_server.specs.Diagnoses.{IsDiagnosis}
+use Rattle.cedar_server.specs.Advice.{Completes, GivesFixes}
 use Rattle.cedar_server.specs.Layouts.{LaysOut, LaysOutPart}
+use Rattle.cedar_server.specs.Outline.{ShowsFolds, ShowsSymbols, ShowsTokens}
 
 -- an open document: its text with the number that the client gave it, or the text is lost
 pub data State : Type 0 where
@@ -132,16 +135,16 @@ pub record Sets (uri : List ℕ) (state : Option State) (s t : Server) : Type 0 
   pub wishes : t.wishes ≡ s.wishes
 
 -- one message, which says what is wrong with the text of this number of the document with this URI
-abbrev pub Diagnoses : (Option Diagnosis → Type 0) → Option ℤ → List ℕ → List ServerMessage → Type 0
-Diagnoses Holds version uri told = (name : String Global) × (d : Option Diagnosis) × (told ≡ Diagnostics name version d ∷ []) × (string_bytes name ≡ uri) × Holds d
+abbrev pub Diagnoses : (List Diagnosis → Type 0) → Option ℤ → List ℕ → List ServerMessage → Type 0
+Diagnoses Holds version uri told = (name : String Global) × (ds : Vec Diagnosis Global) × (told ≡ Diagnostics name version ds ∷ []) × (string_bytes name ≡ uri) × Holds ds.items
 
 -- one message, which clears what was reported about the document with this URI
 abbrev pub Clears : List ℕ → List ServerMessage → Type 0
-Clears uri told = Diagnoses (λ d. d ≡ None) None uri told
+Clears uri told = Diagnoses (λ ds. ds ≡ []) None uri told
 
 -- what is wrong with this document is reported, if it has a text
 abbrev pub Judges : Encoding → List ℕ → Option State → List ServerMessage → Type 0
-Judges e uri (Some (known version text)) told = Diagnoses (IsDiagnosis e text) version uri told
+Judges e uri (Some (known version text)) told = Diagnoses (AreDiagnoses e text) version uri told
 Judges e uri o told = told ≡ []
 
 -- that is reported after what was reported before
@@ -164,7 +167,7 @@ pub record Settles (s t : Server) (told : List ServerMessage) : Type 0 where
 
 -- the document has this text, and what is wrong with it is reported
 abbrev pub Opens : List ℕ → Option ℤ → List ℕ → Server → Server → List ServerMessage → Type 0
-Opens uri version text s t told = Sets uri (Some (known version text)) s t × (t.unjudged.items ≡ s.unjudged.items) × Diagnoses (IsDiagnosis s.encoding text) version uri told
+Opens uri version text s t told = Sets uri (Some (known version text)) s t × (t.unjudged.items ≡ s.unjudged.items) × Diagnoses (AreDiagnoses s.encoding text) version uri told
 
 -- the document isn't open, and what was reported about it is cleared
 abbrev pub Closes : List ℕ → Server → Server → List ServerMessage → Type 0
@@ -241,11 +244,11 @@ pub record LosesAll (fault : Option Fault) (s t : Server) (told : List ServerMes
   pub encoding : t.encoding ≡ s.encoding
   pub wishes : t.wishes ≡ s.wishes
 
--- the layout of a document in this state
-abbrev pub LaysOutDocument : Option State → (List ℕ → Answer → Type 0) → Answer → Type 0
-LaysOutDocument None Lays a = a ≡ answer.Failure NotOpen
-LaysOutDocument (Some lost) Lays a = a ≡ answer.Failure Lost
-LaysOutDocument (Some (known version text)) Lays a = Lays text a
+-- the answer about a document in this state: that about its text, if it has one
+abbrev pub OfDocument : Option State → (List ℕ → Answer → Type 0) → Answer → Type 0
+OfDocument None Answers a = a ≡ answer.Failure NotOpen
+OfDocument (Some lost) Answers a = a ≡ answer.Failure Lost
+OfDocument (Some (known version text)) Answers a = Answers text a
 
 -- the answer to a request in each phase, where the project asks for this layout
 abbrev pub Gives : Phase → Request → Wishes → Server → Answer → Type 0
@@ -253,8 +256,13 @@ Gives Starting (request.Initialize o) p s a = a ≡ answer.Ready (first_or_utf16
 Gives Starting r p s a = a ≡ answer.Failure NotInitialized
 Gives Running (request.Initialize o) p s a = a ≡ answer.Failure InvalidRequest
 Gives Running request.Shutdown p s a = a ≡ answer.Nothing
-Gives Running (request.Formatting uri) p s a = LaysOutDocument (document_of s (string_bytes uri)) (LaysOut s.encoding (width_for s.wishes p) (indent_for s.wishes p)) a
-Gives Running (request.RangeFormatting uri range) p s a = LaysOutDocument (document_of s (string_bytes uri)) (LaysOutPart s.encoding (width_for s.wishes p) (indent_for s.wishes p) range) a
+Gives Running (request.Formatting uri) p s a = OfDocument (document_of s (string_bytes uri)) (LaysOut s.encoding (width_for s.wishes p) (indent_for s.wishes p)) a
+Gives Running (request.RangeFormatting uri range) p s a = OfDocument (document_of s (string_bytes uri)) (LaysOutPart s.encoding (width_for s.wishes p) (indent_for s.wishes p) range) a
+Gives Running (request.Fixes uri range) p s a = OfDocument (document_of s (string_bytes uri)) (GivesFixes s.encoding (string_bytes uri) range) a
+Gives Running (request.Completion uri position) p s a = OfDocument (document_of s (string_bytes uri)) (Completes s.encoding position) a
+Gives Running (request.Tokens uri) p s a = OfDocument (document_of s (string_bytes uri)) (ShowsTokens s.encoding) a
+Gives Running (request.Symbols uri) p s a = OfDocument (document_of s (string_bytes uri)) (ShowsSymbols s.encoding) a
+Gives Running (request.Folds uri) p s a = OfDocument (document_of s (string_bytes uri)) (ShowsFolds s.encoding) a
 Gives Running request.Malformed p s a = a ≡ answer.Failure InvalidParams
 Gives Running request.Other p s a = a ≡ answer.Failure MethodNotFound
 Gives ShutDown r p s a = a ≡ answer.Failure InvalidRequest

@@ -2,7 +2,8 @@
 ghost use Rattle.std.specs.Prelude.{◌≡◌, ◌∷◌, [], ◌↔◌, All, IfOk, IsTrue, MatchOption, OnErr, OnOk, string_bytes};
 ghost use Rattle.cedar_server.specs.Sessions.{AreAllLost, AreCleared, AreSame, Clears, Diagnoses, Give, IsPart, Puts, names_of_texts};
 
-use crate::messages::{Diagnosis, ServerMessage};
+use crate::messages::ServerMessage;
+use cedar_advice::Diagnosis;
 use cedar_positions::{Change, Encoding, changed_text};
 use std::alloc::{AllocError, Global};
 use std::collections::BTreeMap;
@@ -65,7 +66,7 @@ pub(crate) fn clear_texts(
 pub(crate) fn cleared(alloc: Global, uri: &str) -> Result<ServerMessage, AllocError>
     ensures { IfOk result (λ message. Clears uri.now (message ∷ [])) }
 {
-    diagnosed(alloc, uri, None, None)
+    diagnosed(alloc, uri, None, Vec::new(alloc))
 }
 
 /// The message about what is wrong with a document.
@@ -73,14 +74,14 @@ pub(crate) fn diagnosed(
     alloc: Global,
     uri: &str,
     version: Option<i64>,
-    diagnosis: Option<Diagnosis>,
+    diagnoses: Vec<Diagnosis>,
 ) -> Result<ServerMessage, AllocError>
-    ensures { IfOk result (λ message. Diagnoses (λ d. d ≡ diagnosis) version uri.now (message ∷ [])) }
+    ensures { IfOk result (λ message. Diagnoses (λ ds. ds ≡ diagnoses.items) version uri.now (message ∷ [])) }
 {
     Ok(ServerMessage::Diagnostics {
         uri: String::from_str(alloc, uri)?,
         version,
-        diagnosis,
+        diagnoses,
     })
 }
 

@@ -1,21 +1,26 @@
 //! A language server for policies, without input and output: what it answers to each message.
 #![tactic(auto)]
 
-mod diagnosis;
+mod advice;
 mod documents;
 mod formatting;
 mod last_text;
-mod marks;
 mod messages;
+mod outline;
 mod server;
 mod session;
 
-pub use cedar_policy_formatter::FormatError;
+pub use cedar_advice::{Code, Completions, Diagnosis, Fix};
+pub use cedar_expected::samples::sample;
+pub use cedar_outline::classes::Class;
+pub use cedar_outline::folds::FoldKind;
+pub use cedar_outline::placed::{PlacedFold, PlacedSymbol, PlacedToken};
 pub use cedar_positions::{Change, Edit, Encoding, Position, Range, offset_at, position_at};
+pub use cedar_tokens::kind::Kind;
 pub use documents::{Document, Documents};
 pub use messages::{
-    Answer, ClientMessage, ClientOptions, Diagnosis, Failure, Fault, Id, Notification, Request,
-    ServerMessage, Unread, Wishes,
+    Answer, ClientMessage, ClientOptions, Failure, Fault, Id, Notification, Request, ServerMessage,
+    Unread, Wishes,
 };
 pub use server::{Phase, Server};
 pub use session::{Client, Received, serve};

@@ -1,6 +1,7 @@
 //! What a client and the server say.
-use cedar_policy_formatter::FormatError;
-use cedar_positions::{Change, Edit, Encoding, Range};
+use cedar_advice::{Completions, Diagnosis, Fix};
+use cedar_outline::placed::{PlacedFold, PlacedSymbol, PlacedToken};
+use cedar_positions::{Change, Edit, Encoding, Position, Range};
 
 /// The id of a request, as its client chose it.
 #[derive(Debug, PartialEq, Drop)]
@@ -38,6 +39,16 @@ pub enum Request {
     Formatting { uri: String },
     /// The layout of the policies touched by a range.
     RangeFormatting { uri: String, range: Range },
+    /// The fixes of the faults that a range touches.
+    Fixes { uri: String, range: Range },
+    /// What could come at a position.
+    Completion { uri: String, position: Position },
+    /// The classes of the tokens and comments of a document.
+    Tokens { uri: String },
+    /// The policies of a document by name.
+    Symbols { uri: String },
+    /// What can be folded in a document.
+    Folds { uri: String },
     /// One of these, with parameters that can't be read.
     Malformed,
     /// Any other request.
@@ -128,19 +139,20 @@ pub enum Answer {
     Nothing,
     /// These edits format the document, or a part of it; there are none if it is formatted.
     Edits(Vec<Edit>),
+    /// Each of these mends a fault of the document with this URI.
+    Fixes {
+        uri: String,
+        fixes: Vec<Fix>,
+    },
+    /// These tokens could come.
+    Completions(Completions),
+    /// The tokens and comments of the document, in order, with their classes.
+    Tokens(Vec<PlacedToken>),
+    /// The policies of the document that are accepted, in order, by name.
+    Symbols(Vec<PlacedSymbol>),
+    /// What can be folded in the document.
+    Folds(Vec<PlacedFold>),
     Failure(Failure),
-}
-
-/// Why a document is refused, and where.
-#[derive(Debug, Drop)]
-pub struct Diagnosis {
-    /// The part of the document that the refusal is about: the character, number or token at its place, an unfinished string
-    /// up to the end of its line, or the last character of the last token of a document that ends too early.
-    pub range: Range,
-    /// The refusal, with its place in bytes.
-    pub error: FormatError,
-    /// What is wrong, in words.
-    pub message: String,
 }
 
 /// A message to the client.
@@ -155,11 +167,11 @@ pub enum ServerMessage {
         id: Option<Id>,
         fault: Fault,
     },
-    /// What is wrong with a document: nothing if it is accepted, lost, or no longer open. `version` is that of its text.
+    /// All that is wrong with a document: nothing if it is accepted, lost, or no longer open. `version` is that of its text.
     Diagnostics {
         uri: String,
         version: Option<i64>,
-        diagnosis: Option<Diagnosis>,
+        diagnoses: Vec<Diagnosis>,
     },
     /// A notice for the user, since a message couldn't be read: the text of this document is lost, or those of all that were
     /// open.

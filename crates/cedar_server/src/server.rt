@@ -1,9 +1,11 @@
 //! The server.
 ghost use Rattle.std.specs.Prelude.{◌≡◌, ◌∷◌, [], ◌↔◌, IfOk, IsTrue, OnErr, OnOk, map, option_map, string_bytes};
+ghost use Rattle.cedar_server.specs.Advice.{Completes, GivesFixes};
 ghost use Rattle.cedar_server.specs.Layouts.{LaysOut, LaysOutPart};
-ghost use Rattle.cedar_server.specs.Sessions.{AddsJudgement, Changes, Closes, GiveText, Gives, HasNoDocuments, IsSame, IsUnjudged, JudgesAll, LaysOutDocument, Loses, LosesAll, Misses, Opens, Receives, Sets, Settles, Starts, Steps, Takes, TakesExit, Turns, document_of, first_or_utf16, indent_for, lost, rejection_of, state_in, state_of, width_for};
+ghost use Rattle.cedar_server.specs.Outline.{ShowsFolds, ShowsSymbols, ShowsTokens};
+ghost use Rattle.cedar_server.specs.Sessions.{AddsJudgement, Changes, Closes, GiveText, Gives, HasNoDocuments, IsSame, IsUnjudged, JudgesAll, OfDocument, Loses, LosesAll, Misses, Opens, Receives, Sets, Settles, Starts, Steps, Takes, TakesExit, Turns, document_of, first_or_utf16, indent_for, lost, rejection_of, state_in, state_of, width_for};
 
-use crate::diagnosis::diagnose;
+use crate::advice::{complete_at, fixes_for};
 use crate::documents::{
     Document, Documents, all_lost, clear_texts, cleared, diagnosed, given_text, put,
 };
@@ -13,8 +15,9 @@ use crate::messages::{
     Answer, ClientMessage, ClientOptions, Failure, Fault, Id, Notification, Request, ServerMessage,
     Unread, Wishes,
 };
+use crate::outline::{folds_of, symbols_of, tokens_of};
 use cedar_policy_formatter::Config;
-use cedar_positions::{Change, Encoding, Range, changed_text};
+use cedar_positions::{Change, Encoding, Position, Range, changed_text};
 use std::alloc::{AllocError, Global};
 use std::collections::BTreeMap;
 
@@ -175,6 +178,11 @@ impl Server {
             Request::RangeFormatting { uri, range } => {
                 self.format_range(alloc, uri.as_str(), *range, project)
             }
+            Request::Fixes { uri, range } => self.fix(alloc, uri.as_str(), *range),
+            Request::Completion { uri, position } => self.complete(alloc, uri.as_str(), *position),
+            Request::Tokens { uri } => self.show_tokens(alloc, uri.as_str()),
+            Request::Symbols { uri } => self.show_symbols(alloc, uri.as_str()),
+            Request::Folds { uri } => self.show_folds(alloc, uri.as_str()),
             Request::Malformed => Ok(Answer::Failure(Failure::InvalidParams)),
             Request::Other => Ok(Answer::Failure(Failure::MethodNotFound)),
         }
@@ -182,7 +190,7 @@ impl Server {
 
     // The answer to a request for the layout of a document.
     fn format(&self, alloc: Global, uri: &str, project: Wishes) -> Result<Answer, AllocError>
-        ensures { IfOk result (LaysOutDocument (document_of self.now uri.now) (LaysOut self.now.encoding (width_for self.now.wishes project) (indent_for self.now.wishes project))) }
+        ensures { IfOk result (OfDocument (document_of self.now uri.now) (LaysOut self.now.encoding (width_for self.now.wishes project) (indent_for self.now.wishes project))) }
     {
         match self.documents.get(uri) {
             Some(Document::Text { text, .. }) => {
@@ -202,13 +210,72 @@ impl Server {
         range: Range,
         project: Wishes,
     ) -> Result<Answer, AllocError>
-        ensures { IfOk result (LaysOutDocument (document_of self.now uri.now) (LaysOutPart self.now.encoding (width_for self.now.wishes project) (indent_for self.now.wishes project) range)) }
+        ensures { IfOk result (OfDocument (document_of self.now uri.now) (LaysOutPart self.now.encoding (width_for self.now.wishes project) (indent_for self.now.wishes project) range)) }
     {
         match self.documents.get(uri) {
             Some(Document::Text { text, .. }) => {
                 let config = config_for(self.wishes, project);
                 format_part(alloc, text.as_str(), range, &config, self.encoding)
             }
+            Some(Document::Lost) => Ok(Answer::Failure(Failure::Lost)),
+            None => Ok(Answer::Failure(Failure::NotOpen)),
+        }
+    }
+
+    // The answer to a request for the fixes of what a range touches.
+    fn fix(&self, alloc: Global, uri: &str, range: Range) -> Result<Answer, AllocError>
+        ensures { IfOk result (OfDocument (document_of self.now uri.now) (GivesFixes self.now.encoding uri.now range)) }
+    {
+        match self.documents.get(uri) {
+            Some(Document::Text { text, .. }) => {
+                fixes_for(alloc, uri, text.as_str(), range, self.encoding)
+            }
+            Some(Document::Lost) => Ok(Answer::Failure(Failure::Lost)),
+            None => Ok(Answer::Failure(Failure::NotOpen)),
+        }
+    }
+
+    // The answer to a request for what could come at a position.
+    fn complete(&self, alloc: Global, uri: &str, position: Position) -> Result<Answer, AllocError>
+        ensures { IfOk result (OfDocument (document_of self.now uri.now) (Completes self.now.encoding position)) }
+    {
+        match self.documents.get(uri) {
+            Some(Document::Text { text, .. }) => {
+                complete_at(alloc, text.as_str(), position, self.encoding)
+            }
+            Some(Document::Lost) => Ok(Answer::Failure(Failure::Lost)),
+            None => Ok(Answer::Failure(Failure::NotOpen)),
+        }
+    }
+
+    // The answer to a request for the classes of tokens.
+    fn show_tokens(&self, alloc: Global, uri: &str) -> Result<Answer, AllocError>
+        ensures { IfOk result (OfDocument (document_of self.now uri.now) (ShowsTokens self.now.encoding)) }
+    {
+        match self.documents.get(uri) {
+            Some(Document::Text { text, .. }) => tokens_of(alloc, text.as_str(), self.encoding),
+            Some(Document::Lost) => Ok(Answer::Failure(Failure::Lost)),
+            None => Ok(Answer::Failure(Failure::NotOpen)),
+        }
+    }
+
+    // The answer to a request for the policies.
+    fn show_symbols(&self, alloc: Global, uri: &str) -> Result<Answer, AllocError>
+        ensures { IfOk result (OfDocument (document_of self.now uri.now) (ShowsSymbols self.now.encoding)) }
+    {
+        match self.documents.get(uri) {
+            Some(Document::Text { text, .. }) => symbols_of(alloc, text.as_str(), self.encoding),
+            Some(Document::Lost) => Ok(Answer::Failure(Failure::Lost)),
+            None => Ok(Answer::Failure(Failure::NotOpen)),
+        }
+    }
+
+    // The answer to a request for what can be folded.
+    fn show_folds(&self, alloc: Global, uri: &str) -> Result<Answer, AllocError>
+        ensures { IfOk result (OfDocument (document_of self.now uri.now) (ShowsFolds self.now.encoding)) }
+    {
+        match self.documents.get(uri) {
+            Some(Document::Text { text, .. }) => folds_of(alloc, text.as_str(), self.encoding),
             Some(Document::Lost) => Ok(Answer::Failure(Failure::Lost)),
             None => Ok(Answer::Failure(Failure::NotOpen)),
         }
@@ -300,8 +367,8 @@ impl Server {
         ensures ok { IfOk result (λ told. Opens (string_bytes uri) version (string_bytes text) self.old self.new told.items) }
         ensures err { OnErr result (IsSame self.old self.new) }
     {
-        let diagnosis = diagnose(&mut self.last, alloc, text.as_str(), self.encoding)?;
-        let message = diagnosed(alloc, uri.as_str(), version, diagnosis)?;
+        let diagnoses = self.last.judge(alloc, text.as_str(), self.encoding)?;
+        let message = diagnosed(alloc, uri.as_str(), version, diagnoses)?;
         let told = tell(alloc, message)?;
         self.set(uri, Document::Text { version, text })?;
         Ok(told)
@@ -487,8 +554,8 @@ fn judge(
 {
     match documents.get(uri) {
         Some(Document::Text { version, text }) => {
-            let diagnosis = diagnose(last, alloc, text.as_str(), encoding)?;
-            let message = diagnosed(alloc, uri, *version, diagnosis)?;
+            let diagnoses = last.judge(alloc, text.as_str(), encoding)?;
+            let message = diagnosed(alloc, uri, *version, diagnoses)?;
             told.push(message)?;
             Ok(())
         }

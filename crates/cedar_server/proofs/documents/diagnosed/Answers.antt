@@ -3,4 +3,4 @@ use Rattle.cedar_server.proofs.documents.diagnosed.Goals as goal
 
 pub returns : goal.returns
 returns c =
-    (c.in_ok-from_str.field-0, c.args.diagnosis, refl, c.in_ok-from_str.ensures.ok, refl)
+    (c.in_ok-from_str.field-0, c.args.diagnoses, refl, c.in_ok-from_str.ensures.ok, refl)

@@ -1,54 +1,50 @@
-use Rattle.std.proofs.Common.{◌-◌, length, refl, sym, subst}
-use Rattle.std.specs.List.{All}
-use Rattle.std.proofs.lemmas.List.Elements.{All-push}
-use Rattle.std.proofs.lemmas.Str.{IsCharBoundary-start}
-use Rattle.cedar_grammar.specs.Texts.{Accepted}
-use Rattle.cedar_cst.proofs.Readers.{reader_begins}
-use Rattle.cedar_server.specs.declared.last_text.Next.TheVariants as next
-use Rattle.cedar_server.specs.Inside.Standing.{IsNext, StandsAt}
-use Rattle.cedar_server.proofs.Standing.{left_utf8, passed, rest_accepted, span_stands}
+use Rattle.std.proofs.Common.{[], ◌∷◌, ◌++◌, sym, ap, subst, ◌∙◌, length, length-append, arith}
+use Rattle.cedar_faults.specs.Faults.SearchFinds.{nothing}
+use Rattle.cedar_server.proofs.Told.{Told, told_all, told_fault, told_most, told_policy}
 use Rattle.cedar_server.proofs.last_text.LastText.read.Goals as goal
 
-pub policies-init : goal.policies-init
-policies-init c = (
-  c.utf8.text,
-  reader_begins c.args.text.now (IsCharBoundary-start c.args.text.now c.utf8.text),
-  refl,
-  λ before. before,
-)
+pub steps-init : goal.steps-init
+steps-init c = record {
+  of_text = c.new-reader.ensures.text;
+  few = omega (arith, ap length c.new-diagnoses.ensures.items);
+  told = ([], rw c.new-reader.ensures.at (nothing 0), c.new-diagnoses.ensures.items);
+  standing = λ before. before;
+}
 
-pub policies-preserved-in_ok-push-in-Policy : goal.policies-preserved-in_ok-push-in-Policy
-policies-preserved-in_ok-push-in-Policy c =
-    let text = c.args.text.now in
-    let is : IsNext c.policies.rest.now (next.Policy c.in-Policy.left c.in-Policy.stands) =
-    subst (IsNext c.policies.rest.now) c.in-Policy.is c.in_ok-left.ensures in
-    let p = passed text c.policies.rest.now c.in-Policy.left.now c.policies.from c.policies.invariant.1 c.policies.invariant.2 is.0 in (
-      left_utf8 c.policies.rest.now c.in-Policy.left.now c.policies.invariant.0 is.0,
-      p.0,
-      p.1,
-      λ before. subst (All (StandsAt text)) (sym c.in_ok-push-in-Policy.ensures.items)
-          (All-push (StandsAt text) c.policies.standing.items _ (c.policies.invariant.3 before)
-          (span_stands text c.policies.rest.now c.in-Policy.left.now c.policies.from (length text - length c.in-Policy.left.now) c.policies.invariant.2 is.0 p.3 (is.1 (c.if-stands.true)))),
-    )
+pub steps-preserved-in-Policy : goal.steps-preserved-in-Policy
+steps-preserved-in-Policy c =
+    let i = c.steps.invariant in
+    let s = rw i.of_text at (rw c.in-Policy.is at c.in_ok-step.ensures.step) in
+    record {
+      of_text = c.in_ok-step.ensures.text ∙ i.of_text;
+      few = i.few;
+      told = told_policy c.args.encoding c.args.text.now c.steps.reader.at s.0 c.step.new.reader.at c.steps.diagnoses.items i.told s.1 s.2;
+      standing = λ before. rw i.of_text at c.in_ok-step.ensures.standing (i.standing before);
+    }
 
-pub policies-smaller : goal.policies-smaller
-policies-smaller c =
-    let text = c.args.text.now in
-    let is : IsNext c.policies.rest.now (next.Policy c.in-Policy.left c.in-Policy.stands) =
-    subst (IsNext c.policies.rest.now) c.in-Policy.is c.in_ok-left.ensures in
-    (passed text c.policies.rest.now c.in-Policy.left.now c.policies.from c.policies.invariant.1 c.policies.invariant.2 is.0).2
+pub steps-preserved : goal.steps-preserved
+steps-preserved c =
+    let i = c.steps.invariant in
+    let d = c.in_ok-diagnosis-in-Fault.diagnosis in
+    let s = rw i.of_text at (rw c.in-Fault.is at c.in_ok-step.ensures.step) in
+    let told : Told c.args.encoding c.args.text.now c.step.new.reader.at (c.steps.diagnoses.items ++ d ∷ []) =
+    told_fault c.args.encoding c.args.text.now c.steps.reader.at c.step.new.reader.at c.steps.diagnoses.items c.in-Fault.fault d
+    i.told s c.in_ok-diagnosis-in-Fault.ensures in
+    record {
+      of_text = c.in_ok-step.ensures.text ∙ i.of_text;
+      few = omega (arith, c.steps-test.true, c.len.ensures, ap length c.in_ok-push-in-Fault.ensures.items, length-append c.steps.diagnoses.items (d ∷ []));
+      told = subst (Told c.args.encoding c.args.text.now c.step.new.reader.at) (sym c.in_ok-push-in-Fault.ensures.items) told;
+      standing = λ before. rw i.of_text at c.in_ok-step.ensures.standing (i.standing before);
+    }
 
-pub policies-preserved : goal.policies-preserved
-policies-preserved c =
-    let text = c.args.text.now in
-    let is : IsNext c.policies.rest.now (next.Policy c.in-Policy.left c.in-Policy.stands) =
-    subst (IsNext c.policies.rest.now) c.in-Policy.is c.in_ok-left.ensures in
-    let p = passed text c.policies.rest.now c.in-Policy.left.now c.policies.from c.policies.invariant.1 c.policies.invariant.2 is.0 in
-    (left_utf8 c.policies.rest.now c.in-Policy.left.now c.policies.invariant.0 is.0, p.0, p.1, c.policies.invariant.3)
+pub returns-in-End-clause-diagnoses : goal.returns-in-End-clause-diagnoses
+returns-in-End-clause-diagnoses c =
+    let i = c.steps.invariant in
+    told_all c.args.encoding c.args.text.now c.steps.reader.at c.steps.diagnoses.items i.told i.few
+    (rw i.of_text at (rw c.in-End.is at c.in_ok-step.ensures.step))
 
-pub returns-in-End-clause-refusal : goal.returns-in-End-clause-refusal
-returns-in-End-clause-refusal c =
-    let text = c.args.text.now in
-    let is : Accepted c.policies.rest.now =
-    subst (IsNext c.policies.rest.now) c.in-End.is c.in_ok-left.ensures in
-    rest_accepted text c.policies.from c.policies.invariant.1 (subst Accepted c.policies.invariant.2 is)
+pub returns-clause-diagnoses : goal.returns-clause-diagnoses
+returns-clause-diagnoses c =
+    let i = c.steps.invariant in
+    told_most c.args.encoding c.args.text.now c.steps.reader.at c.steps.diagnoses.items i.told
+    (omega (arith, i.few, c.steps-test.false, c.len.ensures))

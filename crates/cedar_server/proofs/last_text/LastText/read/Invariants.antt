@@ -1,15 +1,18 @@
-use Rattle.std.proofs.Common.{◌≡◌, length, drop}
+use Rattle.std.proofs.Common.{◌≡◌, ◌≤◌, ◌-◌, length}
 use Rattle.std.specs.List.{All}
-use denote.Text.{Utf8}
-use denote.Shadow.{shadow}
-use Rattle.cedar_cst.specs.PolicyReaders.{IsAfterPolicies}
+use Rattle.cedar_advice.specs.Diagnoses.{most}
+use Rattle.cedar_server.proofs.Told.{Told}
 use Rattle.cedar_server.specs.Inside.Standing.{StandsAt}
 use Rattle.cedar_server.proofs.last_text.LastText.read.Given as goal
 
-abbrev pub invariant-policies : goal.invariant-policies
-invariant-policies l = shadow (Utf8 l.rest) × IsAfterPolicies l.fn.text l.from
-    × (l.rest ≡ drop l.from l.fn.text)
-    × (All (StandsAt l.fn.text) l.initial.standing.items → All (StandsAt l.fn.text) l.standing.items)
+-- a search has found the faults that are told
+abbrev pub invariant-steps : goal.invariant-steps
+invariant-steps l = record {
+  of_text : l.reader.text ≡ l.fn.text;
+  few : length l.diagnoses.items ≤ most;
+  told : Told l.fn.encoding l.fn.text l.reader.at l.diagnoses.items;
+  standing : All (StandsAt l.fn.text) l.initial.standing.items → All (StandsAt l.fn.text) l.standing.items;
+}
 
-abbrev pub decreases-policies : goal.decreases-policies
-decreases-policies l = length l.rest
+abbrev pub decreases-steps : goal.decreases-steps
+decreases-steps l = length l.fn.text - l.reader.at

@@ -1,5 +1,5 @@
 use Rattle.std.proofs.Common.{string_bytes, ap, sym, subst, ◌∙◌}
-use Rattle.cedar_server.specs.Diagnoses.{IsDiagnosis}
+use Rattle.cedar_advice.specs.Diagnoses.{AreDiagnoses}
 use Rattle.cedar_server.proofs.server.Server.open.Goals as goal
 
 pub returns-clause-ok : goal.returns-clause-ok
@@ -8,8 +8,9 @@ returns-clause-ok c =
     let e = c.args.self.now.encoding in
     let one = c.in_ok-message.ensures in
     let set = c.in_ok-set.ensures.ok in
-    let wrong : IsDiagnosis e text c.in_ok-diagnosis.diagnosis =
-    subst (λ bytes. IsDiagnosis e bytes c.in_ok-diagnosis.diagnosis) c.as_str.ensures.value c.in_ok-diagnosis.ensures in (
+    let found = c.in_ok-diagnoses.diagnoses.items in
+    let wrong : AreDiagnoses e text found =
+    subst (λ bytes. AreDiagnoses e bytes found) c.as_str.ensures.value c.in_ok-diagnoses.ensures in (
       record { own = set.own; others = set.others; phase = set.phase; encoding = set.encoding; wishes = set.wishes },
       ap (λ v. v.items) c.in_ok-set.ensures.unjudged,
       (
@@ -17,6 +18,6 @@ returns-clause-ok c =
         one.1,
         c.in_ok-told.ensures ∙ one.2,
         one.3 ∙ c.as_str-2.ensures.value,
-        subst (IsDiagnosis e text) (sym one.4) wrong,
+        subst (AreDiagnoses e text) (sym one.4) wrong,
       ),
     )

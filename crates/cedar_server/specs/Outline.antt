@@ -1,0 +1,21 @@
+-- The answers to requests for what an editor shows of a document.
+use Rattle.std.specs.Prelude.{ℕ, List}
+use Rattle.cedar_positions.specs.declared.positions.Encoding.{Encoding}
+use Rattle.cedar_outline.specs.Placed.{ArePlacedFolds, ArePlacedSymbols, ArePlacedTokens}
+use Rattle.cedar_server.specs.declared.messages.Answer.{Answer}
+use Rattle.cedar_server.specs.declared.messages.Answer.TheVariants as answer
+
+-- the tokens and comments of a text with their classes
+abbrev pub ShowsTokens : Encoding → List ℕ → Answer → Type 0
+ShowsTokens e text (answer.Tokens tokens) = ArePlacedTokens e text tokens.items
+ShowsTokens e text a = ⊥
+
+-- the policies of a text by name
+abbrev pub ShowsSymbols : Encoding → List ℕ → Answer → Type 0
+ShowsSymbols e text (answer.Symbols symbols) = ArePlacedSymbols e text symbols.items
+ShowsSymbols e text a = ⊥
+
+-- what can be folded in a text
+abbrev pub ShowsFolds : Encoding → List ℕ → Answer → Type 0
+ShowsFolds e text (answer.Folds folds) = ArePlacedFolds e text folds.items
+ShowsFolds e text a = ⊥
