@@ -91,6 +91,27 @@ struct cedar_place_answer {
  */
 void cedar_place(const char *text, size_t len, size_t at, struct cedar_place_answer *place);
 
+/* A fault of a text. All bytes are counted from 0; without a fault they are 0, and so is the length. */
+struct cedar_fault_answer {
+    uint32_t kind; /* 1 to 5 for a fault; CEDAR_RESULT if none is left; CEDAR_OUT_OF_MEMORY or CEDAR_NOT_UTF8 */
+    size_t at;     /* the byte of the fault: the first at which no accepted text continues; `len` if something is missing at the end */
+    size_t start;  /* the first of the bytes that it is about: those of a token, say; the last token's end if something is missing */
+    size_t end;    /* the byte after the last of them */
+    size_t next;   /* the byte from which to search for the next fault */
+    size_t length; /* the length of the message in bytes, whether there was room for it or not */
+};
+
+/*
+ * The first fault of `text` from the byte `from` on. Begin with 0, and go on with `next` of each answer while its kind is 1 to 5:
+ * these are all faults of the text, for each policy that isn't accepted the first. An accepted text has none. A text that isn't
+ * Cedar at all can have one for each semicolon, and each call takes time in proportion to the text: set a limit.
+ *
+ * A message for people, in UTF-8, is written to the start of `out`, with no zero byte at its end, if there is room for all of it:
+ * `expected an operand, found ')'`, say. 500 bytes suffice for nearly all. Otherwise `out` is unchanged. CEDAR_NOT_UTF8: the bytes
+ * from `from` on aren't UTF-8.
+ */
+void cedar_next_fault(const char *text, size_t len, size_t from, char *out, size_t room, struct cedar_fault_answer *fault);
+
 /*
  * Writes the version of the library to the start of `out`, with no zero byte at its end: "noblesilk 1.0.0, proved with KIT",
  * or "noblesilk 1.0.0, not proved, built with KIT". The answer is CEDAR_RESULT or CEDAR_NO_ROOM, as for cedar_format.

@@ -1,4 +1,5 @@
 // Formats the policies of standard input: go run bindings/go/example.go < policy.cedar
+// Of a text that is refused it prints the faults, each as LINE:COLUMN: MESSAGE.
 package main
 
 // #cgo CFLAGS: -I${SRCDIR}/../../include
@@ -35,6 +36,34 @@ func format(text []byte) ([]byte, uint32) {
 	}
 }
 
+// most is how many faults are printed.
+const most = 100
+
+// printFaults prints the faults of a text, and returns whether there are any.
+func printFaults(text []byte) bool {
+	var fault C.struct_cedar_fault_answer
+	var place C.struct_cedar_place_answer
+	message := make([]byte, 1000)
+	for count := 0; count < most; count++ {
+		C.cedar_next_fault(start(text), C.size_t(len(text)), fault.next, start(message), C.size_t(len(message)), &fault)
+		if fault.kind == C.CEDAR_RESULT || fault.kind > C.CEDAR_TOO_DEEP {
+			return count > 0
+		}
+		// (what is missing at the end is missing after the last token)
+		at := fault.start
+		if int(fault.at) == len(text) {
+			at = fault.end
+		}
+		C.cedar_place(start(text), C.size_t(len(text)), at, &place)
+		said := message
+		if int(fault.length) <= len(message) {
+			said = message[:fault.length]
+		}
+		fmt.Fprintf(os.Stderr, "%d:%d: %s\n", place.line, place.column, said)
+	}
+	return true
+}
+
 func main() {
 	text, err := io.ReadAll(os.Stdin)
 	if err != nil {
@@ -43,7 +72,9 @@ func main() {
 	}
 	layout, kind := format(text)
 	if kind != 0 {
-		fmt.Fprintf(os.Stderr, "refused: kind %d\n", kind)
+		if !printFaults(text) {
+			fmt.Fprintf(os.Stderr, "refused: kind %d\n", kind)
+		}
 		os.Exit(1)
 	}
 	os.Stdout.Write(layout)

@@ -19,11 +19,11 @@ repository, bindings/out; else the one of a release, PREFIX/lib.
 import ctypes
 import enum
 import operator
-from typing import NamedTuple, Tuple, Union, overload
+from typing import Iterator, NamedTuple, Tuple, Union, overload
 
-from ._library import RESULT, NO_ROOM, Answer, PlaceAnswer, load
+from ._library import RESULT, NO_ROOM, Answer, FaultAnswer, PlaceAnswer, load
 
-__all__ = ["Kind", "NotUtf8", "Place", "Refused", "__version__", "format_text", "is_formatted", "place", "same_layout"]
+__all__ = ["Fault", "Kind", "NotUtf8", "Place", "Refused", "__version__", "faults", "format_text", "is_formatted", "place", "same_layout"]
 
 _LIBRARY = load()
 
@@ -70,7 +70,24 @@ class Place(NamedTuple):
     column: int
 
 
-class _Fault(ValueError):
+class Fault(NamedTuple):
+    """A fault of a text. Bytes are counted from 0 in the text's UTF-8."""
+
+    kind: Kind
+    #: The byte: the first at which no accepted text continues; the length of the text if something is missing at its end.
+    byte: int
+    #: The bytes that the fault is about: the first of them, and the one after the last.
+    start: int
+    end: int
+    #: The line of these bytes, from 1; of their end if something is missing.
+    line: int
+    #: Their column in characters, from 1.
+    column: int
+    #: What is wrong, for people: "expected an operand, found ')'".
+    message: str
+
+
+class _Refusal(ValueError):
     """What both exceptions hold. The message is 'LINE:COLUMN: WHY'."""
 
     kind: Kind
@@ -90,11 +107,11 @@ class _Fault(ValueError):
         return f"{self.line}:{self.column}: {_WORDS[self.kind]}"
 
 
-class Refused(_Fault):
+class Refused(_Refusal):
     """The text is refused: why (`kind`), and where (`byte`, `line`, `column`)."""
 
 
-class NotUtf8(_Fault):
+class NotUtf8(_Refusal):
     """The text isn't UTF-8: the first place where it isn't (`byte`, `line`, `column`)."""
 
 
@@ -195,3 +212,33 @@ def same_layout(a: _Text, b: _Text) -> bool:
 def place(text: _Text, byte: int) -> Place:
     """The line and the column of a byte, counted from 0; one past the end has the place of the end."""
     return _find(_bytes_of(text), _number("byte", byte, 0, 2**64 - 1))
+
+
+def faults(text: _Text) -> Iterator[Fault]:
+    """All faults of the text, one after the other: for each policy that isn't accepted, the first. An accepted text has none.
+
+    A text that isn't Cedar at all can have one for each semicolon, and each takes time in proportion to the text; take as many as
+    you show, with `itertools.islice`, say.
+    """
+    given, found = _bytes_of(text), FaultAnswer()
+    # (such exceptions come from the call, and not with the first fault)
+    _find(given, 0)
+    return _faults(given, found)
+
+
+def _faults(text: bytes, found: FaultAnswer) -> Iterator[Fault]:
+    while True:
+        begin, room = found.next, 500
+        while True:
+            out = ctypes.create_string_buffer(room)
+            _LIBRARY.cedar_next_fault(text, len(text), begin, out, room, ctypes.byref(found))
+            if found.length <= room:
+                break
+            room = found.length
+        if found.kind == RESULT:
+            return
+        if found.kind not in _WORDS:
+            raise MemoryError("out of memory")
+        where = found.start if found.at < len(text) else found.end
+        message = out.raw[: found.length].decode()
+        yield Fault(Kind(found.kind), found.at, found.start, found.end, *_find(text, where), message)

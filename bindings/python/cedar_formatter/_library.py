@@ -22,6 +22,10 @@ class PlaceAnswer(ctypes.Structure):
     _fields_ = [("kind", ctypes.c_uint32), ("line", ctypes.c_size_t), ("column", ctypes.c_size_t)]
 
 
+class FaultAnswer(ctypes.Structure):
+    _fields_ = [("kind", ctypes.c_uint32), *((it, ctypes.c_size_t) for it in ("at", "start", "end", "next", "length"))]
+
+
 def load() -> ctypes.CDLL:
     """The library, with the types of its calls; raises an ImportError if there is none."""
     named = os.environ.get("CEDAR_FORMATTER")
@@ -45,6 +49,7 @@ def _declare(library: ctypes.CDLL) -> None:
     library.cedar_is_formatted.argtypes = [*text, *layout, answer]
     library.cedar_same_layout.argtypes = [*text, *text, answer]
     library.cedar_place.argtypes = [*text, ctypes.c_size_t, ctypes.POINTER(PlaceAnswer)]
+    library.cedar_next_fault.argtypes = [*text, ctypes.c_size_t, ctypes.c_char_p, ctypes.c_size_t, ctypes.POINTER(FaultAnswer)]
     library.cedar_version.argtypes = [ctypes.c_char_p, ctypes.c_size_t, answer]
-    for name in ("format", "is_formatted", "same_layout", "place", "version"):
+    for name in ("format", "is_formatted", "same_layout", "place", "next_fault", "version"):
         getattr(library, f"cedar_{name}").restype = None

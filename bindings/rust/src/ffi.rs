@@ -1,5 +1,5 @@
 //! The calls of `include/cedar_formatter.h`.
-use crate::{Config, Error, Place};
+use crate::{Config, Error, Fault, Place};
 
 #[repr(C)]
 struct Answer {
@@ -12,6 +12,17 @@ struct PlaceAnswer {
     kind: u32,
     line: usize,
     column: usize,
+}
+
+#[repr(C)]
+#[derive(Default)]
+struct FaultAnswer {
+    kind: u32,
+    at: usize,
+    start: usize,
+    end: usize,
+    next: usize,
+    length: usize,
 }
 
 const RESULT: u32 = 0;
@@ -42,6 +53,14 @@ extern "C" {
         answer: *mut Answer,
     );
     fn cedar_place(text: *const u8, len: usize, at: usize, place: *mut PlaceAnswer);
+    fn cedar_next_fault(
+        text: *const u8,
+        len: usize,
+        from: usize,
+        out: *mut u8,
+        room: usize,
+        fault: *mut FaultAnswer,
+    );
     fn cedar_version(out: *mut u8, room: usize, answer: *mut Answer);
 }
 
@@ -119,6 +138,49 @@ pub fn same_layout(a: &str, b: &str) -> Result<bool, Error> {
     // SAFETY: the texts are valid UTF-8 of those lengths; they may overlap.
     unsafe { cedar_same_layout(a.as_ptr(), a.len(), b.as_ptr(), b.len(), &mut answer) };
     Ok(answer.result()? == 1)
+}
+
+/// The first fault from the byte `from` on, and the byte from which to search for the next one.
+pub fn next_fault(text: &str, from: usize) -> Result<Option<(Fault, usize)>, Error> {
+    let mut out = vec![0; 500];
+    let mut found = FaultAnswer::default();
+    loop {
+        // SAFETY: the text is valid UTF-8 of that length, and `out` has as many bytes as it says.
+        unsafe {
+            cedar_next_fault(
+                text.as_ptr(),
+                text.len(),
+                from,
+                out.as_mut_ptr(),
+                out.len(),
+                &mut found,
+            );
+        }
+        if found.length <= out.len() {
+            break;
+        }
+        out.resize(found.length, 0);
+    }
+    if found.kind == RESULT {
+        return Ok(None);
+    }
+    let answer = Answer {
+        kind: found.kind,
+        number: found.at,
+    };
+    let error = match answer.result() {
+        Err(Error::OutOfMemory) => return Err(Error::OutOfMemory),
+        Err(error) => error,
+        Ok(_) => unreachable!("a fault has a kind"),
+    };
+    out.truncate(found.length);
+    let fault = Fault {
+        error,
+        start: found.start,
+        end: found.end,
+        message: String::from_utf8(out).expect("a message is UTF-8"),
+    };
+    Ok(Some((fault, found.next)))
 }
 
 pub fn place(text: &str, at: usize) -> Place {

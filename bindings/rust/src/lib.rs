@@ -101,6 +101,41 @@ impl fmt::Display for Error {
 
 impl std::error::Error for Error {}
 
+/// A fault of a text. Bytes are counted from 0; [`place`] gives their lines and columns.
+#[derive(Clone, Debug, PartialEq, Eq, Hash)]
+pub struct Fault {
+    /// Why no accepted text continues at the byte that it names; never [`Error::OutOfMemory`].
+    pub error: Error,
+    /// The first of the bytes that the fault is about: a token's, say, or the last one's if something is missing at the end.
+    pub start: usize,
+    /// The byte after the last of them.
+    pub end: usize,
+    /// What is wrong, for people: `expected an operand, found ')'`.
+    pub message: String,
+}
+
+/// The faults of a text, one after the other; see [`faults`].
+#[derive(Clone, Debug)]
+pub struct Faults<'a> {
+    text: &'a str,
+    // Where the search goes on, unless it has ended.
+    from: Option<usize>,
+}
+
+impl Iterator for Faults<'_> {
+    type Item = Result<Fault, Error>;
+
+    fn next(&mut self) -> Option<Self::Item> {
+        let from = self.from.take()?;
+        let (fault, next) = match ffi::next_fault(self.text, from) {
+            Ok(found) => found?,
+            Err(error) => return Some(Err(error)),
+        };
+        self.from = Some(next);
+        Some(Ok(fault))
+    }
+}
+
 /// Where a byte is in a text.
 #[derive(Clone, Copy, Debug, PartialEq, Eq, PartialOrd, Ord, Hash)]
 pub struct Place {
@@ -143,6 +178,17 @@ pub fn is_formatted(text: &str, config: &Config) -> Result<bool, Error> {
 /// Those of [`format()`]; a refusal of `a` comes before one of `b`.
 pub fn same_layout(a: &str, b: &str) -> Result<bool, Error> {
     ffi::same_layout(a, b)
+}
+
+/// All faults of a text, in order: for each policy that isn't accepted, the first. An accepted text has none.
+///
+/// A text that isn't Cedar at all can have one for each semicolon, and each takes time in proportion to the text; take as many as
+/// you show. Where memory is refused the last item is [`Error::OutOfMemory`].
+pub fn faults(text: &str) -> Faults<'_> {
+    Faults {
+        text,
+        from: Some(0),
+    }
 }
 
 /// The version of the library that is linked: `noblesilk 1.0.0, proved with KIT`, or `.., not proved, built with KIT`.

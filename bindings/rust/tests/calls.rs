@@ -1,4 +1,4 @@
-use cedar_formatter::{format, is_formatted, place, same_layout, version, Config, Error, Place};
+use cedar_formatter::{faults, format, is_formatted, place, same_layout, version, Config, Error, Place};
 
 const PACKED: &str = "permit(principal,action,resource);";
 const LAID_OUT: &str = "permit (principal, action, resource);\n";
@@ -67,4 +67,23 @@ fn counts_columns_in_characters() {
 fn tells_its_version() {
     let number = concat!("noblesilk ", env!("CARGO_PKG_VERSION"), ", ");
     assert!(version().starts_with(number), "{}", version());
+}
+
+#[test]
+fn tells_all_faults() {
+    assert_eq!(faults(LAID_OUT).count(), 0);
+    let text = format!("{REFUSED}\npermt(principal, action, resource);\nforbid (principal, action, resource)");
+    let found: Vec<_> = faults(&text).map(|it| it.expect("there is memory")).collect();
+    let marked: Vec<_> = found.iter().map(|it| &text[it.start..it.end]).collect();
+    assert_eq!(marked, ["=", "permt", ")"]);
+    let errors: Vec<_> = found.iter().map(|it| it.error).collect();
+    let second = REFUSED.len() + 1;
+    let wanted = [
+        Error::UnknownCharacter { at: 51 },
+        Error::Grammar { at: second },
+        Error::Grammar { at: text.len() },
+    ];
+    assert_eq!(errors, wanted);
+    assert!(found[0].message.ends_with("did you mean '=='?"));
+    assert!(found[1].message.ends_with("did you mean 'permit'?"));
 }

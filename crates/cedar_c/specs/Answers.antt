@@ -1,16 +1,20 @@
 -- The answers to calls from C.
-use Rattle.std.specs.Prelude.{◌≡◌, ◌<◌, ◌≤◌, ◌⊎◌, ◌++◌, ℕ, ℤ, List, length, drop, Result, Ok, Err}
+use Rattle.std.specs.Prelude.{◌≡◌, ◌+◌, ◌<◌, ◌≤◌, ◌⊎◌, ◌++◌, ℕ, ℤ, List, [], ◌∷◌, length, drop, Result, Ok, Err}
 use Rattle.std.specs.Str.{IsUtf8}
 use Rattle.cedar_grammar.specs.Texts.{Accepted}
 use Rattle.cedar_tree.specs.Refusals.{OutOfMemoryOr, Refuses}
 use Rattle.cedar_tree.specs.declared.error.FormatError.{FormatError}
 use Rattle.cedar_tree.specs.declared.error.FormatError.TheVariants.{UnknownCharacter, UnfinishedString, NumberTooLarge, Grammar, TooDeep, NoDocument, Unsound, OutOfMemory}
 use Rattle.cedar_laws.specs.Canonical.{IsOutputOf}
+use Rattle.cedar_faults.specs.declared.fault.Fault.{Fault}
+use Rattle.cedar_faults.specs.Faults.{AreFaults, SearchFinds}
+use Rattle.cedar_faults.specs.Words.{message}
 use Rattle.cedar_policy_formatter.specs.Places.{line_at, column_at}
 use Rattle.cedar_policy_formatter.specs.Compared.{HaveEqualLists}
 use Rattle.cedar_policy_formatter.specs.Refused.{RefusesOne}
 use Rattle.cedar_c.specs.declared.answer.Answer.{Answer}
 use Rattle.cedar_c.specs.declared.answer.PlaceAnswer.{PlaceAnswer}
+use Rattle.cedar_c.specs.declared.answer.FaultAnswer.{FaultAnswer}
 use Rattle.cedar_c.specs.declared.answer.CallFault.{CallFault}
 use Rattle.cedar_c.specs.declared.answer.CallFault.TheVariants.{NotUtf8, NoRoom, Format}
 
@@ -82,3 +86,33 @@ TellsSameLayout a b (Err e) = FailsOnOne a b e
 abbrev pub TellsPlace : List ℕ → ℕ → PlaceAnswer → Type 0
 TellsPlace text at p = (IsUtf8 text × (p ≡ record { kind = 0; line = line_at text at; column = column_at text at }))
     ⊎ (¬ (IsUtf8 text) × (p ≡ record { kind = 9; line = 0; column = 0 }))
+
+-- ---- faults
+
+-- the answer of this kind, without a fault
+abbrev pub no_fault : ℕ → FaultAnswer
+no_fault k = record { kind = k; at = 0; start = 0; end = 0; next = 0; length = 0 }
+
+-- the answer about a fault of what follows the byte `from`, after which reading continues n bytes later
+abbrev pub fault_answer : ℕ → ℕ → Fault → FaultAnswer
+fault_answer from n f = record {
+  kind = (answer_of_error f.error).kind;
+  at = from + f.expected.at;
+  start = from + f.part.start;
+  end = from + f.part.end;
+  next = from + n;
+  length = length (message f);
+}
+
+-- the message was written to the start of the room if it fits there; the rest is unchanged
+abbrev pub PutsIfRoom : List ℕ → List ℕ → List ℕ → Type 0
+PutsIfRoom y old new = ((length y ≤ length old) × (new ≡ y ++ drop (length y) old)) ⊎ ((length old < length y) × (new ≡ old))
+
+-- The first fault of the text from the byte `from` on: there is none; or this one, whose message was written into the room if it
+-- fits, and a search for faults continues at `next`. Or the bytes aren't UTF-8, or memory was refused.
+pub data TellsFault (text : List ℕ) (from : ℕ) (old new : List ℕ) : FaultAnswer → Type 0 where
+  none : IsUtf8 (drop from text) → AreFaults (drop from text) [] → new ≡ old → TellsFault text from old new (no_fault 0)
+  fault : (n : ℕ) (f : Fault) → IsUtf8 (drop from text) → SearchFinds (drop from text) 0 (f ∷ []) n
+      → PutsIfRoom (message f) old new → TellsFault text from old new (fault_answer from n f)
+  out_of_memory : new ≡ old → TellsFault text from old new (no_fault 8)
+  not_utf8 : ¬ (IsUtf8 (drop from text)) → new ≡ old → TellsFault text from old new (no_fault 9)

@@ -7,6 +7,8 @@ use cedar_policy_formatter::FormatError;
 
 /// The kind of a result.
 pub const RESULT: u32 = 0;
+/// The kind of an answer without memory.
+pub const OUT_OF_MEMORY: u32 = 8;
 /// The kind of bytes that aren't UTF-8.
 pub const NOT_UTF8: u32 = 9;
 /// The kind of an answer for too small a room.
@@ -35,6 +37,25 @@ pub struct PlaceAnswer {
     pub column: usize,
 }
 
+/// A fault of a text, as C sees it.
+#[repr(C)]
+#[derive(Clone, Copy)]
+pub struct FaultAnswer {
+    /// 0 if there is no fault, 1 to 5 for a fault, 8 if memory was refused, 9 for bytes that aren't UTF-8. All else is 0 unless
+    /// there is a fault.
+    pub kind: u32,
+    /// The byte of the fault.
+    pub at: usize,
+    /// The first of the bytes that it is about.
+    pub start: usize,
+    /// The byte after the last one of them.
+    pub end: usize,
+    /// The byte from which to search for the next fault.
+    pub next: usize,
+    /// The length of its message in bytes, whether there was room for it or not.
+    pub length: usize,
+}
+
 /// Why a call has no result.
 #[derive(Clone, Copy)]
 pub enum CallFault {
@@ -51,6 +72,20 @@ impl From<FormatError> for CallFault {
 
     fn from(error: FormatError) -> CallFault {
         CallFault::Format(error)
+    }
+}
+
+/// The answer of this kind, without a fault.
+pub fn no_fault(kind: u32) -> FaultAnswer
+    ensures { result ≡ said.no_fault kind }
+{
+    FaultAnswer {
+        kind,
+        at: 0,
+        start: 0,
+        end: 0,
+        next: 0,
+        length: 0,
     }
 }
 
@@ -75,8 +110,8 @@ pub fn answer_of(outcome: Result<usize, CallFault>) -> Answer
     }
 }
 
-// The answer that says why a text is refused.
-fn refusal(error: FormatError) -> Answer
+/// The answer that says why a text is refused.
+pub fn refusal(error: FormatError) -> Answer
     ensures { result ≡ said.answer_of_error error }
 {
     let (kind, number) = match error {

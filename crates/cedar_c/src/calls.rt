@@ -1,13 +1,19 @@
 //! The library's calls over bytes.
-ghost use Rattle.std.specs.Prelude.{◌≡◌, MatchResult};
+ghost use Rattle.std.specs.Prelude.{◌≡◌, [], drop, IfOk, MatchOption, MatchResult};
 ghost use Rattle.std.specs.Str.{IsUtf8};
-ghost use Rattle.cedar_c.specs.Answers.{TellsFormat, TellsIsFormatted, TellsPlace, TellsPut, TellsSameLayout};
+ghost use Rattle.cedar_c.specs.Answers.{TellsFault, TellsFormat, TellsIsFormatted, TellsPlace, TellsPut, TellsSameLayout};
+ghost use Rattle.cedar_c.specs.Inside.{IsNextFault};
+ghost use Rattle.cedar_faults.specs.Faults.{AreFaults};
 ghost use Rattle.cedar_c.specs.declared.answer.CallFault.TheVariants.{NotUtf8};
 
-use crate::answer::{CallFault, NOT_UTF8, PlaceAnswer, RESULT};
+use crate::answer::{
+    CallFault, FaultAnswer, NOT_UTF8, OUT_OF_MEMORY, PlaceAnswer, RESULT, no_fault, refusal,
+};
 use crate::version::VERSION;
+use cedar_faults::fault::Fault;
+use cedar_faults::reader::FaultReader;
 use cedar_policy_formatter::{Config, is_formatted, place, policies_str_to_pretty, same_layout};
-use std::alloc::Global;
+use std::alloc::{AllocError, Global};
 
 /// Writes the layout of the policies `bytes` to the start of `out`. Returns its length in bytes.
 pub fn format_into(
@@ -68,6 +74,56 @@ pub fn version_into(out: &mut [u8]) -> Result<usize, CallFault>
     put(VERSION.as_bytes(), out)
 }
 
+/// The first fault of the text from the byte `from` on. Its message is written to the start of `out` if there is room.
+pub fn find_fault(alloc: Global, bytes: &[u8], from: usize, out: &mut [u8]) -> FaultAnswer
+    ensures { TellsFault bytes.now from out.old out.new result }
+{
+    let Ok(text) = text_from(bytes, from) else {
+        return no_fault(NOT_UTF8);
+    };
+    match next_fault(alloc, text) {
+        Ok(None) => no_fault(RESULT),
+        Ok(Some(found)) => {
+            let message = found.message.as_bytes();
+            let _ = put(message, out);
+            FaultAnswer {
+                kind: refusal(found.fault.error).kind,
+                at: from + found.fault.expected.at,
+                start: from + found.fault.part.start,
+                end: from + found.fault.part.end,
+                next: from + found.next,
+                length: message.len(),
+            }
+        }
+        Err(AllocError) => no_fault(OUT_OF_MEMORY),
+    }
+}
+
+// A fault with its message, and the byte at which the search for the next one begins.
+#[derive(Drop)]
+struct NextFault<'src> {
+    fault: Fault<'src>,
+    message: String,
+    next: usize,
+}
+
+// The first fault of the text.
+fn next_fault(alloc: Global, text: &str) -> Result<Option<NextFault<'_>>, AllocError>
+    ensures { IfOk result (λ found. MatchOption found (AreFaults text.now []) (IsNextFault text.now)) }
+{
+    let mut reader = FaultReader::new(alloc, text);
+    let Some(fault) = reader.next(alloc)? else {
+        return Ok(None);
+    };
+    let message = fault.message(alloc)?;
+    let next = reader.at();
+    Ok(Some(NextFault {
+        fault,
+        message,
+        next,
+    }))
+}
+
 // The text that the bytes encode in UTF-8.
 fn text_of(bytes: &[u8]) -> Result<&str, CallFault>
     ensures { MatchResult result (λ text. IsUtf8 bytes.now × (text.now ≡ bytes.now)) (λ fault. (fault ≡ NotUtf8) × ¬ (IsUtf8 bytes.now)) }
@@ -75,6 +131,17 @@ fn text_of(bytes: &[u8]) -> Result<&str, CallFault>
     match str::from_utf8(without_pointer(bytes)) {
         Ok(text) => Ok(text),
         Err(_) => Err(CallFault::NotUtf8),
+    }
+}
+
+// The text that the bytes from `from` on encode; none are past the end.
+fn text_from(bytes: &[u8], from: usize) -> Result<&str, CallFault>
+    ensures { MatchResult result (λ text. IsUtf8 (drop from bytes.now) × (text.now ≡ drop from bytes.now)) (λ fault. (fault ≡ NotUtf8) × ¬ (IsUtf8 (drop from bytes.now))) }
+{
+    if from < bytes.len() {
+        text_of(&bytes[from..])
+    } else {
+        text_of(&[])
     }
 }
 

@@ -5,15 +5,15 @@
 //! they are never read or written through.
 #![tactic(auto)]
 
-ghost use Rattle.cedar_c.specs.Answers.{Answers, TellsFormat, TellsIsFormatted, TellsPlace, TellsPut, TellsSameLayout};
+ghost use Rattle.cedar_c.specs.Answers.{Answers, TellsFault, TellsFormat, TellsIsFormatted, TellsPlace, TellsPut, TellsSameLayout};
 
 mod answer;
 mod calls;
 mod version;
 
 use answer::answer_of;
-pub use answer::{Answer, CallFault, PlaceAnswer};
-use calls::{check_layout, compare_layouts, find_place, format_into, version_into};
+pub use answer::{Answer, CallFault, FaultAnswer, PlaceAnswer};
+use calls::{check_layout, compare_layouts, find_fault, find_place, format_into, version_into};
 use cedar_policy_formatter::Config;
 use std::alloc::Global;
 pub use version::VERSION;
@@ -73,6 +73,21 @@ pub extern "C" fn cedar_place(text: &[u8], at: usize, answer: &mut PlaceAnswer)
     ensures { TellsPlace text.now at answer.new }
 {
     *answer = find_place(text, at);
+}
+
+/// The first fault of `text` from the byte `from` on: 0, or the `next` of the fault before it. Its message, with a tip if there is
+/// one, is written to the start of `out` if there is room for all of it; the answer has its length in any case.
+#[unsafe(no_mangle)]
+pub extern "C" fn cedar_next_fault(
+    alloc: Global,
+    text: &[u8],
+    from: usize,
+    out: &mut [u8],
+    answer: &mut FaultAnswer,
+)
+    ensures { TellsFault text.now from out.old out.new answer.new }
+{
+    *answer = find_fault(alloc, text, from, out);
 }
 
 /// Writes the version of the library, which says whether it is proved, to the start of `out`. The answer's number is its length
