@@ -1,0 +1,13 @@
+pub mod Regrouped
+pub mod NonEmpty
+pub mod SameRows
+pub mod GrammarRows
+pub mod Reading
+pub mod ReadExpressions
+pub mod FirstTokens
+pub mod ReadPolicies
+pub mod Lists
+pub mod Layouts
+pub mod Cleaning
+pub mod Outputs
+pub mod EqualLists

@@ -1,0 +1,9 @@
+pub mod Languages
+pub mod Written
+pub mod Layout
+pub mod Cleaning
+pub mod Texts
+pub mod Refusals
+pub mod Output
+pub mod Lists
+pub mod Laws
