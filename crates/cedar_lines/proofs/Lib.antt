@@ -1,0 +1,15 @@
+pub mod OneDocument
+pub mod SameRows
+pub mod Regrouped
+pub mod LineRows
+pub mod BareScopes
+pub mod PolicyRows
+pub mod Tests
+pub mod Moves
+pub mod Sound
+pub mod Complete
+pub mod ReadPolicies
+pub mod Bones
+pub mod SomeRows
+pub mod Refusals
+pub mod Furthest
