@@ -1,3 +1,4 @@
 pub mod Counts
 pub mod Excludes
+pub mod Paths
 pub mod Places

@@ -25,6 +25,8 @@ pub fn write_diff<W: Write>(
     let old_numbers = numbers.all(alloc, &old)?;
     let new_numbers = numbers.all(alloc, &new)?;
     let changes = changes(alloc, &old_numbers, &new_numbers)?;
+    // (what takes memory is done before anything is written)
+    let hunks = hunks_of(alloc, &changes)?;
     write!(out, "--- {}\n", Label("a", name))?;
     write!(out, "+++ {}\n", Label("b", name))?;
     let mut place = Place {
@@ -32,7 +34,7 @@ pub fn write_diff<W: Write>(
         new: 0,
         at: 0,
     };
-    for hunk in &hunks_of(alloc, &changes)? {
+    for hunk in &hunks {
         place.skip_to(&changes, hunk.start);
         write_header(out, place, changes.get(hunk.start..hunk.end).unwrap_or(&[]))?;
         place.write_to(out, &changes, hunk.end, &old, &new)?;

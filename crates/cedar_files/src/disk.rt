@@ -155,10 +155,8 @@ impl Folder for Disk<'_, '_> {
         let real = self.real_name(name)?;
         // (a file that isn't writable isn't replaced either)
         let file = OpenOptions::new().write(true).open(self.rt, real.as_str())?;
-        if self.room.has_more_rights(file.metadata()?.ino()) {
-            return Err(io::Error::other(
-                "it has an access control list, which a new file would lose",
-            ));
+        if let Some(loss) = self.room.loss_of(file.metadata()?.ino()) {
+            return Err(io::Error::other(loss));
         }
         for _ in 0..MOST_NAMES {
             let beside = name_beside(alloc, self.rt, real.as_str(), self.bits)?;

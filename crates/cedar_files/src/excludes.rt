@@ -1,6 +1,6 @@
 //! Which files and folders are left alone.
 ghost use Rattle.std.specs.Prelude.{◌↔◌, IfOk, IsTrue};
-ghost use Rattle.cedar_files.specs.Excludes.{IsMeant, IsMeantFrom};
+ghost use Rattle.cedar_files.specs.Excludes.{AsksTheSame, IsMeant, IsMeantFrom, LeavesAbove, LeavesAlone, LeavesNamed};
 
 use cedar_settings::{Glob, GlobError};
 use std::alloc::{AllocError, Global};
@@ -40,9 +40,12 @@ impl<'a> Excludes<'a> {
     }
 
     /// Whether a path that was met below a folder is left alone. Both are absolute.
-    pub fn leaves(&mut self, alloc: Global, path: &str, below: &str) -> Result<bool, AllocError> {
+    pub fn leaves(&mut self, alloc: Global, path: &str, below: &str) -> Result<bool, AllocError>
+        ensures left { IfOk result (λ is_left. IsTrue is_left ↔ LeavesAlone self.old path.now below.now) }
+        ensures same { AsksTheSame self.old self.new }
+    {
         let mut is_left = false;
-        for rule in &mut self.rules {
+        for rule in self.rules.iter_mut() {
             if rule.matches(alloc, path, below, self.folder)? {
                 rule.is_met = true;
                 is_left = true;
@@ -52,15 +55,32 @@ impl<'a> Excludes<'a> {
     }
 
     /// Whether an absolute path, or a folder that it is in, is left alone.
-    pub fn leaves_named(&mut self, alloc: Global, path: &str) -> Result<bool, AllocError> {
-        let folder = self.folder;
-        for (at, _) in path.match_indices('/') {
-            let (above, _) = path.split_at(path.floor_char_boundary(at));
-            if self.leaves(alloc, above, folder)? {
+    pub fn leaves_named(&mut self, alloc: Global, path: &str) -> Result<bool, AllocError>
+        ensures left { IfOk result (λ is_left. IsTrue is_left ↔ LeavesNamed self.old path.now) }
+        ensures same { AsksTheSame self.old self.new }
+    {
+        for at in 0..path.len() {
+            if self.leaves_above(alloc, path, at)? {
                 return Ok(true);
             }
         }
+        let folder = self.folder;
         self.leaves(alloc, path, folder)
+    }
+
+    // Whether a folder's path ends at this byte of a path, and is left alone.
+    fn leaves_above(&mut self, alloc: Global, path: &str, at: usize) -> Result<bool, AllocError>
+        ensures left { IfOk result (λ is_left. IsTrue is_left ↔ LeavesAbove self.old path.now at) }
+        ensures same { AsksTheSame self.old self.new }
+    {
+        let Some((above, rest)) = path.split_at_checked(at) else {
+            return Ok(false);
+        };
+        if !rest.starts_with('/') {
+            return Ok(false);
+        }
+        let folder = self.folder;
+        self.leaves(alloc, above, folder)
     }
 
     /// The words that nothing was met for.

@@ -1,8 +1,8 @@
 //! Formats files of policies in place, or checks them. The script `cedar-files` runs it.
 //!
 //! The script names a folder by the variable `NOBLESILK_ROOM`, and tells in it what this program can't find out by itself:
-//! whether a signal has come, and which files have an access control list (`room.rt`). Without the variable a signal ends the
-//! program at once, and it doesn't know of any list.
+//! whether a signal has come, and which files have an access control list or extended attributes (`room.rt`). Without the
+//! variable a signal ends the program at once, and it doesn't know of any list or attribute.
 #![tactic(auto)]
 
 mod beside;
@@ -11,13 +11,13 @@ mod counts;
 mod diff;
 mod disk;
 mod excludes;
+mod fault;
 mod files;
 mod layouts;
 mod names;
 mod options;
 mod paths;
 mod places;
-mod refusal;
 mod reports;
 mod room;
 mod text;

@@ -26,6 +26,27 @@ impl fmt::Display for Escaped<'_> {
     }
 }
 
+/// A name that isn't UTF-8, in quotes, with escapes as in C.
+#[derive(Clone, Copy)]
+pub struct ShownBytes<'a>(pub &'a [u8]);
+
+impl fmt::Display for ShownBytes<'_> {
+    fn fmt<W: fmt::Write>(&self, f: &mut fmt::Formatter<W>) -> fmt::Result {
+        f.write_char('"')?;
+        for byte in self.0 {
+            match byte {
+                b'"' => f.write_str("\\\"")?,
+                b'\\' => f.write_str("\\\\")?,
+                b'\n' => f.write_str("\\n")?,
+                b'\t' => f.write_str("\\t")?,
+                b' '..=b'~' => f.write_char(char::from(*byte))?,
+                _ => write!(f, "\\{byte:03o}")?,
+            }
+        }
+        f.write_char('"')
+    }
+}
+
 /// Whether a name is printed in quotes.
 pub fn is_quoted(name: &str) -> bool {
     name.starts_with('"') || name.chars().any(|it| it.is_control())

@@ -67,7 +67,7 @@ static FORMATS: [&str; 3] = ["text", "github", "json"];
 
 static EXAMPLES: &str =
     "Names of files that were replaced, or aren't formatted, go to standard output, and faults as \
-FILE:LINE:COLUMN: WHY to standard error; columns are counted in bytes.
+FILE:LINE:COLUMN: WHY to standard error, of a file the first ten; columns are counted in bytes.
 Status: 0; 3 with --check or --diff where a file isn't formatted; 1 where a file is refused, or can't be read or written
 (the others are done all the same), or where the output can't be written; 2 for a usage error.
 A file .cedar-files.NUMBER.LETTERS is left by a run that was killed, and can be removed.

@@ -1,4 +1,7 @@
 //! Paths as texts.
+ghost use Rattle.std.specs.Prelude.{◌≡◌, IfOk, [], map, string_bytes};
+ghost use Rattle.cedar_files.specs.Paths.{absolute, led, next, path_of};
+
 use std::alloc::{AllocError, Global};
 use std::env;
 
@@ -11,21 +14,49 @@ pub fn working_folder(rt: &HostRuntime) -> Result<String, AllocError> {
     }
 }
 
-/// The absolute path of a file, without `.` and `..`, from a folder that is given without a slash at the end.
-pub fn resolved(alloc: Global, folder: &str, name: &str) -> Result<String, AllocError> {
+/// The absolute path of a file, without `.` and `..`, from a folder that is given by its absolute path.
+pub fn resolved(alloc: Global, folder: &str, name: &str) -> Result<String, AllocError>
+    ensures { IfOk result (λ path. string_bytes path ≡ path_of folder.now name.now) }
+{
     let mut parts = Vec::new(alloc);
-    let folder = if name.starts_with('/') { "" } else { folder };
-    for part in folder.split('/').chain(name.split('/')) {
-        match part {
-            "" | "." => {}
-            ".." => {
-                let _ = parts.pop();
-            }
-            _ => parts.push(part)?,
-        }
+    if !name.starts_with('/') {
+        follow(alloc, &mut parts, folder)?;
     }
+    follow(alloc, &mut parts, name)?;
+    joined(alloc, &parts)
+}
+
+// Follows a path from a folder that is given by its parts.
+fn follow<'a>(alloc: Global, parts: &mut Vec<&'a str>, path: &'a str) -> Result<(), AllocError>
+    ensures { IfOk result (λ _. map (λ x. x.now) parts.new.items ≡ led (map (λ x. x.now) parts.old.items) path.now) }
+{
+    let names: Vec<&'a str> = path.split('/').collect(alloc)?;
+    for name in &names {
+        go_on(parts, name)?;
+    }
+    Ok(())
+}
+
+// Goes on from a folder to what is named there.
+fn go_on<'a>(parts: &mut Vec<&'a str>, name: &'a str) -> Result<(), AllocError>
+    ensures { IfOk result (λ _. map (λ x. x.now) parts.new.items ≡ next (map (λ x. x.now) parts.old.items) name.now) }
+{
+    match name {
+        "" | "." => {}
+        ".." => {
+            let _ = parts.pop();
+        }
+        _ => parts.push(name)?,
+    }
+    Ok(())
+}
+
+// The path from the root of these parts.
+fn joined(alloc: Global, parts: &[&str]) -> Result<String, AllocError>
+    ensures { IfOk result (λ path. string_bytes path ≡ absolute (map (λ x. x.now) parts.now)) }
+{
     let mut path = String::new(alloc);
-    for part in &parts {
+    for part in parts {
         path.push('/')?;
         path.push_str(part)?;
     }

@@ -1,12 +1,13 @@
 //! What a run prints.
 use crate::counts::FAILED;
 use crate::diff::write_diff;
+use crate::fault::ShownFault;
 use crate::names::{CommandText, JsonText, Shown};
 use crate::options::{Format, Options};
-use crate::places::Place;
-use crate::refusal::Refusal;
-use cedar_faults::listing::faults;
+use crate::places::{Place, place_after};
+use cedar_faults::listing::first_faults;
 use cedar_policy_formatter::FormatError;
+use std::alloc::AllocError;
 use std::io::{BufWriter, ErrorKind, IsTerminal, Write};
 use std::rt::Stdout;
 use std::time::{Duration, Instant};
@@ -14,6 +15,11 @@ use std::{fmt, io};
 
 // How often the progress is shown, in milliseconds.
 const PAUSE: u64 = 100;
+
+// The most faults of a text that are printed for people, and for programs.
+const MOST_FOR_PEOPLE: usize = 10;
+
+const MOST_FOR_PROGRAMS: usize = 100;
 
 /// What is said about a file.
 #[derive(Clone, Copy, Debug, PartialEq, Eq)]
@@ -48,7 +54,7 @@ pub struct Reports<'a> {
     format: Format,
     // What follows a name.
     end: &'static str,
-    // Whether standard error is a terminal, where a refusal is followed by its line.
+    // Whether standard error is a terminal, where a fault is followed by its line.
     is_watched: bool,
     shows_progress: bool,
     // When the progress was shown last, if it stands there.
@@ -91,28 +97,32 @@ impl<'a> Reports<'a> {
         self.keep(printed);
     }
 
-    /// Prints why a text is refused: all its faults, or why it couldn't be formatted.
+    /// Prints why a text is refused: its faults, for people the first ten, or why it couldn't be formatted. Without memory
+    /// for its faults that is said, and where and why it was refused.
     pub fn refuse(&mut self, file: &str, text: &str, error: FormatError) {
-        let printed = match error {
-            FormatError::OutOfMemory | FormatError::NoDocument | FormatError::Unsound => {
-                self.print_failure(file, error)
+        let place = place_of(text, error);
+        if place.is_some() {
+            if self.print_faults(file, text).is_ok() {
+                return;
             }
-            _ => self.print_faults(file, text),
-        };
-        self.keep(printed);
+            self.add_failure(file, "out of memory, so not all its faults are reported");
+        }
+        self.add(&Remark {
+            kind: match error {
+                FormatError::OutOfMemory => Kind::Failed,
+                _ => Kind::Refused,
+            },
+            file,
+            place,
+            message: reason_of(error),
+        });
     }
 
     /// Prints that a file couldn't be read or written, or something else that failed, and why.
     pub fn fail(&mut self, file: &str, what: &str, error: &io::Error) {
-        let message = format!(in self.rt.alloc(); "{what}{}", Why(error));
-        match message {
-            Ok(message) => self.add(&Remark {
-                kind: Kind::Failed,
-                file,
-                place: None,
-                message: message.as_str(),
-            }),
-            Err(error) => self.keep(Err(error.into())),
+        match format!(in self.rt.alloc(); "{what}{}", Why(error)) {
+            Ok(message) => self.add_failure(file, message.as_str()),
+            Err(_) => self.add_failure(file, "out of memory"),
         }
     }
 
@@ -120,6 +130,11 @@ impl<'a> Reports<'a> {
     pub fn diff(&mut self, file: &str, before: &str, after: &str) {
         self.hide_progress();
         let printed = write_diff(self.rt.alloc(), &mut self.out, file, before, after);
+        if let Err(error) = &printed {
+            if error.kind() == ErrorKind::OutOfMemory {
+                self.add_failure(file, "out of memory");
+            }
+        }
         self.keep(printed);
     }
 
@@ -158,6 +173,16 @@ impl<'a> Reports<'a> {
             }
             None => true,
         }
+    }
+
+    // Prints what failed about a file.
+    fn add_failure(&mut self, file: &str, message: &str) {
+        self.add(&Remark {
+            kind: Kind::Failed,
+            file,
+            place: None,
+            message,
+        });
     }
 
     // Removes the line of the progress.
@@ -232,43 +257,74 @@ impl<'a> Reports<'a> {
         )
     }
 
-    // Prints why an accepted text couldn't be formatted.
-    fn print_failure(&mut self, file: &str, error: FormatError) -> io::Result<()> {
-        let reason = format!(in self.rt.alloc(); "{error}")?;
-        self.add(&Remark {
-            kind: match error {
-                FormatError::OutOfMemory => Kind::Failed,
-                _ => Kind::Refused,
-            },
-            file,
-            place: None,
-            message: reason.as_str(),
-        });
-        Ok(())
-    }
-
-    // Prints the faults of a text, on a terminal each with its line.
-    fn print_faults(&mut self, file: &str, text: &str) -> io::Result<()> {
-        for fault in &faults(self.rt.alloc(), text)? {
-            self.print_refusal(file, &Refusal { text, fault })?;
+    // Prints the first faults of a text, and whether there are more.
+    fn print_faults(&mut self, file: &str, text: &str) -> Result<(), AllocError> {
+        let alloc = self.rt.alloc();
+        let most = match self.format {
+            Format::Text => MOST_FOR_PEOPLE,
+            Format::Github | Format::Json => MOST_FOR_PROGRAMS,
+        };
+        // (one more tells whether there are more)
+        let faults = first_faults(alloc, text, most + 1)?;
+        for fault in faults.iter().take(most) {
+            self.print_fault(file, &ShownFault { text, fault })?;
+        }
+        if faults.len() > most {
+            self.add(&Remark {
+                kind: Kind::Refused,
+                file,
+                place: None,
+                message: "more faults, which are left out",
+            });
         }
         Ok(())
     }
 
-    fn print_refusal(&mut self, file: &str, refusal: &Refusal<'_, '_>) -> io::Result<()> {
+    // Prints a fault, on a terminal with its line.
+    fn print_fault(&mut self, file: &str, fault: &ShownFault<'_, '_>) -> Result<(), AllocError> {
         let alloc = self.rt.alloc();
-        let reason = refusal.reason(alloc)?;
+        let reason = fault.reason(alloc)?;
         self.add(&Remark {
             kind: Kind::Refused,
             file,
-            place: Some(refusal.place()),
+            place: Some(fault.place()),
             message: reason.as_str(),
         });
         if self.is_watched && self.format == Format::Text {
-            let line = refusal.marked_line(alloc)?;
-            return write!(self.rt.stderr(), "{line}\n");
+            let line = fault.marked_line(alloc)?;
+            let printed = write!(self.rt.stderr(), "{line}\n");
+            self.keep(printed);
         }
         Ok(())
+    }
+}
+
+// Where a text is refused, if it is.
+fn place_of(text: &str, error: FormatError) -> Option<Place> {
+    match error {
+        FormatError::UnknownCharacter { at }
+        | FormatError::UnfinishedString { at }
+        | FormatError::NumberTooLarge { at }
+        | FormatError::Grammar { at }
+        | FormatError::TooDeep { at } => {
+            let (before, _) = text.split_at(text.floor_char_boundary(at));
+            Some(place_after(before.as_bytes()))
+        }
+        FormatError::NoDocument | FormatError::Unsound | FormatError::OutOfMemory => None,
+    }
+}
+
+// Why a text couldn't be formatted, in words that take no memory.
+fn reason_of(error: FormatError) -> &'static str {
+    match error {
+        FormatError::UnknownCharacter { .. } => "unknown character",
+        FormatError::UnfinishedString { .. } => "unfinished string",
+        FormatError::NumberTooLarge { .. } => "number too large",
+        FormatError::Grammar { .. } => "not in the grammar",
+        FormatError::TooDeep { .. } => "nested too deeply",
+        FormatError::NoDocument => "failed to produce doc",
+        FormatError::Unsound => "formatter changed the policies",
+        FormatError::OutOfMemory => "out of memory",
     }
 }
 

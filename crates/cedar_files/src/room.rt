@@ -6,13 +6,13 @@ use std::{env, fs, io};
 // The variable that names the folder for it.
 const VARIABLE: &str = "NOBLESILK_ROOM";
 
-/// What the script tells a run, in files of a folder: `stop` exists as soon as a signal has come, and `rights` names files that
-/// have an access control list.
+/// What the script tells a run, in files of a folder: `stop` exists as soon as a signal has come, and `rights` and
+/// `attributes` have the numbers of files with an access control list and with extended attributes.
 #[derive(Drop)]
 pub struct Room {
     stop: Option<String>,
-    // The numbers of these files.
     rights: BTreeSet<u64>,
+    attributes: BTreeSet<u64>,
 }
 
 impl Room {
@@ -22,29 +22,28 @@ impl Room {
         let mut room = Room {
             stop: None,
             rights: BTreeSet::new(alloc),
+            attributes: BTreeSet::new(alloc),
         };
         let Ok(folder) = env::var(rt, VARIABLE) else {
             return Ok(room);
         };
         room.stop = Some(format!(in alloc; "{folder}/stop")?);
-        let list = format!(in alloc; "{folder}/rights")?;
-        room.read(fs::read_to_string(rt, list.as_str())?.as_str())?;
+        let rights = format!(in alloc; "{folder}/rights")?;
+        read_numbers(rt, rights.as_str(), &mut room.rights)?;
+        let attributes = format!(in alloc; "{folder}/attributes")?;
+        read_numbers(rt, attributes.as_str(), &mut room.attributes)?;
         Ok(room)
     }
 
-    // Reads the numbers of the files: the first word of each line.
-    fn read(&mut self, list: &str) -> io::Result<()> {
-        for line in list.lines() {
-            if let Ok(number) = line.parse::<u64>() {
-                let _ = self.rights.insert(number)?;
-            }
+    /// What a new file would lose that the file with this number has.
+    pub fn loss_of(&self, number: u64) -> Option<&'static str> {
+        if self.rights.contains(&number) {
+            Some("it has an access control list, which a new file would lose")
+        } else if self.attributes.contains(&number) {
+            Some("it has extended attributes, which a new file would lose")
+        } else {
+            None
         }
-        Ok(())
-    }
-
-    /// Whether the file with this number has an access control list.
-    pub fn has_more_rights(&self, number: u64) -> bool {
-        self.rights.contains(&number)
     }
 
     /// Whether the run is to end.
@@ -54,4 +53,14 @@ impl Room {
             None => false,
         }
     }
+}
+
+// Reads the numbers in a file, one a line.
+fn read_numbers(rt: &HostRuntime, path: &str, numbers: &mut BTreeSet<u64>) -> io::Result<()> {
+    for line in fs::read_to_string(rt, path)?.as_str().lines() {
+        if let Ok(number) = line.parse::<u64>() {
+            let _ = numbers.insert(number)?;
+        }
+    }
+    Ok(())
 }

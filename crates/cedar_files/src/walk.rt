@@ -1,12 +1,13 @@
 //! The files that the words name.
 use crate::beside::is_left;
 use crate::excludes::Excludes;
+use crate::names::ShownBytes;
 use crate::options::Options;
 use crate::paths::resolved;
 use crate::reports::{Kind, Remark, Reports};
 use std::collections::BTreeSet;
-use std::fs::DirEntry;
-use std::io::ErrorKind;
+use std::fs::Files;
+use std::io::{BufRead, BufReader, ErrorKind};
 use std::{fs, io};
 
 /// The files to do, in order, each name once, and how many faults were reported on the way.
@@ -114,20 +115,29 @@ impl<'a, 'e, 'r> Walk<'a, 'e, 'r> {
 
     // Adds what a folder contains. Its name has no slash at the end, and is empty for the root.
     fn list(&mut self, folder: &str) -> io::Result<()> {
-        let root = if folder.is_empty() { "/" } else { folder };
-        for entry in fs::read_dir(self.rt, root)? {
-            match entry {
-                Ok(entry) => self.enter(folder, &entry)?,
-                Err(error) => self.fail(folder, &error)?,
+        let alloc = self.rt.alloc();
+        // (not by `read_dir`, which doesn't show names that aren't UTF-8)
+        let path = format!(in alloc; "{folder}/")?;
+        let mut names = BufReader::new(alloc, self.rt.open_dir(path.as_str())?)?;
+        let mut name = Vec::new(alloc);
+        for _ in 0..u64::MAX {
+            name.clear();
+            if names.read_until(0, &mut name)? == 0 {
+                break;
+            }
+            let name = name.strip_suffix(b"\0").unwrap_or(&name);
+            match str::from_utf8(name) {
+                Ok("." | "..") => {}
+                Ok(name) => self.enter(folder, name)?,
+                Err(_) => self.leave_name(folder, name)?,
             }
         }
         Ok(())
     }
 
-    // Adds an entry of a folder, unless it is hidden or excluded.
-    fn enter(&mut self, folder: &str, entry: &DirEntry) -> io::Result<()> {
+    // Adds what has this name in a folder, unless it is hidden or excluded.
+    fn enter(&mut self, folder: &str, name: &str) -> io::Result<()> {
         let alloc = self.rt.alloc();
-        let name = entry.file_name();
         let path = format!(in alloc; "{folder}/{name}")?;
         if name.starts_with('.') {
             if is_left(self.rt, alloc, name)? {
@@ -148,10 +158,10 @@ impl<'a, 'e, 'r> Walk<'a, 'e, 'r> {
         {
             return Ok(());
         }
-        match entry.file_type() {
-            Ok(kind) if kind.is_dir() => self.folders.push(path)?,
-            Ok(kind) if !name.ends_with(".cedar") || !(kind.is_file() || kind.is_symlink()) => {}
-            Ok(kind) => self.take_file(path, kind.is_symlink())?,
+        match fs::symlink_metadata(self.rt, path.as_str()) {
+            Ok(found) if found.is_dir() => self.folders.push(path)?,
+            Ok(found) if !name.ends_with(".cedar") || !(found.is_file() || found.is_symlink()) => {}
+            Ok(found) => self.take_file(path, found.is_symlink())?,
             Err(error) if error.kind() == ErrorKind::NotFound => {
                 self.note(path.as_str(), "vanished in the meantime");
             }
@@ -210,16 +220,26 @@ impl<'a, 'e, 'r> Walk<'a, 'e, 'r> {
             return Err(*error);
         }
         self.faults = self.faults.saturating_add(1);
-        if error.kind() == ErrorKind::InvalidFilename && error.raw_os_error().is_none() {
-            self.reports.add(&Remark {
-                kind: Kind::Failed,
-                file: path,
-                place: None,
-                message: "has a name that is not UTF-8, which is left alone",
-            });
-        } else {
-            self.reports.fail(path, "cannot be read: ", error);
+        self.reports.fail(path, "cannot be read: ", error);
+        Ok(())
+    }
+
+    // Reports a name in a folder that isn't UTF-8, unless it is hidden.
+    fn leave_name(&mut self, folder: &str, name: &[u8]) -> io::Result<()> {
+        if name.starts_with(b".") {
+            return Ok(());
         }
+        self.faults = self.faults.saturating_add(1);
+        let message = format!(in self.rt.alloc();
+            "holds {}, which is left alone: its name is not UTF-8",
+            ShownBytes(name)
+        )?;
+        self.reports.add(&Remark {
+            kind: Kind::Failed,
+            file: if folder.is_empty() { "/" } else { folder },
+            place: None,
+            message: message.as_str(),
+        });
         Ok(())
     }
 }

@@ -1,4 +1,4 @@
-//! What is wrong with a text, and where.
+//! How a fault of a text is shown.
 use crate::places::{Place, first_line, last_line, place_after};
 use cedar_faults::fault::Fault;
 use std::alloc::{AllocError, Global};
@@ -9,16 +9,16 @@ const BYTE_ORDER_MARK: char = '\u{feff}';
 // The most characters shown before a place and after it.
 const SHOWN: usize = 60;
 
-/// A fault of a text.
+/// A fault of a text, as it is shown.
 #[derive(Clone, Copy)]
-pub struct Refusal<'a, 'src> {
+pub struct ShownFault<'a, 'src> {
     /// The text.
     pub text: &'a str,
     /// The fault.
     pub fault: &'a Fault<'src>,
 }
 
-impl Refusal<'_, '_> {
+impl ShownFault<'_, '_> {
     /// Where it is: at what can't be there, or after the last token of a text that ends too early.
     pub fn place(&self) -> Place {
         let (before, _) = self.halves();
@@ -30,10 +30,7 @@ impl Refusal<'_, '_> {
         if self.byte() == 0 && self.text.starts_with(BYTE_ORDER_MARK) {
             return String::from_str(alloc, "a byte order mark at the start");
         }
-        match self.fault.tip() {
-            Some(tip) => format!(in alloc; "{}; {tip}", self.fault),
-            None => format!(in alloc; "{}", self.fault),
-        }
+        self.fault.message(alloc)
     }
 
     /// The line of the place, and below it a mark under the place.
