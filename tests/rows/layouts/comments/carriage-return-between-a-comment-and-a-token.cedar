@@ -1,0 +1,1 @@
+// apermit(principal,action,resource) // b;
