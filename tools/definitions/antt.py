@@ -314,6 +314,7 @@ class Specs:
         module, inner = file.uses.get(name, (None, name))
         if "." in name:
             alias, _, inner = name.partition(".")
-            module = file.aliases.get(alias)
+            # (a case of an enum of the code is named after its type)
+            module = file.aliases.get(alias) or file.uses.get(alias, (None,))[0]
         other = module and self.file(module)
         return self.find(other, inner) if other else ("outside", inner, module)
