@@ -91,10 +91,10 @@
              (skip-chars-backward "A-Za-z0-9_")
              (buffer-substring-no-properties (point) end))))))
 
-(defun cedar--face-of-name (word before)
-  "The face of WORD, which is no reserved word and has BEFORE in front of it."
+(defun cedar--face-of-name (word end before)
+  "The face of WORD, no reserved one, which ends at END and has BEFORE in front."
   (save-excursion
-    (goto-char (match-end 0))
+    (goto-char end)
     (cedar--skip)
     (let ((is-called (eq (char-after) ?\()))
       (cond ((equal before ".") (if is-called 'cedar-method 'cedar-attribute))
@@ -117,17 +117,23 @@
             ((match-beginning 4) 'cedar-annotation)
             ((match-beginning 5) 'cedar-operator)
             (word
-             (let ((before (cedar--before (match-beginning 1))))
+             (let* ((end (match-end 1)) (before (cedar--before (match-beginning 1))))
                (cond ((equal before "@") 'cedar-annotation)
                      ((member word '("true" "false")) 'cedar-boolean)
                      ((member word cedar--reserved) 'font-lock-keyword-face)
-                     (t (cedar--face-of-name word before)))))))))
+                     (t (cedar--face-of-name word end before)))))))))
+
+(defun cedar--is-text (at)
+  "Whether AT is in a comment or a string."
+  (save-excursion
+    (save-match-data
+      (nth 8 (syntax-ppss at)))))
 
 (defun cedar--next (limit)
   "Find the next token before LIMIT that is in no comment and no string."
   (let (found)
     (while (and (not found) (re-search-forward cedar--token limit t))
-      (setq found (not (or (eq (char-before) ?\") (save-match-data (nth 8 (syntax-ppss (match-beginning 0))))))))
+      (setq found (not (or (eq (char-before) ?\") (cedar--is-text (match-beginning 0))))))
     found))
 
 (defvar cedar-font-lock-keywords '((cedar--next (0 (cedar--face))))
