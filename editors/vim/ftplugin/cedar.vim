@@ -18,4 +18,4 @@ augroup cedar_format
 augroup END
 
 let b:undo_ftplugin = 'setlocal commentstring< comments< formatoptions< expandtab< shiftwidth< softtabstop< formatexpr<'
-let b:undo_ftplugin .= ' | delcommand -buffer CedarFormat | execute "autocmd! cedar_format * <buffer>"'
+let b:undo_ftplugin .= ' | silent! delcommand CedarFormat | execute "autocmd! cedar_format * <buffer>"'
