@@ -1,8 +1,8 @@
-// What a role opens is narrowed by tags: a tag that is on the principal for
-// this role has to be on the resource, too.
-@id("role-a-by-country")
-permit(principal in Role::"A", action in Group::"A-actions", resource)
+// What a role opens is narrowed by the marks that a principal has for this role:
+// an auditor looks at what lies in their regions.
+@id("auditor-by-region")
+permit(principal in Role::"auditor", action in Group::"audit", resource)
 when {
-  principal.taggedRoles has A && principal.taggedRoles.A has country &&
-  (principal.taggedRoles.A.country.contains("ALL") || principal.taggedRoles.A.country.containsAll(resource.countries))
+  principal.limits has auditor && principal.limits.auditor has regions &&
+  (principal.limits.auditor.regions.isEmpty() || principal.limits.auditor.regions.containsAll(resource.regions))
 };
