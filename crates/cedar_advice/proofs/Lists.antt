@@ -25,6 +25,11 @@ offer_more e text touched all [] f fixes own none one =
 offer_more e text touched all (g ∷ fs) f fixes own (first, more, same, offered, others) one =
     (first, more ++ own, ap (λ z. z ++ own) same ∙ append_assoc first more own, offered, offer_more e text touched all fs f more own others one)
 
+-- a list with one item more isn't empty
+pub not_empty : {X : Type 0} (xs : List X) (x : X) → xs ++ x ∷ [] ≡ [] → ⊥
+not_empty [] x e = absurd cc
+not_empty (y ∷ ys) x e = absurd cc
+
 -- without diagnoses there are no faults, and the other way round
 pub no_faults : (e : Encoding) (text : List ℕ) (fs : List Fault) (ds : List Diagnosis) → TellAll e text fs ds → ds ≡ [] → fs ≡ []
 no_faults e text [] ds told none = refl

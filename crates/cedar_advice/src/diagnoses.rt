@@ -1,8 +1,9 @@
 //! What is wrong with a text.
 ghost use Rattle.std.specs.Prelude.{◌≡◌, IfOk};
-ghost use Rattle.cedar_advice.specs.Diagnoses.{Tells, code_of};
+ghost use Rattle.cedar_advice.specs.Diagnoses.{Relates, Tells, TellsMore, code_of};
 
 use crate::ranges::range_of;
+use cedar_faults::brackets::Bracket;
 use cedar_faults::fault::Fault;
 use cedar_positions::{Encoding, Range};
 use cedar_tree::error::FormatError;
@@ -21,6 +22,17 @@ pub enum Code {
     Grammar,
     /// Brackets and `if`s are nested too deeply.
     TooDeep,
+    /// There are more faults, which are left out.
+    More,
+}
+
+/// Another part of the text that a diagnosis refers to.
+#[derive(Debug, Drop)]
+pub struct Related {
+    /// The part: a bracket that isn't closed.
+    pub range: Range,
+    /// What is said of it.
+    pub message: String,
 }
 
 /// A fault of a text, as an editor shows it.
@@ -33,9 +45,11 @@ pub struct Diagnosis {
     pub code: Code,
     /// What is wrong, in words, with a tip if there is one.
     pub message: String,
+    /// The bracket that the fault leaves open.
+    pub related: Option<Related>,
 }
 
-/// Of how many faults of a text is told at most.
+/// Of how many faults of a text is told at most, before it is said that there are more.
 pub const MOST: usize = 100;
 
 /// What is told of a fault of the text.
@@ -48,11 +62,48 @@ pub fn tell(
     ensures { IfOk result (Tells encoding text.now fault.now) }
 {
     let message = fault.message(alloc)?;
+    let related = relate(alloc, text, fault.unclosed, encoding)?;
     Ok(Diagnosis {
         range: range_of(text, fault.part, encoding),
         code: code_of(fault.error),
         message,
+        related,
     })
+}
+
+/// What is told at the first fault of the text that is left out.
+pub fn tell_more(
+    alloc: Global,
+    text: &str,
+    fault: &Fault<'_>,
+    encoding: Encoding,
+) -> Result<Diagnosis, AllocError>
+    ensures { IfOk result (TellsMore encoding text.now fault.now) }
+{
+    let message = String::from_str(alloc, "more faults, which are left out")?;
+    Ok(Diagnosis {
+        range: range_of(text, fault.part, encoding),
+        code: Code::More,
+        message,
+        related: None,
+    })
+}
+
+// What is told of a bracket that isn't closed, if there is one.
+fn relate(
+    alloc: Global,
+    text: &str,
+    unclosed: Option<Bracket>,
+    encoding: Encoding,
+) -> Result<Option<Related>, AllocError>
+    ensures { IfOk result (Relates encoding text.now unclosed) }
+{
+    let Some(bracket) = unclosed else {
+        return Ok(None);
+    };
+    let message = format!(in alloc; "{bracket}")?;
+    let range = range_of(text, bracket.part, encoding);
+    Ok(Some(Related { range, message }))
 }
 
 // The reason without its place.

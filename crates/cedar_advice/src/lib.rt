@@ -9,5 +9,5 @@ pub mod laws;
 mod ranges;
 
 pub use completions::{Completions, complete};
-pub use diagnoses::{Code, Diagnosis, MOST, tell};
+pub use diagnoses::{Code, Diagnosis, MOST, Related, tell, tell_more};
 pub use fixes::{Fix, find_fixes};

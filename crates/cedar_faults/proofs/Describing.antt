@@ -61,7 +61,7 @@ module _ (text : List ℕ) (at : ℕ) (r : Reaches text at) where
   pub front_tokens : HasTokens (take at text)
   front_tokens = start_tokens text at r.before start
 
-  front_splits : SplitsInto (take at text) r.before
+  pub front_splits : SplitsInto (take at text) r.before
   front_splits = start_splits text at r.before start
 
   pub kinds_there : (kinds : List Kind) → KindsFollow (take at text) kinds

@@ -1,3 +1,4 @@
+mod Bracketing
 mod Chains
 mod Describing
 mod Ending

@@ -1,5 +1,5 @@
 -- The faults of a text: for each policy that isn't accepted, the first byte at which no accepted text continues.
-use Rattle.std.specs.Prelude.{◌≡◌, ◌↔◌, ◌⊎◌, ◌+◌, ◌<◌, ◌≤◌, ℕ, IsTrue, List, [], ◌∷◌, length, take, drop, slice_range, Option, Some, None, ⊤}
+use Rattle.std.specs.Prelude.{◌≡◌, ◌↔◌, ◌⊎◌, ◌+◌, ◌<◌, ◌≤◌, ℕ, IsTrue, List, [], ◌∷◌, length, take, drop, slice_range, Option, Some, None, IfSome, ⊤}
 use Rattle.std.specs.Option.{option_map}
 use Rattle.std.specs.Str.{IsCharBoundary}
 use Rattle.cedar_tokens.specs.declared.token.Span.{Span}
@@ -12,7 +12,9 @@ use Rattle.cedar_expected.specs.Expectations.{AreAllAfter, IsList}
 use Rattle.cedar_expected.specs.Naming.{AreNamed}
 use Rattle.cedar_faults.specs.FirstFaults.{IsFirstOf, Reaches, place_of}
 use Rattle.cedar_faults.specs.Marks.{Marks}
+use Rattle.cedar_faults.specs.Brackets.{left_open}
 use Rattle.cedar_faults.specs.Recovery.{Resumes}
+use Rattle.cedar_faults.specs.declared.brackets.Bracket.{Bracket}
 use Rattle.cedar_faults.specs.declared.fault.Fault.{Fault}
 use Rattle.cedar_faults.specs.declared.reader.Step.{Step}
 use Rattle.cedar_faults.specs.declared.reader.Step.TheVariants as step
@@ -29,13 +31,14 @@ abbrev pub IsFound : List ℕ → Span → ℕ → Option (List ℕ) → Type 0
 IsFound text part at None = at ≡ length text
 IsFound text part at (Some found) = (at < length text) × (found ≡ slice_range text part.start part.end)
 
--- the first fault of a text, the part of the text that it is about, and what could be there
+-- the first fault of a text, the part of the text that it is about, what could be there, and the bracket that it leaves open
 pub record IsFault (text : List ℕ) (f : Fault) : Type 0 where
   pub first : IsFirstOf text f.error
   pub place : place_of f.error ≡ Some f.expected.at
   pub part : Marks text f.error f.part
   pub expects : Expects text f.expected
   pub found : IsFound text f.part f.expected.at (option_map (λ t. t.now) f.expected.found)
+  pub unclosed : f.unclosed ≡ left_open f.expected.found expects.reached.before
 
 -- the error with its place so many bytes later
 abbrev pub later : ℕ → FormatError → FormatError
@@ -48,12 +51,19 @@ later by NoDocument = NoDocument
 later by Unsound = Unsound
 later by OutOfMemory = OutOfMemory
 
+abbrev pub moved_part : ℕ → Span → Span
+moved_part by s = record { start = by + s.start; end = by + s.end }
+
+abbrev pub moved_bracket : ℕ → Bracket → Bracket
+moved_bracket by b = record { part = moved_part by b.part; kind = b.kind }
+
 -- the fault so many bytes later
 abbrev pub moved : ℕ → Fault → Fault
 moved by f = record {
   error = later by f.error;
-  part = record { start = by + f.part.start; end = by + f.part.end };
+  part = moved_part by f.part;
   expected = record { at = by + f.expected.at; found = f.expected.found; kinds = f.expected.kinds; names = f.expected.names; end = f.expected.end };
+  unclosed = option_map (moved_bracket by) f.unclosed;
 }
 
 -- an accepted policy and the rest of its line come first: n bytes
@@ -91,6 +101,7 @@ pub record IsInText (text : List ℕ) (f : Fault) : Type 0 where
   pub at : f.expected.at ≤ length text
   pub start : f.part.start ≤ length text
   pub end : f.part.end ≤ length text
+  pub unclosed : IfSome f.unclosed (λ b. (b.part.start ≤ length text) × (b.part.end ≤ length text))
 
 -- what a search finds next: no fault is left; or this one, and the search continues after it
 abbrev pub FindsNext : Search → Search → Option Fault → Type 0

@@ -3,6 +3,7 @@ pub mod FirstFaults
 pub mod Recovery
 pub mod Laws
 pub mod Marks
+pub mod Brackets
 pub mod Tips
 pub mod Words
 pub mod Inside

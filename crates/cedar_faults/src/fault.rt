@@ -1,4 +1,5 @@
 //! A fault of a text.
+use crate::brackets::Bracket;
 use cedar_expected::expectation::Expected;
 use cedar_tokens::token::Span;
 use cedar_tree::error::FormatError;
@@ -14,4 +15,7 @@ pub struct Fault<'src> {
     pub part: Span,
     /// What is at the place, and what could be: the text of `part` and kinds of tokens.
     pub expected: Expected<'src>,
+    /// The innermost bracket of the policy that is still open, if the fault is the end of the text, a `;` or a closing bracket
+    /// of another kind.
+    pub unclosed: Option<Bracket>,
 }

@@ -3,6 +3,7 @@
 #![tactic(auto)]
 
 pub mod beginnings;
+pub mod brackets;
 pub mod fault;
 pub mod laws;
 pub mod listing;

@@ -1,9 +1,10 @@
 //! Faults of a part of a text as faults of the whole.
-ghost use Rattle.std.specs.Prelude.{◌≡◌, ◌+◌, ◌<◌, ◌^◌, ◌≢◌, MatchOption, None, Some, ⊤};
-ghost use Rattle.cedar_faults.specs.Faults.{later, moved};
+ghost use Rattle.std.specs.Prelude.{◌≡◌, ◌+◌, ◌<◌, ◌^◌, ◌≢◌, IfSome, MatchOption, None, Some, option_map, ⊤};
+ghost use Rattle.cedar_faults.specs.Faults.{later, moved, moved_bracket, moved_part};
 ghost use Rattle.cedar_faults.specs.FirstFaults.{place_of};
-ghost use Rattle.cedar_faults.specs.Inside.Searches.{HasRoom};
+ghost use Rattle.cedar_faults.specs.Inside.Searches.{HasRoom, HasRoomAt};
 
+use crate::brackets::Bracket;
 use crate::fault::Fault;
 use cedar_expected::expectation::Expected;
 use cedar_tokens::token::Span;
@@ -31,15 +32,35 @@ pub(crate) fn moved<'src>(fault: Fault<'src>, by: usize) -> Fault<'src>
 {
     Fault {
         error: later(fault.error, by),
-        part: Span {
-            start: by + fault.part.start,
-            end: by + fault.part.end,
-        },
+        part: moved_part(fault.part, by),
         expected: Expected {
             at: by + fault.expected.at,
             ..fault.expected
         },
+        unclosed: moved_bracket(fault.unclosed, by),
     }
+}
+
+// The part so many bytes later.
+fn moved_part(part: Span, by: usize) -> Span
+    requires start { by + part.start < 2 ^ 64 }
+    requires end { by + part.end < 2 ^ 64 }
+    ensures { result ≡ moved_part by part }
+{
+    Span {
+        start: by + part.start,
+        end: by + part.end,
+    }
+}
+
+// The bracket so many bytes later.
+fn moved_bracket(bracket: Option<Bracket>, by: usize) -> Option<Bracket>
+    requires { IfSome bracket (HasRoomAt by) }
+    ensures { result ≡ option_map (moved_bracket by) bracket }
+{
+    let Bracket { part, kind } = bracket?;
+    let part = moved_part(part, by);
+    Some(Bracket { part, kind })
 }
 
 // The error with its place so many bytes later.

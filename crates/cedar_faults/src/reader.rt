@@ -5,6 +5,7 @@ ghost use Rattle.cedar_faults.specs.Inside.Searches.{Finds, IsInside};
 ghost use Rattle.cedar_faults.specs.Faults.{AreFaultsFrom, BeginsWithPolicy, FindsNext, GoesOn, IsFault, IsInText, IsStep, IsStepInText};
 
 use crate::beginnings::{Beginning, read_beginning};
+use crate::brackets::left_open;
 use crate::fault::Fault;
 use crate::marks::marked;
 use crate::moves::{moved, place};
@@ -189,6 +190,7 @@ fn describe<'src>(
     } else {
         None
     };
+    let unclosed = left_open(alloc, before, found)?;
     Ok(Fault {
         error,
         part,
@@ -199,5 +201,6 @@ fn describe<'src>(
             names,
             end,
         },
+        unclosed,
     })
 }

@@ -9,6 +9,17 @@ const BYTE_ORDER_MARK: char = '\u{feff}';
 // The most characters shown before a place and after it.
 const SHOWN: usize = 60;
 
+/// A bracket that a fault leaves open, as it is shown.
+#[derive(Drop)]
+pub struct ShownBracket {
+    /// Where it is.
+    pub place: Place,
+    /// What is said of it.
+    pub message: String,
+    /// The line of the place, and below it a mark under the place.
+    pub marked_line: String,
+}
+
 /// A fault of a text, as it is shown.
 #[derive(Clone, Copy)]
 pub struct ShownFault<'a, 'src> {
@@ -21,7 +32,7 @@ pub struct ShownFault<'a, 'src> {
 impl ShownFault<'_, '_> {
     /// Where it is: at what can't be there, or after the last token of a text that ends too early.
     pub fn place(&self) -> Place {
-        let (before, _) = self.halves();
+        let (before, _) = self.halves(self.byte());
         place_after(before.as_bytes())
     }
 
@@ -35,8 +46,21 @@ impl ShownFault<'_, '_> {
 
     /// The line of the place, and below it a mark under the place.
     pub fn marked_line(&self, alloc: Global) -> Result<String, AllocError> {
-        let (before, after) = self.halves();
+        let (before, after) = self.halves(self.byte());
         line_with_mark(alloc, last_line(before), first_line(after))
+    }
+
+    /// The bracket that it leaves open.
+    pub fn bracket(&self, alloc: Global) -> Result<Option<ShownBracket>, AllocError> {
+        let Some(bracket) = self.fault.unclosed else {
+            return Ok(None);
+        };
+        let (before, after) = self.halves(bracket.part.start);
+        Ok(Some(ShownBracket {
+            place: place_after(before.as_bytes()),
+            message: format!(in alloc; "{bracket}")?,
+            marked_line: line_with_mark(alloc, last_line(before), first_line(after))?,
+        }))
     }
 
     // The byte of the place.
@@ -47,10 +71,9 @@ impl ShownFault<'_, '_> {
         }
     }
 
-    // The text before the place, and from it on.
-    fn halves(&self) -> (&str, &str) {
-        self.text
-            .split_at(self.text.floor_char_boundary(self.byte()))
+    // The text before a byte, and from it on.
+    fn halves(&self, byte: usize) -> (&str, &str) {
+        self.text.split_at(self.text.floor_char_boundary(byte))
     }
 }
 

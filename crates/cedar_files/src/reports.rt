@@ -1,7 +1,7 @@
 //! What a run prints.
 use crate::counts::FAILED;
 use crate::diff::write_diff;
-use crate::fault::ShownFault;
+use crate::fault::{ShownBracket, ShownFault};
 use crate::names::{CommandText, JsonText, Shown};
 use crate::options::{Format, Options};
 use crate::places::{Place, place_after};
@@ -88,11 +88,16 @@ impl<'a> Reports<'a> {
 
     /// Prints a remark.
     pub fn add(&mut self, remark: &Remark<'_>) {
+        self.add_with(remark, None);
+    }
+
+    // Prints a remark. An object of JSON also tells the bracket that a fault leaves open.
+    fn add_with(&mut self, remark: &Remark<'_>, bracket: Option<&ShownBracket>) {
         self.hide_progress();
         let printed = match self.format {
             Format::Text => self.print_text(remark),
             Format::Github => self.print_command(remark),
-            Format::Json => self.print_json(remark),
+            Format::Json => self.print_json(remark, bracket),
         };
         self.keep(printed);
     }
@@ -238,7 +243,11 @@ impl<'a> Reports<'a> {
     }
 
     // An object of JSON, in a line.
-    fn print_json(&mut self, remark: &Remark<'_>) -> io::Result<()> {
+    fn print_json(
+        &mut self,
+        remark: &Remark<'_>,
+        bracket: Option<&ShownBracket>,
+    ) -> io::Result<()> {
         let kind = match remark.kind {
             Kind::Unformatted => "unformatted",
             Kind::Replaced => "replaced",
@@ -252,9 +261,19 @@ impl<'a> Reports<'a> {
         }
         write!(
             self.out,
-            ",\"kind\":\"{kind}\",\"message\":{}}}\n",
+            ",\"kind\":\"{kind}\",\"message\":{}",
             JsonText(remark.message)
-        )
+        )?;
+        if let Some(ShownBracket { place, message, .. }) = bracket {
+            write!(
+                self.out,
+                ",\"unclosed\":{{\"line\":{},\"column\":{},\"message\":{}}}",
+                place.line,
+                place.column,
+                JsonText(message.as_str())
+            )?;
+        }
+        write!(self.out, "}}\n")
     }
 
     // Prints the first faults of a text, and whether there are more.
@@ -280,22 +299,44 @@ impl<'a> Reports<'a> {
         Ok(())
     }
 
-    // Prints a fault, on a terminal with its line.
+    // Prints a fault, on a terminal with its line, and the bracket that it leaves open.
     fn print_fault(&mut self, file: &str, fault: &ShownFault<'_, '_>) -> Result<(), AllocError> {
         let alloc = self.rt.alloc();
         let reason = fault.reason(alloc)?;
-        self.add(&Remark {
+        let bracket = fault.bracket(alloc)?;
+        let line = fault.marked_line(alloc)?;
+        let remark = Remark {
             kind: Kind::Refused,
             file,
             place: Some(fault.place()),
             message: reason.as_str(),
+        };
+        self.add_with(&remark, bracket.as_ref());
+        self.print_line(line.as_str());
+        match &bracket {
+            Some(bracket) if self.format != Format::Json => self.print_bracket(file, bracket),
+            _ => {}
+        }
+        Ok(())
+    }
+
+    // Prints a bracket that a fault leaves open, on a terminal with its line.
+    fn print_bracket(&mut self, file: &str, bracket: &ShownBracket) {
+        self.add(&Remark {
+            kind: Kind::Note,
+            file,
+            place: Some(bracket.place),
+            message: bracket.message.as_str(),
         });
+        self.print_line(bracket.marked_line.as_str());
+    }
+
+    // Prints the line of a fault, on a terminal.
+    fn print_line(&mut self, line: &str) {
         if self.is_watched && self.format == Format::Text {
-            let line = fault.marked_line(alloc)?;
             let printed = write!(self.rt.stderr(), "{line}\n");
             self.keep(printed);
         }
-        Ok(())
     }
 }
 

@@ -2,7 +2,7 @@
 use crate::outline::{folds_value, range_value, symbols_value, token_types, tokens_value};
 use cedar_server::{
     Answer, Code, Completions, Diagnosis, Edit, Encoding, Failure, Fault, Fix, Id, Kind, Range,
-    ServerMessage, sample,
+    Related, ServerMessage, sample,
 };
 use serde_json::{Value, json};
 use std::alloc::{AllocError, Global};
@@ -149,7 +149,7 @@ fn diagnostics(
 ) -> Result<String, AllocError> {
     let mut list = Vec::new(alloc);
     for diagnosis in diagnoses {
-        list.push(diagnosis_value(alloc, diagnosis)?)?;
+        list.push(diagnosis_value(alloc, uri.as_str(), diagnosis)?)?;
     }
     let list = Value::Array(list);
     let params = match version {
@@ -179,15 +179,36 @@ fn notice(alloc: Global, uri: Option<String>) -> Result<String, AllocError> {
     notification(alloc, "window/showMessage", params)
 }
 
-fn diagnosis_value(alloc: Global, diagnosis: Diagnosis) -> Result<Value, AllocError> {
+// A diagnosis of the document with this URI.
+fn diagnosis_value(alloc: Global, uri: &str, diagnosis: Diagnosis) -> Result<Value, AllocError> {
     let range = range_value(alloc, diagnosis.range)?;
-    json!(in alloc; {
-        "range": range,
-        "severity": 1,
-        "code": name_of(diagnosis.code),
-        "source": "cedar",
-        "message": diagnosis.message,
-    })
+    let (code, severity) = (name_of(diagnosis.code), severity_of(diagnosis.code));
+    match diagnosis.related {
+        Some(related) => {
+            let related = related_value(alloc, uri, related)?;
+            json!(in alloc; {
+                "range": range,
+                "severity": severity,
+                "code": code,
+                "source": "cedar",
+                "message": diagnosis.message,
+                "relatedInformation": [related],
+            })
+        }
+        None => json!(in alloc; {
+            "range": range,
+            "severity": severity,
+            "code": code,
+            "source": "cedar",
+            "message": diagnosis.message,
+        }),
+    }
+}
+
+// Another part of the document that a diagnosis refers to.
+fn related_value(alloc: Global, uri: &str, related: Related) -> Result<Value, AllocError> {
+    let range = range_value(alloc, related.range)?;
+    json!(in alloc; {"location": {"uri": uri, "range": range}, "message": related.message})
 }
 
 // The name of a code.
@@ -198,6 +219,20 @@ fn name_of(code: Code) -> &'static str {
         Code::NumberTooLarge => "number-too-large",
         Code::Grammar => "grammar",
         Code::TooDeep => "too-deep",
+        Code::More => "more",
+    }
+}
+
+// The protocol's severities of errors and of information.
+const ERROR: u8 = 1;
+
+const INFORMATION: u8 = 3;
+
+// The severity of a code.
+fn severity_of(code: Code) -> u8 {
+    match code {
+        Code::More => INFORMATION,
+        _ => ERROR,
     }
 }
 
@@ -216,7 +251,7 @@ fn fix_value(alloc: Global, uri: &str, fix: Fix) -> Result<Value, AllocError> {
     let range = range_value(alloc, fix.diagnosis.range)?;
     let edits = json!(in alloc; [{"range": range, "newText": token}])?;
     let changes = json!(in alloc; {uri: edits})?;
-    let diagnosis = diagnosis_value(alloc, fix.diagnosis)?;
+    let diagnosis = diagnosis_value(alloc, uri, fix.diagnosis)?;
     json!(in alloc; {
         "title": title,
         "kind": "quickfix",

@@ -7,7 +7,7 @@ use Rattle.cedar_faults.specs.Faults.SearchFinds.{nothing, policy}
 use Rattle.cedar_faults.proofs.Searching.{finds_on}
 use Rattle.cedar_positions.specs.declared.positions.Encoding.{Encoding}
 use Rattle.cedar_advice.specs.declared.diagnoses.Diagnosis.{Diagnosis}
-use Rattle.cedar_advice.specs.Diagnoses.{AreDiagnoses, TellAll, Tells, most}
+use Rattle.cedar_advice.specs.Diagnoses.{AreDiagnoses, TellAll, Tells, TellsMore, most}
 use Rattle.cedar_advice.proofs.Lists.{tell_more}
 
 -- the faults that are told, up to the byte `at`
@@ -40,10 +40,21 @@ told_fault e text at to ds f d (fs, s, t) h one =
 pub told_all : (e : Encoding) (text : List ℕ) (at : ℕ) (ds : List Diagnosis) → Told e text at ds
     → length ds ≤ most → Accepted (drop at text) → AreDiagnoses e text ds
 told_all e text at ds (fs, s, t) l a =
-    (fs, inl ((at, s, a), omega (arith, l, told_length e text fs ds t)), t)
+    inl (fs, (at, s, a), omega (arith, l, told_length e text fs ds t), t)
 
--- or as many as are told of at most
-pub told_most : (e : Encoding) (text : List ℕ) (at : ℕ) (ds : List Diagnosis) → Told e text at ds
-    → length ds ≡ most → AreDiagnoses e text ds
-told_most e text at ds (fs, s, t) l =
-    (fs, inr (omega (arith, l, told_length e text fs ds t), (at, s)), t)
+-- or as many as are told of at most, and that there are more
+pub told_most : (e : Encoding) (text : List ℕ) (at to : ℕ) (ds new : List Diagnosis) (f : Fault) (d : Diagnosis)
+    → Told e text at ds → length ds ≡ most → SearchFinds text at (f ∷ []) to → TellsMore e text f d
+    → new ≡ ds ++ d ∷ [] → AreDiagnoses e text new
+told_most e text at to ds new f d (fs, s, t) l h m n = inr (record {
+  first = fs;
+  next = f;
+  to = to;
+  found = finds_on text 0 at to fs (f ∷ []) s h;
+  number = omega (arith, l, told_length e text fs ds t);
+  told = ds;
+  tell = t;
+  last = d;
+  more = m;
+  in_order = n;
+})

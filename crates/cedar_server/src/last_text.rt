@@ -5,7 +5,7 @@ ghost use Rattle.cedar_faults.specs.Faults.{BeginsWithPolicy, GoesOn, IsStep};
 ghost use Rattle.cedar_advice.specs.Diagnoses.{AreDiagnoses};
 ghost use Rattle.cedar_server.specs.Inside.Standing.{StandsAt};
 
-use cedar_advice::{Diagnosis, MOST, tell};
+use cedar_advice::{Diagnosis, MOST, tell, tell_more};
 use cedar_faults::reader::{FaultReader, Step};
 use cedar_positions::Encoding;
 use cedar_tokens::token::Span;
@@ -37,8 +37,9 @@ impl LastText {
         }
     }
 
-    /// What is wrong with a text: a diagnosis for each of its faults, at most `MOST`, in order; none if and only if it is accepted. Policies of
-    /// the text judged last that stand in this one too, as far from its start or from its end, are not read again.
+    /// What is wrong with a text: a diagnosis for each of its faults, in order, or for the first `MOST` and that there are more;
+    /// none if and only if it is accepted. Policies of the text judged last that stand in this one too, as far from its start or
+    /// from its end, are not read again.
     pub(crate) fn judge(
         &mut self,
         alloc: Global,
@@ -69,17 +70,21 @@ impl LastText {
     {
         let mut diagnoses = Vec::new(alloc);
         let mut reader = FaultReader::new(alloc, text);
-        'steps: while diagnoses.len() < MOST {
+        'steps: loop {
             match self.step(alloc, &mut reader, standing)? {
                 Step::Policy => {}
                 Step::Fault(fault) => {
+                    if diagnoses.len() == MOST {
+                        let last = tell_more(alloc, text, &fault, encoding)?;
+                        diagnoses.push(last)?;
+                        return Ok(diagnoses);
+                    }
                     let diagnosis = tell(alloc, text, &fault, encoding)?;
                     diagnoses.push(diagnosis)?;
                 }
                 Step::End => return Ok(diagnoses),
             }
         }
-        Ok(diagnoses)
     }
 
     // What comes next in the text of a reader. Adds the policy, if it is one that stands.

@@ -10,7 +10,7 @@ mod outline;
 mod server;
 mod session;
 
-pub use cedar_advice::{Code, Completions, Diagnosis, Fix};
+pub use cedar_advice::{Code, Completions, Diagnosis, Fix, Related};
 pub use cedar_expected::samples::sample;
 pub use cedar_outline::classes::Class;
 pub use cedar_outline::folds::FoldKind;

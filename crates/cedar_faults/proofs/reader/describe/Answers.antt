@@ -1,6 +1,7 @@
-use Rattle.std.proofs.Common.{◌∙◌, arith}
+use Rattle.std.proofs.Common.{◌∙◌, arith, take}
 use Rattle.cedar_faults.specs.FirstFaults.{Reaches}
-use Rattle.cedar_faults.proofs.Describing.{end_there, front_tokens, kinds_there, nothing_found, part_end, part_start, reached, reached_boundary, reached_inside}
+use Rattle.cedar_faults.proofs.Describing.{end_there, front_splits, front_tokens, kinds_there, nothing_found, part_end, part_start, reached, reached_boundary, reached_inside}
+use Rattle.cedar_faults.proofs.Bracketing.{of_split}
 use Rattle.cedar_faults.proofs.Passing.{from_start}
 use Rattle.cedar_faults.proofs.reader.describe.Goals.{then-at-text, else-at-text}
 use Rattle.cedar_faults.proofs.reader.describe.Goals as goal
@@ -21,6 +22,13 @@ is_accepted-requires c =
     let text = c.args.text.now in
     rw (c.range-before.ensures.value ∙ from_start text c.place-at.result)
     (front_tokens text c.place-at.result (reached text c.args.error c.place-at.result c.requires c.place-at.ensures))
+
+pub left_open-requires : goal.left_open-requires
+left_open-requires c =
+    let text = c.args.text.now in
+    let r : Reaches text c.place-at.result = reached text c.args.error c.place-at.result c.requires c.place-at.ensures in
+    rw (c.range-before.ensures.value ∙ from_start text c.place-at.result)
+    (r.before, front_splits text c.place-at.result r)
 
 pub range-requires-clause-start_boundary : goal.range-requires-clause-start_boundary
 range-requires-clause-start_boundary c = λ more.
@@ -57,4 +65,6 @@ returns c =
         | else-at-text w ↦ rw w.found-is
             (nothing_found text c.marked-part.result at (reached_inside text at r) (omega (arith, w.if-at-text.false)))
       ];
+      unclosed = of_split (take at text) c.if-at-text.found c.in_ok-unclosed.unclosed r.before
+          (rw (c.range-before.ensures.value ∙ from_start text at) at c.in_ok-unclosed.ensures) (front_splits text at r);
     }

@@ -32,8 +32,8 @@ steps-preserved c =
     i.told s c.in_ok-diagnosis-in-Fault.ensures in
     record {
       of_text = c.in_ok-step.ensures.text ∙ i.of_text;
-      few = omega (arith, c.steps-test.true, c.len.ensures, ap length c.in_ok-push-in-Fault.ensures.items, length-append c.steps.diagnoses.items (d ∷ []));
-      told = subst (Told c.args.encoding c.args.text.now c.step.new.reader.at) (sym c.in_ok-push-in-Fault.ensures.items) told;
+      few = omega (arith, i.few, c.if-len-eq-MOST.false, c.len.ensures, ap length c.in_ok-push-in-Fault-2.ensures.items, length-append c.steps.diagnoses.items (d ∷ []));
+      told = subst (Told c.args.encoding c.args.text.now c.step.new.reader.at) (sym c.in_ok-push-in-Fault-2.ensures.items) told;
       standing = λ before. rw i.of_text at c.in_ok-step.ensures.standing (i.standing before);
     }
 
@@ -43,8 +43,15 @@ returns-in-End-clause-diagnoses c =
     told_all c.args.encoding c.args.text.now c.steps.reader.at c.steps.diagnoses.items i.told i.few
     (rw i.of_text at (rw c.in-End.is at c.in_ok-step.ensures.step))
 
-pub returns-clause-diagnoses : goal.returns-clause-diagnoses
-returns-clause-diagnoses c =
+pub returns-then-len-eq-MOST-clause-diagnoses : goal.returns-then-len-eq-MOST-clause-diagnoses
+returns-then-len-eq-MOST-clause-diagnoses c =
     let i = c.steps.invariant in
-    told_most c.args.encoding c.args.text.now c.steps.reader.at c.steps.diagnoses.items i.told
-    (omega (arith, i.few, c.steps-test.false, c.len.ensures))
+    let s = rw i.of_text at (rw c.in-Fault.is at c.in_ok-step.ensures.step) in
+    told_most c.args.encoding c.args.text.now c.steps.reader.at c.step.new.reader.at c.steps.diagnoses.items _
+    c.in-Fault.fault c.in_ok-last-in-Fault.last i.told (omega (arith, c.len.ensures, c.if-len-eq-MOST.true)) s
+    c.in_ok-last-in-Fault.ensures c.in_ok-push-in-Fault.ensures.items
+
+pub returns-then-len-eq-MOST-clause-standing : goal.returns-then-len-eq-MOST-clause-standing
+returns-then-len-eq-MOST-clause-standing c =
+    let i = c.steps.invariant in
+    λ before. rw i.of_text at c.in_ok-step.ensures.standing (i.standing before)

@@ -1,0 +1,2 @@
+permit (principal == User::"a";
+permit (principal, action, resource);
