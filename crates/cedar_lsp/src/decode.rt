@@ -1,6 +1,7 @@
 //! Messages of the client, from JSON. Every body is a message of the server: one that can't be read is `Unread`.
 use crate::params::{
-    Changing, ContentChange, Message, OfDocument, Opening, Place, Selecting, Span, Typing, Whole,
+    Changing, ContentChange, Message, OfDocument, Opening, Place, Selecting, Span, Surrounding,
+    Typing, Whole,
 };
 use cedar_server::{
     Change, ClientMessage, ClientOptions, Encoding, Fault, Id, Notification, Position, Range,
@@ -211,6 +212,7 @@ fn request_of(alloc: Global, method: &str, text: &str) -> Result<Request, AllocE
         "textDocument/semanticTokens/full" => tokens(alloc, text),
         "textDocument/documentSymbol" => symbols(alloc, text),
         "textDocument/foldingRange" => folds(alloc, text),
+        "textDocument/selectionRange" => selections(alloc, text),
         _ => Ok(Request::Other),
     }
 }
@@ -349,6 +351,23 @@ fn folds(alloc: Global, text: &str) -> Result<Request, AllocError> {
     Ok(match named(alloc, text)? {
         Some(uri) => Request::Folds { uri },
         None => Request::Malformed,
+    })
+}
+
+fn selections(alloc: Global, text: &str) -> Result<Request, AllocError> {
+    let Some(Message { params }) = read::<Message<Surrounding>>(alloc, text)? else {
+        return Ok(Request::Malformed);
+    };
+    let mut positions = Vec::new(alloc);
+    for place in &params.positions {
+        let Some(position) = position_of(place) else {
+            return Ok(Request::Malformed);
+        };
+        positions.push(position)?;
+    }
+    Ok(Request::Selections {
+        uri: params.text_document.uri,
+        positions,
     })
 }
 

@@ -1,5 +1,7 @@
 //! Messages to the client, as JSON with their heads.
-use crate::outline::{folds_value, range_value, symbols_value, token_types, tokens_value};
+use crate::outline::{
+    folds_value, range_value, selections_value, symbols_value, token_types, tokens_value,
+};
 use cedar_server::{
     Answer, Code, Completions, Diagnosis, Edit, Encoding, Failure, Fault, Fix, Id, Kind, Range,
     Related, ServerMessage, sample,
@@ -75,6 +77,7 @@ fn response(alloc: Global, id: Id, answer: Answer) -> Result<String, AllocError>
         Answer::Tokens(tokens) => tokens_value(alloc, tokens)?,
         Answer::Symbols(symbols) => symbols_value(alloc, symbols)?,
         Answer::Folds(folds) => folds_value(alloc, folds)?,
+        Answer::Selections(selections) => selections_value(alloc, selections)?,
         Answer::Failure(failure) => {
             let (code, message) = words_of(failure);
             return error(alloc, id_value(id), code, message);
@@ -122,6 +125,7 @@ fn capabilities(
             "completionProvider": {},
             "documentSymbolProvider": true,
             "foldingRangeProvider": true,
+            "selectionRangeProvider": true,
             "semanticTokensProvider": {"legend": {"tokenTypes": types, "tokenModifiers": []}, "full": true},
         },
         "serverInfo": {"name": "cedar-lsp"},

@@ -1,5 +1,7 @@
 //! What an editor shows of a document, as JSON.
-use cedar_server::{Class, FoldKind, PlacedFold, PlacedSymbol, PlacedToken, Position, Range};
+use cedar_server::{
+    Class, FoldKind, PlacedFold, PlacedSelection, PlacedSymbol, PlacedToken, Position, Range,
+};
 use serde_json::{Value, json};
 use std::alloc::{AllocError, Global};
 
@@ -94,6 +96,31 @@ pub fn folds_value(alloc: Global, folds: Vec<PlacedFold>) -> Result<Value, Alloc
         values.push(value)?;
     }
     Ok(Value::Array(values))
+}
+
+/// Parts around positions: for each position the innermost, in which the next one is nested as its parent.
+pub fn selections_value(
+    alloc: Global,
+    selections: Vec<PlacedSelection>,
+) -> Result<Value, AllocError> {
+    let mut values = Vec::new(alloc);
+    for selection in selections {
+        let mut value = Value::Null;
+        for range in selection.ranges.iter().rev() {
+            value = selection_value(alloc, *range, value)?;
+        }
+        values.push(value)?;
+    }
+    Ok(Value::Array(values))
+}
+
+// A part with the one around it, which is null for the outermost.
+fn selection_value(alloc: Global, range: Range, parent: Value) -> Result<Value, AllocError> {
+    let range = range_value(alloc, range)?;
+    if parent.is_null() {
+        return json!(in alloc; {"range": range});
+    }
+    json!(in alloc; {"range": range, "parent": parent})
 }
 
 /// A range.

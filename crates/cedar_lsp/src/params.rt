@@ -70,6 +70,14 @@ pub struct Typing {
     pub position: Place,
 }
 
+/// Of `selectionRange`.
+#[derive(Drop, Deserialize)]
+#[serde(rename_all = "camelCase")]
+pub struct Surrounding {
+    pub text_document: Named,
+    pub positions: Vec<Place>,
+}
+
 #[derive(Drop, Deserialize)]
 pub struct Span {
     pub start: Place,

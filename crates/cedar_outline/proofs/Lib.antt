@@ -8,3 +8,5 @@ mod Naming
 mod Lining
 mod Folding
 mod Placing
+mod Selecting
+mod Growing

@@ -3,3 +3,4 @@ pub mod Ahead
 pub mod Heads
 pub mod Standing
 pub mod Folding
+pub mod Selecting

@@ -5,5 +5,7 @@ pub mod Semantic
 pub mod Sections
 pub mod Symbols
 pub mod Folds
+pub mod Selections
 pub mod Placed
+pub mod Laws
 pub mod Inside

@@ -3,16 +3,19 @@ use Rattle.std.specs.Prelude.{◌≡◌, ℕ, List, [], ◌∷◌, string_bytes,
 use Rattle.cedar_tokens.specs.declared.token.Span.{Span}
 use Rattle.cedar_positions.specs.declared.positions.Encoding.{Encoding}
 use Rattle.cedar_positions.specs.declared.changes.Range.{Range}
-use Rattle.cedar_positions.specs.Positions.{IsPositionAt}
+use Rattle.cedar_positions.specs.declared.positions.Position.{Position}
+use Rattle.cedar_positions.specs.Positions.{IsOffsetOf, IsPositionAt}
 use Rattle.cedar_outline.specs.Semantic.{AreSemanticTokens}
 use Rattle.cedar_outline.specs.Symbols.{AreSymbols}
 use Rattle.cedar_outline.specs.Folds.{AreFolds}
+use Rattle.cedar_outline.specs.Selections.{IsSelection}
 use Rattle.cedar_outline.specs.declared.semantic.SemanticToken.{SemanticToken}
 use Rattle.cedar_outline.specs.declared.symbols.Symbol.{Symbol}
 use Rattle.cedar_outline.specs.declared.folds.Fold.{Fold}
 use Rattle.cedar_outline.specs.declared.placed.PlacedToken.{PlacedToken}
 use Rattle.cedar_outline.specs.declared.placed.PlacedSymbol.{PlacedSymbol}
 use Rattle.cedar_outline.specs.declared.placed.PlacedFold.{PlacedFold}
+use Rattle.cedar_outline.specs.declared.placed.PlacedSelection.{PlacedSelection}
 
 -- a part of a text at the positions of its bytes
 pub record IsRangeOf (e : Encoding) (text : List ℕ) (part : Span) (range : Range) : Type 0 where
@@ -50,3 +53,14 @@ ArePlacedSymbols e text ps = (ss : List Symbol) × AreSymbols text ss × InTurn 
 
 abbrev pub ArePlacedFolds : Encoding → List ℕ → List PlacedFold → Type 0
 ArePlacedFolds e text ps = (fs : List Fold) × AreFolds text fs × InTurn (PlacesFold e text) fs ps
+
+-- the blocks of a text around a position, and around each of these positions
+pub record IsPlacedSelection (e : Encoding) (text : List ℕ) (p : Position) (placed : PlacedSelection) : Type 0 where
+  pub at : ℕ
+  pub offset : IsOffsetOf e text p at
+  pub spans : List Span
+  pub are : IsSelection text at spans
+  pub ranges : InTurn (IsRangeOf e text) spans placed.ranges.items
+
+abbrev pub ArePlacedSelections : Encoding → List ℕ → List Position → List PlacedSelection → Type 0
+ArePlacedSelections e text ps placed = InTurn (IsPlacedSelection e text) ps placed

@@ -1,13 +1,15 @@
 //! What an editor shows of a text, by the positions that it counts in.
 ghost use Rattle.std.specs.Prelude.{IfOk};
 ghost use Rattle.cedar_positions.specs.Positions.{BeginsLine, IsPositionAt};
-ghost use Rattle.cedar_outline.specs.Placed.{ArePlacedFolds, ArePlacedSymbols, ArePlacedTokens, IsRangeOf, PlacesFold, PlacesSymbol, PlacesToken};
+ghost use Rattle.cedar_outline.specs.Placed.{ArePlacedFolds, ArePlacedSelections, ArePlacedSymbols, ArePlacedTokens, IsPlacedSelection, IsRangeOf, PlacesFold, PlacesSymbol, PlacesToken};
+ghost use Rattle.cedar_outline.specs.Selections.{AreBlocks};
 
 use crate::classes::Class;
 use crate::folds::{Fold, FoldKind, folds};
+use crate::selections::{blocks, blocks_around};
 use crate::semantic::{SemanticToken, semantic_tokens};
 use crate::symbols::{Symbol, symbols};
-use cedar_positions::{Encoding, Line, Position, Range, line_from, position_on};
+use cedar_positions::{Encoding, Line, Position, Range, line_from, offset_at, position_on};
 use cedar_tokens::token::Span;
 use std::alloc::{AllocError, Global};
 
@@ -33,6 +35,12 @@ pub struct PlacedSymbol {
 pub struct PlacedFold {
     pub range: Range,
     pub kind: FoldKind,
+}
+
+/// The blocks around a position, from the innermost out: each has all of the one before, and more.
+#[derive(Debug, Drop)]
+pub struct PlacedSelection {
+    pub ranges: Vec<Range>,
 }
 
 /// The tokens and comments of any text, in order, each with its class.
@@ -90,6 +98,45 @@ pub fn placed_folds(
         line = next;
     }
     Ok(placed)
+}
+
+/// The blocks of a text around each of these positions.
+pub fn placed_selections(
+    alloc: Global,
+    text: &str,
+    positions: &[Position],
+    encoding: Encoding,
+) -> Result<Vec<PlacedSelection>, AllocError>
+    ensures { IfOk result (λ placed. ArePlacedSelections encoding text.now positions.now placed.items) }
+{
+    let blocks = blocks(alloc, text)?;
+    let mut placed = Vec::new(alloc);
+    for position in positions {
+        let selection = placed_selection(alloc, text, &blocks, *position, encoding)?;
+        placed.push(selection)?;
+    }
+    Ok(placed)
+}
+
+// Those of the blocks of a text that are around a position.
+fn placed_selection(
+    alloc: Global,
+    text: &str,
+    blocks: &[Span],
+    position: Position,
+    encoding: Encoding,
+) -> Result<PlacedSelection, AllocError>
+    requires { AreBlocks text.now blocks.now }
+    ensures { IfOk result (IsPlacedSelection encoding text.now position) }
+{
+    let at = offset_at(text, position, encoding);
+    let spans = blocks_around(alloc, blocks, at)?;
+    let mut ranges = Vec::new(alloc);
+    for span in &spans {
+        let (_, range) = place(text, Line::FIRST, *span, encoding);
+        ranges.push(range)?;
+    }
+    Ok(PlacedSelection { ranges })
 }
 
 // A token, and the line where it begins, found by walking on from a line.

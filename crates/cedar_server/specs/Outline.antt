@@ -1,7 +1,8 @@
 -- The answers to requests for what an editor shows of a document.
 use Rattle.std.specs.Prelude.{ℕ, List}
 use Rattle.cedar_positions.specs.declared.positions.Encoding.{Encoding}
-use Rattle.cedar_outline.specs.Placed.{ArePlacedFolds, ArePlacedSymbols, ArePlacedTokens}
+use Rattle.cedar_positions.specs.declared.positions.Position.{Position}
+use Rattle.cedar_outline.specs.Placed.{ArePlacedFolds, ArePlacedSelections, ArePlacedSymbols, ArePlacedTokens}
 use Rattle.cedar_server.specs.declared.messages.Answer.{Answer}
 use Rattle.cedar_server.specs.declared.messages.Answer.TheVariants as answer
 
@@ -19,3 +20,8 @@ ShowsSymbols e text a = ⊥
 abbrev pub ShowsFolds : Encoding → List ℕ → Answer → Type 0
 ShowsFolds e text (answer.Folds folds) = ArePlacedFolds e text folds.items
 ShowsFolds e text a = ⊥
+
+-- the blocks of a text around each of these positions
+abbrev pub ShowsSelections : Encoding → List Position → List ℕ → Answer → Type 0
+ShowsSelections e positions text (answer.Selections selections) = ArePlacedSelections e text positions selections.items
+ShowsSelections e positions text a = ⊥

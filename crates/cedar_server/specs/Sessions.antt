@@ -35,7 +35,7 @@ use Rattle.cedar_server.specs.declared.server.Phase.TheVariants.{Starting, Runni
 use Rattle.cedar_server.specs.declared.server.Server.{Server}
 use Rattle.cedar_server.specs.Advice.{Completes, GivesFixes}
 use Rattle.cedar_server.specs.Layouts.{LaysOut, LaysOutPart}
-use Rattle.cedar_server.specs.Outline.{ShowsFolds, ShowsSymbols, ShowsTokens}
+use Rattle.cedar_server.specs.Outline.{ShowsFolds, ShowsSelections, ShowsSymbols, ShowsTokens}
 
 -- an open document: its text with the number that the client gave it, or the text is lost
 pub data State : Type 0 where
@@ -263,6 +263,7 @@ Gives Running (request.Completion uri position) p s a = OfDocument (document_of 
 Gives Running (request.Tokens uri) p s a = OfDocument (document_of s (string_bytes uri)) (ShowsTokens s.encoding) a
 Gives Running (request.Symbols uri) p s a = OfDocument (document_of s (string_bytes uri)) (ShowsSymbols s.encoding) a
 Gives Running (request.Folds uri) p s a = OfDocument (document_of s (string_bytes uri)) (ShowsFolds s.encoding) a
+Gives Running (request.Selections uri positions) p s a = OfDocument (document_of s (string_bytes uri)) (ShowsSelections s.encoding positions.items) a
 Gives Running request.Malformed p s a = a ≡ answer.Failure InvalidParams
 Gives Running request.Other p s a = a ≡ answer.Failure MethodNotFound
 Gives ShutDown r p s a = a ≡ answer.Failure InvalidRequest

@@ -14,7 +14,7 @@ pub use cedar_advice::{Code, Completions, Diagnosis, Fix, Related};
 pub use cedar_expected::samples::sample;
 pub use cedar_outline::classes::Class;
 pub use cedar_outline::folds::FoldKind;
-pub use cedar_outline::placed::{PlacedFold, PlacedSymbol, PlacedToken};
+pub use cedar_outline::placed::{PlacedFold, PlacedSelection, PlacedSymbol, PlacedToken};
 pub use cedar_positions::{Change, Edit, Encoding, Position, Range, offset_at, position_at};
 pub use cedar_tokens::kind::Kind;
 pub use documents::{Document, Documents};

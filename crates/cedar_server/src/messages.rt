@@ -1,6 +1,6 @@
 //! What a client and the server say.
 use cedar_advice::{Completions, Diagnosis, Fix};
-use cedar_outline::placed::{PlacedFold, PlacedSymbol, PlacedToken};
+use cedar_outline::placed::{PlacedFold, PlacedSelection, PlacedSymbol, PlacedToken};
 use cedar_positions::{Change, Edit, Encoding, Position, Range};
 
 /// The id of a request, as its client chose it.
@@ -36,19 +36,41 @@ pub enum Request {
     Initialize(ClientOptions),
     Shutdown,
     /// The layout of a whole document.
-    Formatting { uri: String },
+    Formatting {
+        uri: String,
+    },
     /// The layout of the policies touched by a range.
-    RangeFormatting { uri: String, range: Range },
+    RangeFormatting {
+        uri: String,
+        range: Range,
+    },
     /// The fixes of the faults that a range touches.
-    Fixes { uri: String, range: Range },
+    Fixes {
+        uri: String,
+        range: Range,
+    },
     /// What could come at a position.
-    Completion { uri: String, position: Position },
+    Completion {
+        uri: String,
+        position: Position,
+    },
     /// The classes of the tokens and comments of a document.
-    Tokens { uri: String },
+    Tokens {
+        uri: String,
+    },
     /// The policies of a document by name.
-    Symbols { uri: String },
+    Symbols {
+        uri: String,
+    },
     /// What can be folded in a document.
-    Folds { uri: String },
+    Folds {
+        uri: String,
+    },
+    /// The parts of a document around each of some positions.
+    Selections {
+        uri: String,
+        positions: Vec<Position>,
+    },
     /// One of these, with parameters that can't be read.
     Malformed,
     /// Any other request.
@@ -152,6 +174,8 @@ pub enum Answer {
     Symbols(Vec<PlacedSymbol>),
     /// What can be folded in the document.
     Folds(Vec<PlacedFold>),
+    /// The parts of the document around each of the positions, in order.
+    Selections(Vec<PlacedSelection>),
     Failure(Failure),
 }
 

@@ -1,10 +1,10 @@
 //! The answers to requests for what an editor shows of a document.
 ghost use Rattle.std.specs.Prelude.{IfOk};
-ghost use Rattle.cedar_server.specs.Outline.{ShowsFolds, ShowsSymbols, ShowsTokens};
+ghost use Rattle.cedar_server.specs.Outline.{ShowsFolds, ShowsSelections, ShowsSymbols, ShowsTokens};
 
 use crate::messages::Answer;
-use cedar_outline::placed::{placed_folds, placed_symbols, placed_tokens};
-use cedar_positions::Encoding;
+use cedar_outline::placed::{placed_folds, placed_selections, placed_symbols, placed_tokens};
+use cedar_positions::{Encoding, Position};
 use std::alloc::{AllocError, Global};
 
 /// The classes of the tokens and comments of a text.
@@ -33,4 +33,17 @@ pub(crate) fn folds_of(alloc: Global, text: &str, encoding: Encoding) -> Result<
 {
     let folds = placed_folds(alloc, text, encoding)?;
     Ok(Answer::Folds(folds))
+}
+
+/// The parts of a text around each of these positions.
+pub(crate) fn selections_of(
+    alloc: Global,
+    text: &str,
+    positions: &[Position],
+    encoding: Encoding,
+) -> Result<Answer, AllocError>
+    ensures { IfOk result (ShowsSelections encoding positions.now text.now) }
+{
+    let selections = placed_selections(alloc, text, positions, encoding)?;
+    Ok(Answer::Selections(selections))
 }

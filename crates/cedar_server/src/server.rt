@@ -2,7 +2,7 @@
 ghost use Rattle.std.specs.Prelude.{◌≡◌, ◌∷◌, [], ◌↔◌, IfOk, IsTrue, OnErr, OnOk, map, option_map, string_bytes};
 ghost use Rattle.cedar_server.specs.Advice.{Completes, GivesFixes};
 ghost use Rattle.cedar_server.specs.Layouts.{LaysOut, LaysOutPart};
-ghost use Rattle.cedar_server.specs.Outline.{ShowsFolds, ShowsSymbols, ShowsTokens};
+ghost use Rattle.cedar_server.specs.Outline.{ShowsFolds, ShowsSelections, ShowsSymbols, ShowsTokens};
 ghost use Rattle.cedar_server.specs.Sessions.{AddsJudgement, Changes, Closes, GiveText, Gives, HasNoDocuments, IsSame, IsUnjudged, JudgesAll, OfDocument, Loses, LosesAll, Misses, Opens, Receives, Sets, Settles, Starts, Steps, Takes, TakesExit, Turns, document_of, first_or_utf16, indent_for, lost, rejection_of, state_in, state_of, width_for};
 
 use crate::advice::{complete_at, fixes_for};
@@ -15,7 +15,7 @@ use crate::messages::{
     Answer, ClientMessage, ClientOptions, Failure, Fault, Id, Notification, Request, ServerMessage,
     Unread, Wishes,
 };
-use crate::outline::{folds_of, symbols_of, tokens_of};
+use crate::outline::{folds_of, selections_of, symbols_of, tokens_of};
 use cedar_policy_formatter::Config;
 use cedar_positions::{Change, Encoding, Position, Range, changed_text};
 use std::alloc::{AllocError, Global};
@@ -183,6 +183,9 @@ impl Server {
             Request::Tokens { uri } => self.show_tokens(alloc, uri.as_str()),
             Request::Symbols { uri } => self.show_symbols(alloc, uri.as_str()),
             Request::Folds { uri } => self.show_folds(alloc, uri.as_str()),
+            Request::Selections { uri, positions } => {
+                self.show_selections(alloc, uri.as_str(), positions)
+            }
             Request::Malformed => Ok(Answer::Failure(Failure::InvalidParams)),
             Request::Other => Ok(Answer::Failure(Failure::MethodNotFound)),
         }
@@ -276,6 +279,24 @@ impl Server {
     {
         match self.documents.get(uri) {
             Some(Document::Text { text, .. }) => folds_of(alloc, text.as_str(), self.encoding),
+            Some(Document::Lost) => Ok(Answer::Failure(Failure::Lost)),
+            None => Ok(Answer::Failure(Failure::NotOpen)),
+        }
+    }
+
+    // The answer to a request for what is around positions.
+    fn show_selections(
+        &self,
+        alloc: Global,
+        uri: &str,
+        positions: &[Position],
+    ) -> Result<Answer, AllocError>
+        ensures { IfOk result (OfDocument (document_of self.now uri.now) (ShowsSelections self.now.encoding positions.now)) }
+    {
+        match self.documents.get(uri) {
+            Some(Document::Text { text, .. }) => {
+                selections_of(alloc, text.as_str(), positions, self.encoding)
+            }
             Some(Document::Lost) => Ok(Answer::Failure(Failure::Lost)),
             None => Ok(Answer::Failure(Failure::NotOpen)),
         }

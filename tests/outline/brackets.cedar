@@ -1,0 +1,2 @@
+permit(principal, action, resource) when { (a };
+permit(principal, action, resource) when { b ) };
