@@ -1,16 +1,17 @@
 -- The answers to calls from C.
 use Rattle.std.specs.Prelude.{◌≡◌, ◌+◌, ◌<◌, ◌≤◌, ◌⊎◌, ◌++◌, ℕ, ℤ, List, [], ◌∷◌, length, drop, Result, Ok, Err}
 use Rattle.std.specs.Str.{IsUtf8}
-use Rattle.cedar_grammar.specs.Texts.{Accepted}
-use Rattle.cedar_tree.specs.Refusals.{OutOfMemoryOr, Refuses}
+use Rattle.cedar_tree.specs.Refusals.{OutOfMemoryOr}
 use Rattle.cedar_tree.specs.declared.error.FormatError.{FormatError}
 use Rattle.cedar_tree.specs.declared.error.FormatError.TheVariants.{UnknownCharacter, UnfinishedString, NumberTooLarge, Grammar, TooDeep, NoDocument, Unsound, OutOfMemory}
-use Rattle.cedar_laws.specs.Canonical.{IsOutputOf}
+use Rattle.cedar_written.specs.Lists.{HaveEqualLists}
+use Rattle.cedar_written.specs.Output.{IsOutputOf}
+use Rattle.cedar_written.specs.Refusals.{Refuses}
+use Rattle.cedar_written.specs.Texts.{Accepted}
 use Rattle.cedar_faults.specs.declared.fault.Fault.{Fault}
 use Rattle.cedar_faults.specs.Faults.{AreFaults, SearchFinds}
 use Rattle.cedar_faults.specs.Words.{message}
 use Rattle.cedar_policy_formatter.specs.Places.{line_at, column_at}
-use Rattle.cedar_policy_formatter.specs.Compared.{HaveEqualLists}
 use Rattle.cedar_policy_formatter.specs.Refused.{RefusesOne}
 use Rattle.cedar_c.specs.declared.answer.Answer.{Answer}
 use Rattle.cedar_c.specs.declared.answer.PlaceAnswer.{PlaceAnswer}

@@ -11,7 +11,9 @@ use Rattle.cedar_tokens.specs.Listing.{Decorated, IsListing, Listing, ListingIsU
 use Rattle.cedar_tokens.specs.PlainList.{is_trailing_comma, plain_from, plain_list, touches, with_lines_of, with_trailing_of}
 use Rattle.cedar_tokens.specs.Tokens.{decorated, leading_lines, trailing_text}
 use Rattle.cedar_tokens.specs.declared.token.WrappedToken.{WrappedToken}
-use Rattle.cedar_laws.specs.Canonical.{IsOutputOf, OutputHasTheList, OutputIsAccepted, plain_listing}
+use Rattle.cedar_laws.specs.Canonical.{plain_listing}
+use Rattle.cedar_written.specs.Canonical.{OutputHasTheList, OutputIsAccepted}
+use Rattle.cedar_written.specs.Output.{IsOutputOf}
 use Rattle.cedar_examples.specs.Comments.{AreCommentsOf, HaveEqualComments, comments_in}
 use Rattle.cedar_examples.specs.Keys.{IsKeyOf}
 use Rattle.cedar_tokens.proofs.CommentLines.{comments_nil}
@@ -92,14 +94,14 @@ pub printed_keeps : OutputHasTheList → OutputIsAccepted → ListingIsUnique
     → HaveEqualComments before after → HaveEqualComments before out
 printed_keeps has accepted unique before after out u o (l, m, f, g, e) =
     let t = accepted 80 (pos 2) after out u o in
-    let h : IsListing out (listing t.1.units) =
-    record { units = t.1.units; split = t.1.split; value = refl } in (
+    let h : IsListing out (listing t.units) =
+    record { units = t.units; split = t.split; value = refl } in (
       l,
-      listing t.1.units,
+      listing t.units,
       f,
       h,
       e ∙ ap comments_in (unique after m o.list g o.is_list)
-          ∙ sym (output_keeps_comments has 80 (pos 2) after out (listing t.1.units) u o h),
+          ∙ sym (output_keeps_comments has 80 (pos 2) after out (listing t.units) u o h),
     )
 
 -- comparing the comments of texts compares the texts' comments

@@ -6,8 +6,9 @@ use Rattle.std.specs.Str.{IsUtf8, bytes_eq}
 use Rattle.std.specs.Cmp.Lexicographic.{bytes_decides, nat_list_eq_equiv}
 use Rattle.std.proofs.lemmas.Map.Views.{Contains-from_any, list_any-from_Contains}
 use Rattle.cedar_tokens.specs.Listing.{ListingIsUnique, by_value}
-use Rattle.cedar_laws.specs.Canonical.{AcceptedHasOutput, OutputsTellLists, plain_listing}
-use Rattle.cedar_policy_formatter.specs.Compared.{HaveEqualLists}
+use Rattle.cedar_laws.specs.Canonical.{plain_listing}
+use Rattle.cedar_written.specs.Canonical.{AcceptedHasOutput, OutputsTellLists}
+use Rattle.cedar_written.specs.Lists.{HaveEqualLists}
 use Rattle.cedar_examples.specs.Keys.{Gains, HasKeyOf, IsKeyOf, KeysTellLists}
 
 pub keys_tell : OutputsTellLists → ListingIsUnique → KeysTellLists

@@ -2,7 +2,7 @@
 use Rattle.std.specs.Prelude.{◌≡◌, ℕ, List}
 use Rattle.std.specs.Str.{IsUtf8}
 use Rattle.sha2.specs.Sha256.{sha256}
-use Rattle.cedar_policy_formatter.specs.Compared.{HaveEqualLists}
+use Rattle.cedar_written.specs.Lists.{HaveEqualLists}
 use Rattle.cedar_examples.specs.Keys.{IsKeyOf}
 
 -- the text's fingerprint: the SHA-256 digest of its key

@@ -1,9 +1,9 @@
 -- Keys of policy texts, and a store of them.
 use Rattle.std.specs.Prelude.{◌≡◌, ◌↔◌, ◌⊎◌, ℕ, pos, List, Contains}
 use Rattle.std.specs.Str.{IsUtf8}
-use Rattle.cedar_grammar.specs.Texts.{Accepted}
-use Rattle.cedar_laws.specs.Canonical.{IsOutputOf}
-use Rattle.cedar_policy_formatter.specs.Compared.{HaveEqualLists}
+use Rattle.cedar_written.specs.Lists.{HaveEqualLists}
+use Rattle.cedar_written.specs.Output.{IsOutputOf}
+use Rattle.cedar_written.specs.Texts.{Accepted}
 
 -- the text's key: its output at 80 columns per line and 2 per level
 abbrev pub IsKeyOf : List ℕ → List ℕ → Type 0

@@ -1,8 +1,9 @@
 //! Formatting on save.
 ghost use Rattle.std.specs.Prelude.{◌≡◌, IfErr, OnErr, OnOk, string_bytes};
-ghost use Rattle.cedar_grammar.specs.Texts.{Accepted};
-ghost use Rattle.cedar_tree.specs.Refusals.{OutOfMemoryOr, Refuses};
-ghost use Rattle.cedar_laws.specs.Canonical.{IsOutputOf};
+ghost use Rattle.cedar_tree.specs.Refusals.{OutOfMemoryOr};
+ghost use Rattle.cedar_written.specs.Output.{IsOutputOf};
+ghost use Rattle.cedar_written.specs.Refusals.{Refuses};
+ghost use Rattle.cedar_written.specs.Texts.{Accepted};
 
 use cedar_policy_formatter::{Config, FormatError, policies_str_to_pretty};
 use std::alloc::Global;

@@ -3,7 +3,9 @@ use Rattle.std.proofs.Common.{◌≡◌, ◌≢◌, ◌∙◌, [], ℕ, List, Bo
 use Rattle.std.specs.Prelude.{◌↔◌, ◌==◌, IsTrue, length}
 use Rattle.std.specs.Str.{IsUtf8}
 use Rattle.cedar_tokens.specs.Listing.{ListingIsUnique, by_value}
-use Rattle.cedar_laws.specs.Canonical.{AcceptedHasOutput, IsOutputOf, OutputHasTheList, OutputsTellLists, plain_listing}
+use Rattle.cedar_laws.specs.Canonical.{plain_listing}
+use Rattle.cedar_written.specs.Canonical.{AcceptedHasOutput, OutputHasTheList, OutputsTellLists}
+use Rattle.cedar_written.specs.Output.{IsOutputOf}
 use Rattle.cedar_documents.specs.declared.config.Config.{Config}
 use Rattle.cedar_policy_formatter.specs.Outputs.{HasOutput}
 use Rattle.cedar_folder.specs.Runs.{IsUnformatted}

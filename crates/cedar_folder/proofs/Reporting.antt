@@ -5,7 +5,7 @@ use Rattle.std.specs.List.{AllByRecursion, flat_map}
 use Rattle.std.proofs.lemmas.List.Concat.{flat_map-append}
 use Rattle.std.proofs.lemmas.List.{map-append, take-append-drop, take_all, take_more}
 use Rattle.cedar_tokens.specs.Listing.{ListingIsUnique}
-use Rattle.cedar_laws.specs.Canonical.{AcceptedHasOutput, OutputHasTheList, OutputsTellLists}
+use Rattle.cedar_written.specs.Canonical.{AcceptedHasOutput, OutputHasTheList, OutputsTellLists}
 use Rattle.cedar_documents.specs.declared.config.Config.{Config}
 use Rattle.cedar_folder.specs.Folders.{Moment, Names, Picture, Reports, Since, Told, Stored, Untold, with_report}
 use Rattle.cedar_folder.specs.Rights.{Given, GivenBy, Inherits}

@@ -2,9 +2,10 @@
 use Rattle.std.specs.Prelude.{◌≡◌, ◌≢◌, ◌⊎◌, ◌++◌, ◌∷◌, [], ℕ, ◌≤◌, List, Bool, true, false, length, if◌then◌else◌, Option, None, Some, map, string_bytes, ⊤}
 use Rattle.std.specs.List.{AllByRecursion, flat_map}
 use Rattle.std.specs.Str.{IsUtf8}
-use Rattle.cedar_grammar.specs.Texts.{Accepted}
 use Rattle.cedar_policy_formatter.specs.Outputs.{HasOutput}
-use Rattle.cedar_tree.specs.Refusals.{OutOfMemoryOr, Refuses}
+use Rattle.cedar_tree.specs.Refusals.{OutOfMemoryOr}
+use Rattle.cedar_written.specs.Refusals.{Refuses}
+use Rattle.cedar_written.specs.Texts.{Accepted}
 use Rattle.cedar_documents.specs.declared.config.Config.{Config}
 use Rattle.cedar_folder.specs.Folders.{HoldsMade, Moment, Names, Picture, Since, Stored, Told, Untold}
 use Rattle.cedar_folder.specs.Rights.{Inherits}

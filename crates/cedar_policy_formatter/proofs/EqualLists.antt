@@ -26,7 +26,7 @@ use Rattle.cedar_cst.specs.PolicyReaders.{Position, EndsPiece, HasEnded, GoesOn,
 use Rattle.cedar_cst.proofs.PartLaws.{no_units}
 use Rattle.cedar_cst.proofs.Places.{accepted_parts, place_accepted}
 use Rattle.cedar_cst.proofs.Readers.{ends_more, ends_within}
-use Rattle.cedar_policy_formatter.specs.Compared.{HaveEqualLists}
+use Rattle.cedar_written.specs.Lists.{HaveEqualLists}
 use Rattle.cedar_policy_formatter.specs.Inside.Alike.{plain_value, HaveEqualTokens, GoesOnAlike, HasNext, HasOtherNext}
 use Rattle.cedar_policy_formatter.proofs.PieceOutputs.{list_stays}
 

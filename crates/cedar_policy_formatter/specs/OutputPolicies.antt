@@ -3,7 +3,7 @@ use Rattle.std.specs.Prelude.{ℕ, ℤ, List}
 use Rattle.std.specs.Str.{IsUtf8}
 use Rattle.cedar_tree.specs.declared.tree.Policies.{Policies}
 use Rattle.cedar_tree.specs.NodeTrees.{IsTreeOf}
-use Rattle.cedar_laws.specs.Canonical.{IsOutputOf}
+use Rattle.cedar_written.specs.Output.{IsOutputOf}
 use Rattle.cedar_policy_formatter.specs.Texts.{IsTextOf, KeepsPolicies}
 
 -- an output of a text is a text of its policies: it is accepted, and its tree of nodes is the text's except for spans

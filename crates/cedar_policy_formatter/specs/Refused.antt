@@ -1,9 +1,9 @@
--- Why the formatter refuses a text: as the parser refuses it.
+-- Why the formatter refuses texts.
 use Rattle.std.specs.Prelude.{◌≡◌, ℕ, List, ◌⊎◌}
-use Rattle.cedar_grammar.specs.Texts.{Accepted}
-use Rattle.cedar_tree.specs.Refusals.{Refuses}
 use Rattle.cedar_tree.specs.declared.error.FormatError.{FormatError}
 use Rattle.cedar_tree.specs.declared.error.FormatError.TheVariants.{OutOfMemory}
+use Rattle.cedar_written.specs.Refusals.{Refuses}
+use Rattle.cedar_written.specs.Texts.{Accepted}
 
 -- out of memory
 abbrev pub IsMemory : FormatError → Type 0

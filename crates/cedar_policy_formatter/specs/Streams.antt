@@ -5,10 +5,11 @@ use Rattle.std.specs.Io.KnownBytes.{Appends, Keeps}
 use Rattle.cedar_streams.specs.Texts.{GivesAll, GivesText, AppendsPart}
 use Rattle.cedar_streams.specs.declared.reading.ReadFault.{ReadFault}
 use Rattle.cedar_streams.specs.declared.reading.ReadFault.TheVariants as without
-use Rattle.cedar_grammar.specs.Texts.{Accepted}
-use Rattle.cedar_tree.specs.Refusals.{OutOfMemoryOr, Refuses}
+use Rattle.cedar_tree.specs.Refusals.{OutOfMemoryOr}
 use Rattle.cedar_tree.specs.declared.error.FormatError.TheVariants.{OutOfMemory}
-use Rattle.cedar_laws.specs.Canonical.{IsOutputOf}
+use Rattle.cedar_written.specs.Output.{IsOutputOf}
+use Rattle.cedar_written.specs.Refusals.{Refuses}
+use Rattle.cedar_written.specs.Texts.{Accepted}
 use Rattle.cedar_policy_formatter.specs.declared.fmt.stream.RunFault.{RunFault}
 use Rattle.cedar_policy_formatter.specs.declared.fmt.stream.RunFault.TheVariants.{Read, NotUtf8, Format, Write}
 
@@ -27,7 +28,7 @@ FailsToRead old new Write = ⊥
 
 -- y is the output of an accepted text, which was read to its end
 abbrev pub IsOutputOfAll : ℕ → ℤ → Option (List ℕ) → Option (List ℕ) → List ℕ → Type 0
-IsOutputOfAll width indent old new y = (x : List ℕ) × GivesText old new x × Accepted x × IsOutputOf width indent x y
+IsOutputOfAll width indent old new y = (x : List ℕ) × GivesText old new x × IsOutputOf width indent x y
 
 -- what a run read and wrote: with success all of the output, with `Write` a prefix, with any other fault nothing
 abbrev pub TellsRun : ℕ → ℤ → Option (List ℕ) → Option (List ℕ) → Option (List ℕ) → Option (List ℕ) → Result Unit RunFault → Type 0

@@ -3,8 +3,8 @@ ghost use Rattle.std.specs.Prelude.{◌≡◌, ◌↔◌, IsTrue, ◌++◌, ℕ,
 ghost use Rattle.cedar_tokens.specs.Bytes.{line_feed};
 ghost use Rattle.cedar_tokens.specs.Tokens.{comments_left};
 ghost use Rattle.cedar_tree.specs.Erased as erased;
-ghost use Rattle.cedar_tree.specs.Refusals.{OutOfMemoryOr, Refuses};
-ghost use Rattle.cedar_grammar.specs.Texts.{Accepted};
+ghost use Rattle.cedar_tree.specs.Refusals.{OutOfMemoryOr, Refuses as RefusesByTrees};
+ghost use Rattle.cedar_grammar.specs.Texts.{Accepted as AcceptedByTree};
 ghost use Rattle.cedar_grammar.specs.TypedTrees.{Clause, part_yield};
 ghost use Rattle.cedar_grammar.specs.TypedTrees as kind;
 ghost use Rattle.cedar_pieces.specs.Pieces.{IsPiece};
@@ -12,8 +12,12 @@ ghost use Rattle.cedar_cst.specs.PolicyReaders.{IsPolicyOf, AreTokensOf};
 ghost use Rattle.cedar_layout.specs.Layout.{Doc};
 ghost use Rattle.cedar_layout.specs.Lookups.{AreInOrder, Shown, shown};
 ghost use Rattle.cedar_sheet.specs.Marks.{flat};
-ghost use Rattle.cedar_laws.specs.Canonical.{IsOutputOf};
+ghost use Rattle.cedar_laws.specs.Canonical.{IsOutputOf as IsOutputByTable};
 ghost use Rattle.cedar_laws.specs.Output.{closing_text};
+ghost use Rattle.cedar_written.specs.Lists.{HaveEqualLists};
+ghost use Rattle.cedar_written.specs.Output.{IsOutputOf};
+ghost use Rattle.cedar_written.specs.Refusals.{Refuses};
+ghost use Rattle.cedar_written.specs.Texts.{Accepted};
 ghost use Rattle.cedar_document_rows.specs.Kept.{KeepsTokens};
 ghost use Rattle.cedar_document_rows.specs.NodeDocuments.{IsAt};
 ghost use Rattle.cedar_documents.specs.PartDocuments.{IsPartOf};
@@ -27,11 +31,11 @@ use cedar_cst::cst::{
 };
 use cedar_document_rows::written::NoDocument;
 use cedar_documents::config::Config;
+use cedar_documents::laws as laws_by_trees;
 pub use cedar_documents::laws::{
     accepted_texts_have_trees, cleaning_is_unique, cleaning_keeps_the_list, cleaning_takes_blanks,
-    every_layout_reads_back, every_list_is_good, last_width_decides, lists_join,
-    outputs_are_canonical, outputs_are_determined, outputs_have_the_trees, own_tokens_are_met,
-    policies_stand_alone,
+    every_layout_reads_back, every_list_is_good, lists_join, outputs_are_determined,
+    outputs_have_the_trees, own_tokens_are_met, policies_stand_alone,
 };
 use cedar_documents::policies::write_policy;
 use cedar_layout::utils::append_without_empty_lines;
@@ -40,6 +44,10 @@ use cedar_sheet::layout;
 use cedar_sheet::sheet::Sheet;
 use cedar_tokens::lexer::{drop_trailing_commas, listing_is_unique};
 use cedar_tokens::token::{Comments, WrappedToken, get_comment};
+pub use cedar_written::laws::{
+    last_width_decides, outputs_are_canonical, outputs_keep_lists, texts_are_judged,
+    written_outputs_agree, written_texts_agree,
+};
 use std::alloc::{AllocError, Global};
 
 mod compare;
@@ -54,18 +62,20 @@ pub use stream::{RunFault, check_stream, format_stream};
 
 /// Lays out the policies `ps`.
 ///
-/// Trailing commas and leading zeros of numbers are dropped; every comment is kept in its place. The result is the written
-/// layout of the list of `ps` without trailing commas, at the width and the indentation of `config`. It is accepted, and its
-/// tree is that of `ps` except for spans. Every accepted text has a result, unless out of memory; every other is refused as
-/// `cst::parse_policies` refuses it, for the same reason at the same place.
+/// The result has the list of `ps`: its tokens and comments, in order. Only trailing commas and leading zeros of numbers are
+/// dropped. It is laid out as the written grammar says, at the width and the indentation of `config`, and it is accepted.
+/// Every accepted text has a result, unless out of memory; every other is refused, with the reason and the place.
 pub fn policies_str_to_pretty(
     alloc: Global,
     ps: &str,
     config: &Config,
 ) -> Result<String, FormatError>
-    ensures answer { MatchResult result (λ _. Accepted ps.now) (OutOfMemoryOr (Refuses ps.now)) }
-    ensures output { IfOk result (λ out. IsOutputOf config.now.line_width config.now.indent_width ps.now (string_bytes out)) }
+    ensures list { IfOk result (λ out. HaveEqualLists ps.now (string_bytes out)) }
+    ensures answer { MatchResult result (λ out. IsOutputOf config.now.line_width config.now.indent_width ps.now (string_bytes out)) (OutOfMemoryOr (Refuses ps.now)) }
 {
+    written_texts_agree();
+    written_outputs_agree();
+    outputs_keep_lists();
     let mut text = String::new(alloc);
     write_policies(alloc, ps, config, &mut text)?;
     Ok(text)
@@ -78,8 +88,8 @@ fn write_policies<S: Sink>(
     config: &Config,
     sink: &mut S,
 ) -> Result<(), FormatError>
-    ensures answer { MatchResult result (λ _. Accepted ps.now) (OutOfMemoryOr (Refuses ps.now)) }
-    ensures output { OnOk result ((out : List ℕ) × IsOutputOf config.now.line_width config.now.indent_width ps.now out × S.takes sink.old out sink.new) }
+    ensures answer { MatchResult result (λ _. AcceptedByTree ps.now) (OutOfMemoryOr (RefusesByTrees ps.now)) }
+    ensures output { OnOk result ((out : List ℕ) × IsOutputByTable config.now.line_width config.now.indent_width ps.now out × S.takes sink.old out sink.new) }
 {
     let mut reader = PolicyReader::new(ps);
     let mut buffers = Buffers::new(alloc);
@@ -124,6 +134,8 @@ pub fn is_formatted(alloc: Global, ps: &str, config: &Config) -> Result<bool, Fo
     ensures answer { MatchResult result (λ _. Accepted ps.now) (OutOfMemoryOr (Refuses ps.now)) }
     ensures output { IfOk result (λ r. IsTrue r ↔ IsOutputOf config.now.line_width config.now.indent_width ps.now ps.now) }
 {
+    written_texts_agree();
+    written_outputs_agree();
     outputs_are_canonical();
     listing_is_unique();
     let mut rest = Rest::new(ps);
@@ -166,10 +178,10 @@ fn lay_out<'src>(
     requires piece { IsPiece text.now (length text.now) }
     requires policy { IsPolicyOf text.now policy }
     requires tokens { AreTokensOf text.now buffers.old.tokens.items }
-    ensures { MatchResult result (λ _. IsOutputOf config.now.line_width config.now.indent_width text.now (string_bytes buffers.new.clean)) IsMemory }
+    ensures { MatchResult result (λ _. IsOutputByTable config.now.line_width config.now.indent_width text.now (string_bytes buffers.new.clean)) IsMemory }
 {
     tree_is_of_accepted();
-    outputs_are_canonical();
+    laws_by_trees::outputs_are_canonical();
     drop_trailing_commas(alloc, &mut buffers.tokens)?;
     policy_text(buffers, policy, config)?;
     buffers.clean.push('\n')?;

@@ -4,6 +4,7 @@ ghost use Rattle.cedar_policy_formatter.specs.Texts.{KeptPoliciesHaveTheSameToke
 
 use cedar_cst::cst::laws::nodes_have_the_plain_texts;
 use cedar_documents::laws::outputs_are_canonical;
+use cedar_written::laws::written_outputs_agree;
 
 /// Texts of the same policies have the same tokens, except for trailing commas and leading zeros of numbers. A law: its body
 /// does nothing.
@@ -19,4 +20,5 @@ pub fn outputs_keep_the_policies()
 {
     nodes_have_the_plain_texts();
     outputs_are_canonical();
+    written_outputs_agree();
 }

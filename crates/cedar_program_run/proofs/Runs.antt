@@ -1,7 +1,7 @@
 -- What the clauses of streams say about a check by the program.
 use Rattle.std.proofs.Common.{◌≡◌, ◌++◌, ℕ, List, Bool, true, false, Option, Some, None, Ok, refl, sym, ap, ◌∙◌, append-nil, inl, inr}
 use Rattle.cedar_streams.specs.Texts.{GivesText}
-use Rattle.cedar_grammar.specs.Texts.{Accepted}
+use Rattle.cedar_written.specs.Texts.{Accepted}
 use Rattle.cedar_documents.specs.declared.config.Config.{Config}
 use Rattle.cedar_policy_formatter.specs.Streams.{TellsCheck}
 use Rattle.cedar_program_run.specs.Runs.{Checks, IsRead}

@@ -3,7 +3,7 @@ use Rattle.std.specs.Prelude.{◌≡◌, ◌⊎◌, ℕ, List, Bool, IsTrue, IsF
 use Rattle.std.specs.Str.{IsUtf8}
 use Rattle.std.specs.Io.KnownBytes.{Appends, Keeps}
 use Rattle.cedar_streams.specs.Texts.{AppendsPart}
-use Rattle.cedar_grammar.specs.Texts.{Accepted}
+use Rattle.cedar_written.specs.Texts.{Accepted}
 use Rattle.cedar_policy_formatter.specs.Outputs.{HasOutput}
 use Rattle.cedar_documents.specs.declared.config.Config.{Config}
 use Rattle.clap.specs.Words.{Text}

@@ -10,7 +10,7 @@ use Rattle.cedar_grammar.specs.Texts.{Accepted}
 use Rattle.cedar_laws.specs.Canonical.{IsOutputOf}
 use Rattle.cedar_pieces.specs.Pieces.{IsPiece}
 use Rattle.cedar_cst.specs.PolicyReaders.{EndsPiece}
-use Rattle.cedar_policy_formatter.specs.Compared.{HaveEqualLists}
+use Rattle.cedar_written.specs.Lists.{HaveEqualLists}
 use Rattle.cedar_ranges.specs.Pieces.{ArePieces, IsTouchedSpan}
 use Rattle.cedar_edits.specs.Edits.{IsPartOf, edited, within}
 use Rattle.cedar_ranges.specs.Edits.{feeds_after, LaysOut, LaysOutPolicies}

@@ -2,7 +2,7 @@
 use Rattle.std.specs.Prelude.{◌≡◌, ◌⊎◌, ℕ, List}
 use Rattle.cedar_grammar.specs.Texts.{Accepted}
 use Rattle.cedar_edits.specs.Returns.{HasReturns}
-use Rattle.cedar_policy_formatter.specs.Compared.{HaveEqualLists}
+use Rattle.cedar_written.specs.Lists.{HaveEqualLists}
 
 -- if the text is accepted, the other is too, and has its list
 abbrev pub Keeps : List ℕ → List ℕ → Type 0

@@ -3,7 +3,7 @@ use Rattle.std.specs.Prelude.{ℕ, ℤ, List}
 use Rattle.std.specs.Str.{IsUtf8}
 use Rattle.cedar_grammar.specs.Texts.{Accepted}
 use Rattle.cedar_laws.specs.Canonical.{IsOutputOf}
-use Rattle.cedar_policy_formatter.specs.Compared.{HaveEqualLists}
+use Rattle.cedar_written.specs.Lists.{HaveEqualLists}
 
 -- an accepted text with the list of another has its output
 abbrev pub EqualListsHaveOneOutput : Type 0

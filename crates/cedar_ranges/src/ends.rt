@@ -9,6 +9,7 @@ use cedar_edits::{Edit, has_returns, with_returns};
 use cedar_policy_formatter::cst::laws::{accepted_is_not_refused, tree_is_of_accepted};
 use cedar_policy_formatter::cst::parse_policies;
 use cedar_policy_formatter::token::Span;
+use cedar_policy_formatter::fmt::written_texts_agree;
 use cedar_policy_formatter::{Config, FormatError, same_layout};
 use std::alloc::{AllocError, Global};
 
@@ -42,6 +43,7 @@ pub(crate) fn in_line_ends(
 fn keeps(alloc: Global, text: &str, other: &str) -> Result<bool, AllocError>
     ensures { IfOk result (λ r. IsTrue r ↔ Keeps text.now other.now) }
 {
+    written_texts_agree();
     accepted_is_not_refused();
     match same_layout(alloc, text, other, &Config::default()) {
         Ok(same) => Ok(same),

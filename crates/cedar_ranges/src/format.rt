@@ -15,6 +15,7 @@ use crate::touched::touched_span;
 use cedar_edits::Edit;
 use cedar_policy_formatter::cst::FormatError;
 use cedar_policy_formatter::cst::laws::accepted_is_not_refused;
+use cedar_policy_formatter::fmt::{written_outputs_agree, written_texts_agree};
 use cedar_policy_formatter::token::Span;
 use cedar_policy_formatter::{Config, policies_str_to_pretty};
 use std::alloc::{AllocError, Global};
@@ -30,6 +31,8 @@ pub fn format_text(alloc: Global, text: &str, config: &Config) -> Result<Vec<Edi
     ensures keeps { IfOk result (λ edits. Keeps text.now (edited_by text.now edits.items)) }
     ensures edits { IfOk result (λ edits. AreLeastEdits text.now edits.items) }
 {
+    written_texts_agree();
+    written_outputs_agree();
     let output = policies_str_to_pretty(alloc, text, config)?;
     let whole = Span {
         start: 0,
@@ -79,6 +82,8 @@ fn lay_out(alloc: Global, text: &str, span: Span, config: &Config) -> Result<Str
     ensures refused { IfErr result (OutOfMemoryOr (Refuses (within text.now span))) }
     ensures some { OnErr result (span.start < span.end) }
 {
+    written_texts_agree();
+    written_outputs_agree();
     let mut edit = String::new(alloc);
     if span.start == span.end {
         return Ok(edit);

@@ -11,3 +11,5 @@ pub mod Layouts
 pub mod Cleaning
 pub mod Outputs
 pub mod EqualLists
+pub mod Judged
+pub mod Canonical

@@ -6,4 +6,6 @@ pub mod Texts
 pub mod Refusals
 pub mod Output
 pub mod Lists
+pub mod Judged
+pub mod Canonical
 pub mod Laws

@@ -1,5 +1,7 @@
 //! Laws of the written grammar and its documents. They only state facts about definitions, so their bodies are empty.
+ghost use Rattle.cedar_written.specs.Canonical.{AcceptedHasOutput, LastWidthDecides, OutputHasTheList, OutputIsAccepted, OutputIsItsOwn, OutputsTellLists};
 ghost use Rattle.cedar_written.specs.Cleaning.{CleaningsAgree};
+ghost use Rattle.cedar_written.specs.Judged.{AcceptedIsNotRefused, RefusalIsUnique, TextIsJudged};
 ghost use Rattle.cedar_written.specs.Laws.{AcceptedAgree, DocumentsAreTheTables, DocumentsAreUnique, ErrorsAgree, GrammarsAgree, LayoutsAgree, LeavesAgree, ListsAgree, OutputsAgree, RefusalsAgree, TablesAreDocuments};
 ghost use Rattle.cedar_written.specs.Lists.{EqualListsHaveEqualOutputs, OutputKeepsTheList};
 
@@ -45,4 +47,26 @@ pub fn written_outputs_agree()
 pub fn outputs_keep_lists()
     ensures keeps { OutputKeepsTheList }
     ensures equal { EqualListsHaveEqualOutputs }
+{}
+
+/// An accepted text has an output, which is accepted, has the text's plain list by value, and is its own output. Two texts
+/// have equal outputs exactly if their plain lists are equal by value.
+pub fn outputs_are_canonical()
+    ensures some { AcceptedHasOutput }
+    ensures accepted { OutputIsAccepted }
+    ensures list { OutputHasTheList }
+    ensures equal { OutputsTellLists }
+    ensures again { OutputIsItsOwn }
+{}
+
+/// Laying out at one width and indentation and then at another gives the same as laying out at the other alone.
+pub fn last_width_decides()
+    ensures { LastWidthDecides }
+{}
+
+/// A text that splits is accepted or refused, but not both, and it has at most one refusal: one place and one kind.
+pub fn texts_are_judged()
+    ensures some { TextIsJudged }
+    ensures either { AcceptedIsNotRefused }
+    ensures one { RefusalIsUnique }
 {}

@@ -1,11 +1,12 @@
 //! Whether two texts are laid out alike, without any layout: their lists are compared, policy by policy.
 ghost use Rattle.std.specs.Prelude.{◌≡◌, ◌↔◌, IsTrue, MatchBool, MatchResult, IfOk, map};
 ghost use Rattle.cedar_tokens.specs.Tokens.{decorated};
-ghost use Rattle.cedar_grammar.specs.Texts.{Accepted};
-ghost use Rattle.cedar_tree.specs.Refusals.{OutOfMemoryOr, Refuses};
+ghost use Rattle.cedar_grammar.specs.Texts.{Accepted as AcceptedByTree};
+ghost use Rattle.cedar_tree.specs.Refusals.{OutOfMemoryOr, Refuses as RefusesByTrees};
 ghost use Rattle.cedar_layout.specs.Lookups.{AreInOrder};
 ghost use Rattle.cedar_cst.specs.PolicyReaders.{AreTokensOf, HasEnded};
-ghost use Rattle.cedar_policy_formatter.specs.Compared.{HaveEqualLists};
+ghost use Rattle.cedar_written.specs.Lists.{HaveEqualLists};
+ghost use Rattle.cedar_written.specs.Texts.{Accepted};
 ghost use Rattle.cedar_policy_formatter.specs.Refused.{RefusesOne};
 ghost use Rattle.cedar_policy_formatter.specs.Inside.Alike.{plain_value, GoesOnAlike, HasNext, HasOtherNext};
 
@@ -15,6 +16,7 @@ use cedar_documents::config::Config;
 use cedar_pieces::check::{same_comments, same_values};
 use cedar_tokens::lexer::drop_trailing_commas;
 use cedar_tokens::token::WrappedToken;
+use cedar_written::laws::written_texts_agree;
 use std::alloc::{AllocError, Global};
 
 /// Whether `a` and `b` are laid out alike, which is the same at every width and indentation: their lists without trailing
@@ -24,6 +26,7 @@ pub fn same_layout(alloc: Global, a: &str, b: &str, _config: &Config) -> Result<
     ensures answer { MatchResult result (λ _. Accepted a.now × Accepted b.now) (OutOfMemoryOr (RefusesOne a.now b.now)) }
     ensures lists { IfOk result (λ r. IsTrue r ↔ HaveEqualLists a.now b.now) }
 {
+    written_texts_agree();
     accepted_is_not_refused();
     tree_is_of_accepted();
     let mut first = PolicyReader::new(a);
@@ -93,7 +96,7 @@ fn has_more<'src>(
     room: &mut Vec<WrappedToken<'src>>,
 ) -> Result<bool, FormatError>
     ensures text { reader.new.text ≡ reader.old.text }
-    ensures answer { MatchResult result (λ _. Accepted reader.old.text) (OutOfMemoryOr (Refuses reader.old.text)) }
+    ensures answer { MatchResult result (λ _. AcceptedByTree reader.old.text) (OutOfMemoryOr (RefusesByTrees reader.old.text)) }
     ensures more { IfOk result (λ more. MatchBool more (HasNext reader.old) (HasEnded reader.old × (reader.new ≡ reader.old))) }
 {
     let mut more = false;

@@ -2,7 +2,8 @@ use Rattle.std.proofs.Common.{◌≡◌, refl, subst, sym}
 use Rattle.std.specs.Prelude.{string_bytes}
 use Rattle.std.specs.Str.{IsUtf8}
 use Rattle.cedar_folder.specs.Folders.{Follows, stored}
-use Rattle.cedar_tree.specs.Refusals.{OutOfMemoryOr, Refuses}
+use Rattle.cedar_tree.specs.Refusals.{OutOfMemoryOr}
+use Rattle.cedar_written.specs.Refusals.{Refuses}
 use Rattle.cedar_policy_formatter.specs.Outputs.{HasOutput}
 use Rattle.cedar_folder.specs.Runs.{GivesLayout, Handles}
 use Rattle.cedar_folder.specs.declared.files.Layout.TheVariants.{Other}

@@ -13,7 +13,7 @@ returns-else-eq c =
     other_layout c.outputs_are_canonical.ensures.equal c.listing_is_unique.ensures c.args.config.now
     c.args.bytes.now text (string_bytes made.output) c.eq.result
     (not_empty c.args.bytes.now c.is_empty.result c.is_empty.ensures c.if-is_empty.false)
-    c.in-Ok.ensures.cases made.ensures.output
+    c.in-Ok.ensures.cases made.ensures.answer
     (subst (λ z. IsUtf8 z) c.as_str.ensures.value c.as_str.utf8)
     (subst (λ z. IsTrue c.eq.result ↔ (z ≡ text)) c.as_str.ensures.value
     (slice_eq-Decides Decides-eqb c.as_str.result.now text c.eq.result c.eq.ensures)) c.if-eq.false

@@ -2,9 +2,10 @@ use Rattle.cedar_policy_formatter.proofs.OutputPolicies.{outputs_keep_the_polici
 use Rattle.cedar_policy_formatter.proofs.laws.outputs_keep_the_policies.Goals as goal
 
 pub returns-clause-policies : goal.returns-clause-policies
-returns-clause-policies c = outputs_keep_the_policies c.nodes_have_the_plain_texts.ensures
+returns-clause-policies c =
+    outputs_keep_the_policies c.written_outputs_agree.ensures c.nodes_have_the_plain_texts.ensures
     c.outputs_are_canonical.ensures.accepted c.outputs_are_canonical.ensures.list
 
 pub returns-clause-trees : goal.returns-clause-trees
-returns-clause-trees c = outputs_keep_the_trees c.outputs_are_canonical.ensures.accepted
-    c.outputs_are_canonical.ensures.list
+returns-clause-trees c = outputs_keep_the_trees c.written_outputs_agree.ensures
+    c.outputs_are_canonical.ensures.accepted c.outputs_are_canonical.ensures.list

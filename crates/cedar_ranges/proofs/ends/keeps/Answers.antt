@@ -17,8 +17,10 @@ returns-in-Err c =
     let refused : RefusesOne text other e =
     not_memory (RefusesOne text other) e not_out c.in-Err.ensures.answer in
     let from_keeps : Keeps text other → ¬ (Accepted text) = λ keeps accepted. elim refused [
-      | inl first ↦ c.accepted_is_not_refused.ensures text e accepted first
-      | inr second ↦ c.accepted_is_not_refused.ensures other e (keeps accepted).0 second.1
+      | inl first ↦ c.accepted_is_not_refused.ensures text e accepted
+          ((c.written_texts_agree.ensures.refused text e).1 first)
+      | inr second ↦ c.accepted_is_not_refused.ensures other e (keeps accepted).0
+          ((c.written_texts_agree.ensures.refused other e).1 second.1)
     ] in
     IfOk-weaker c.is_refused.result (λ r. IsTrue r ↔ ¬ (Accepted text))
     (λ r. IsTrue r ↔ Keeps text other) (λ r p. (

@@ -16,7 +16,9 @@ returns-clause-layout c =
     omega (arith, c.requires.part.order, c.if-span.false) in
     let part : c.range-2.result.now ≡ within text c.args.span = c.range-2.ensures.value in
     let front : c.range.result.now ≡ take c.args.span.start text = search rules in
-    let output = subst (λ z. IsOutputOf w i z out) part c.in_ok-layout.ensures.output in
+    let laid = (c.written_outputs_agree.ensures w i c.range-2.result.now out).1
+    c.in_ok-layout.ensures.answer in
+    let output = subst (λ z. IsOutputOf w i z out) part laid in
     let bytes : string_bytes c.push_str.new.self
     ≡ feeds_after (take c.args.span.start text) ++ out =
     c.in_ok-push_str.ensures.bytes

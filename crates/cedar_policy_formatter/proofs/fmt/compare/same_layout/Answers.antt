@@ -56,8 +56,10 @@ returns-in_err-more-clause-answer c =
     err_from_is_err_and c.from_residual-in_err-more.result c.from_residual-in_err-more.ensures.1 in
     rw (p.1, p.2) (memory_map (Refuses c.pieces.second.text) (RefusesOne c.args.a.now c.args.b.now)
     (λ e h. inr (
-      subst Accepted so_far.first_text ended.accepted,
-      subst (λ z. Refuses z e) so_far.second_text h,
+      (c.written_texts_agree.ensures.accepted c.args.a.now).0
+          (subst Accepted so_far.first_text ended.accepted),
+      (c.written_texts_agree.ensures.refused c.args.b.now e).0
+          (subst (λ z. Refuses z e) so_far.second_text h),
     ))
     c.in_err-more.field-0.0 c.in_err-more.ensures.answer)
 
@@ -65,8 +67,10 @@ pub returns-then-more-clause-answer : goal.returns-then-more-clause-answer
 returns-then-more-clause-answer c =
     let so_far = c.pieces.invariant in
     let ended = rw c.in_default.is at c.in_ok-piece.ensures.answer in (
-      subst Accepted so_far.first_text ended.accepted,
-      subst Accepted so_far.second_text c.in_ok-more.ensures.answer,
+      (c.written_texts_agree.ensures.accepted c.args.a.now).0
+          (subst Accepted so_far.first_text ended.accepted),
+      (c.written_texts_agree.ensures.accepted c.args.b.now).0
+          (subst Accepted so_far.second_text c.in_ok-more.ensures.answer),
     )
 
 pub returns-then-more-clause-lists : goal.returns-then-more-clause-lists
@@ -84,8 +88,10 @@ pub returns-clause-answer : goal.returns-clause-answer
 returns-clause-answer c =
     let so_far = c.pieces.invariant in
     let ended = rw c.in_default.is at c.in_ok-piece.ensures.answer in (
-      subst Accepted so_far.first_text ended.accepted,
-      subst Accepted so_far.second_text c.in_ok-more.ensures.answer,
+      (c.written_texts_agree.ensures.accepted c.args.a.now).0
+          (subst Accepted so_far.first_text ended.accepted),
+      (c.written_texts_agree.ensures.accepted c.args.b.now).0
+          (subst Accepted so_far.second_text c.in_ok-more.ensures.answer),
     )
 
 pub returns-clause-lists : goal.returns-clause-lists
