@@ -1,6 +1,6 @@
 -- What outputs say about their texts, as by the table.
 use Rattle.std.proofs.Common.{◌≡◌, ℕ, ℤ, List, ap, sym, ◌∙◌, subst}
-use Rattle.cedar_tokens.specs.Listing.{IsListing, EqualByValue, by_value}
+use Rattle.cedar_tokens.specs.Listing.{EqualByValue, by_value}
 use Rattle.cedar_tokens.proofs.Scanning.{listing_unique}
 use Rattle.cedar_laws.specs.Canonical.{plain_listing, IsOutputOf as IsOutputByTable}
 use Rattle.cedar_laws.proofs.CanonicalForm as table

@@ -1,7 +1,7 @@
 -- Cleaning by units is cleaning by the pieces between strings and comments.
-use Rattle.std.proofs.Common.{◌≡◌, ◌↔◌, ℕ, suc, ◌<◌, ◌≤◌, Bool, true, false, cond, not, ◌&&◌, ◌||◌, ◌==◌, inl, inr, List, [], ◌∷◌, ◌++◌, length, drop, refl, ap, arith, sym, ◌∙◌, subst, append_assoc, append-nil, length-append}
+use Rattle.std.proofs.Common.{◌≡◌, ℕ, ◌<◌, Bool, true, false, cond, not, ◌&&◌, ◌||◌, ◌==◌, inl, inr, List, [], ◌∷◌, ◌++◌, length, drop, refl, ap, arith, sym, ◌∙◌, subst, append_assoc, append-nil, length-append}
 use Rattle.std.specs.Prelude.{⊤}
-use Rattle.std.specs.List.{filter, list_all, list_any, take_while, concat, AllByRecursion}
+use Rattle.std.specs.List.{filter, list_all, list_any, take_while, concat}
 use Rattle.std.specs.Char.{is_whitespace, is_ascii_digit, encode_utf8}
 use Rattle.std.specs.Str.{chars, trim}
 use Rattle.std.proofs.Math.Seq.{drop-append_seam}
@@ -11,7 +11,7 @@ use Rattle.std.proofs.lemmas.Bool.{or_cases, and_parts, not-true, false_from_ne_
 use Rattle.std.proofs.lemmas.List.Folds.{concat-append}
 use Rattle.std.proofs.lemmas.List.Sums.{take_while-cons}
 use Rattle.cedar_tokens.specs.Bytes.{line_feed, space_character, quote, slash}
-use Rattle.cedar_tokens.specs.Units.{BeginsWith, BeginsNone, IsBlank, IsToken, IsUnit, blank, comment, token, is_string, is_comment, is_string_rest, is_word_byte, slots, punctuators, IsFirstUnit}
+use Rattle.cedar_tokens.specs.Units.{BeginsNone, IsBlank, IsToken, IsUnit, blank, comment, token, is_string, is_comment, is_string_rest, is_word_byte, slots, punctuators, IsFirstUnit}
 use Rattle.cedar_tokens.specs.Split.{Scans, SplitsInto}
 use Rattle.cedar_tokens.proofs.Heads.{class, word, number, string, slot, punctuator, token_of, one_of}
 use Rattle.cedar_tokens.proofs.FirstUnit.{comment_parts}

@@ -1,5 +1,5 @@
 -- Each text is accepted or refused, and for one reason, as by the grammar of trees.
-use Rattle.std.specs.Prelude.{◌⊎◌, ℕ, List}
+use Rattle.std.specs.Prelude.{◌⊎◌}
 use Rattle.std.proofs.Common.{inl, inr}
 use Rattle.cedar_tokens.proofs.Scanning.{split_unique, fault_unique, fault_prevents}
 use Rattle.cedar_grammar.specs.Texts.{Accepted as AcceptedByTree}
