@@ -4,8 +4,8 @@ use Rattle.std.proofs.lemmas.Result.{err_from_is_err_and}
 use Rattle.std.specs.Io.KnownBytes.{Appends}
 use Rattle.cedar_streams.specs.Devices.{device_of}
 use Rattle.cedar_streams.specs.Texts.{AppendsPart, GivesText}
-use Rattle.cedar_tree.specs.Refusals.{Refuses}
 use Rattle.cedar_tree.proofs.Memory.{memory_map}
+use Rattle.cedar_written.specs.Refusals.{Refuses}
 use Rattle.cedar_policy_formatter.proofs.Runs.{without_text}
 use Rattle.cedar_policy_formatter.proofs.fmt.stream.format_stream.Goals as goal
 
@@ -39,7 +39,6 @@ returns-in-Ok-write_until_failure-clause-run g c =
         c.as_str.result.now,
         subst (GivesText old new) (sym c.as_str.ensures.value) c.in_ok-text.ensures.text,
         c.in-Ok.ensures.answer,
-        c.in-Ok.ensures.output,
       ),
       subst (Appends held holds) c.as_bytes.ensures.value c.in-Ok-write_until_failure.ensures.whole,
     )
@@ -55,7 +54,6 @@ returns-clause-run g c =
         c.as_str.result.now,
         subst (GivesText old new) (sym c.as_str.ensures.value) c.in_ok-text.ensures.text,
         c.in-Ok.ensures.answer,
-        c.in-Ok.ensures.output,
       ),
       subst (AppendsPart held holds) c.as_bytes.ensures.value
           c.in-Err-write_until_failure.ensures.part,
