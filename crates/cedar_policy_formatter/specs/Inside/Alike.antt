@@ -6,7 +6,6 @@ use Rattle.cedar_grammar.specs.Texts.{Accepted}
 use Rattle.cedar_tree.specs.Refusals.{Refuses}
 use Rattle.cedar_tree.specs.declared.error.FormatError.{FormatError}
 use Rattle.cedar_laws.specs.Output.{with_value}
-use Rattle.cedar_pieces.specs.Pieces.{IsFirstPiece}
 use Rattle.cedar_cst.specs.PolicyReaders.{Position, HasEnded, GoesOn}
 
 -- tokens without trailing commas, by value
