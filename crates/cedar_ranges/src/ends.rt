@@ -8,8 +8,8 @@ ghost use Rattle.cedar_ranges.specs.Keeping.{InLineEnds, Keeps};
 use cedar_edits::{Edit, has_returns, with_returns};
 use cedar_policy_formatter::cst::laws::{accepted_is_not_refused, tree_is_of_accepted};
 use cedar_policy_formatter::cst::parse_policies;
-use cedar_policy_formatter::token::Span;
 use cedar_policy_formatter::fmt::written_texts_agree;
+use cedar_policy_formatter::token::Span;
 use cedar_policy_formatter::{Config, FormatError, same_layout};
 use std::alloc::{AllocError, Global};
 
