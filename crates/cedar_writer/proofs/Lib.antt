@@ -1,0 +1,6 @@
+pub mod KindTest
+pub mod Loops
+pub mod Views
+pub mod Lines
+pub mod Grammar
+pub mod Flat

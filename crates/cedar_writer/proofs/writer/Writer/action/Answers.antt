@@ -1,0 +1,12 @@
+use Rattle.std.proofs.Common.{pos, ap, ◌∙◌, []}
+use Rattle.cedar_tokens.specs.declared.kind.Kind.TheVariants as K
+use Rattle.cedar_tokens.specs.Kinds.{is}
+use Rattle.cedar_lines.specs.Marks as M
+use Rattle.cedar_lines.specs.Writing as W
+use Rattle.cedar_writer.specs.Depths.{alone}
+use Rattle.cedar_writer.specs.Parts.{action, action_end}
+use Rattle.cedar_writer.proofs.writer.Writer.action.Goals as goal
+
+pub returns : goal.returns
+unfolding action
+returns c = c.action_end.ensures ∙ ap (alone (action_end (pos c.args.indent))) (c.take.ensures ∙ ap (W.take (is K.Action) [] []) (c.put-2.ensures ∙ ap (W.add M.begin) (c.put.ensures ∙ ap (W.add M.begin) c.lift.ensures)))

@@ -1,0 +1,10 @@
+use Rattle.std.proofs.Common.{pos, ap, ◌∙◌}
+use Rattle.cedar_lines.specs.Marks as M
+use Rattle.cedar_lines.specs.Writing as W
+use Rattle.cedar_writer.specs.Depths.{alone}
+use Rattle.cedar_writer.specs.Parts.{bare_scope, variables}
+use Rattle.cedar_writer.proofs.writer.Writer.bare_scope.Goals as goal
+
+pub returns : goal.returns
+unfolding bare_scope
+returns c = c.put-4.ensures ∙ ap (W.add M.end_group) (c.put-3.ensures ∙ ap (W.add M.end_nest) (c.variables.ensures ∙ ap (alone (variables (pos c.args.indent) M.space)) (c.put-2.ensures ∙ ap (W.add (M.nest (pos c.args.indent))) c.put.ensures)))

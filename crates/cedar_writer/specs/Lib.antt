@@ -1,0 +1,5 @@
+pub mod Sets
+pub mod States
+pub mod Depths
+pub mod Parts
+pub mod Outcomes

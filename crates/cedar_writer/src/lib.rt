@@ -1,0 +1,14 @@
+//! Policies, read and written in one step: a function for each line of the grammar, whose contract is that line's rule. Its
+//! tokens are slices of the text, and what is written are the marks of its document.
+#![tactic(auto)]
+
+mod expressions;
+pub mod mark;
+mod names;
+mod operands;
+mod policies;
+pub mod policy;
+mod scopes;
+mod sets;
+pub mod token;
+mod writer;
