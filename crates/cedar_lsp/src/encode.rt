@@ -185,9 +185,15 @@ fn notice(alloc: Global, uri: Option<String>) -> Result<String, AllocError> {
 
 // A diagnosis of the document with this URI.
 fn diagnosis_value(alloc: Global, uri: &str, diagnosis: Diagnosis) -> Result<Value, AllocError> {
-    let range = range_value(alloc, diagnosis.range)?;
-    let (code, severity) = (name_of(diagnosis.code), severity_of(diagnosis.code));
-    match diagnosis.related {
+    let Diagnosis {
+        range,
+        code,
+        message,
+        related,
+    } = diagnosis;
+    let range = range_value(alloc, range)?;
+    let (code, severity) = (name_of(code), severity_of(code));
+    match related {
         Some(related) => {
             let related = related_value(alloc, uri, related)?;
             json!(in alloc; {
@@ -195,7 +201,7 @@ fn diagnosis_value(alloc: Global, uri: &str, diagnosis: Diagnosis) -> Result<Val
                 "severity": severity,
                 "code": code,
                 "source": "cedar",
-                "message": diagnosis.message,
+                "message": message,
                 "relatedInformation": [related],
             })
         }
@@ -204,7 +210,7 @@ fn diagnosis_value(alloc: Global, uri: &str, diagnosis: Diagnosis) -> Result<Val
             "severity": severity,
             "code": code,
             "source": "cedar",
-            "message": diagnosis.message,
+            "message": message,
         }),
     }
 }
