@@ -2,8 +2,9 @@
 
 Beside a proved program, ./build leaves out/CRATE.stamp, as `rt run` does: a sum of everything that the program is made of, its
 libraries, definitions and proofs too, and then the sum of the program. bindings/build leaves the same beside the library for C.
-Beside a library lies out/rlib/stamp, with the first of the two sums. `rt ci`, which ./check calls, keeps the sums of what it made
-beside the kit, by the sums of everything that the proof read. All this goes by rt's own functions, so this depends on them.
+Beside a library lies out/rlib/stamp, with the first of the two sums. ./check leaves the same of what `rt ci` made. The `rt ci` of
+some kits also keeps the sums of what it made beside the kit, by the sums of everything that the proof read. All this goes by rt's
+own functions, so this depends on them.
 """
 import contextlib
 import copy
@@ -11,8 +12,41 @@ import importlib.machinery
 import importlib.util
 import json
 import os
+import threading
+import time
 
 import kit
+
+
+class Stamps(threading.local):
+    """The sums of crates at one moment: each is found once, however many crates are above it."""
+
+    known = None
+
+    @contextlib.contextmanager
+    def at_once(self):
+        is_outer = self.known is None
+        self.known = {} if is_outer else self.known
+        try:
+            yield self.known
+        finally:
+            if is_outer:
+                self.known = None
+
+    def once(self, stamp):
+        """The function that finds a crate's sum, which calls itself for each crate below."""
+
+        def found(crate):
+            with self.at_once() as known:
+                key = crate.folder, repr(crate.said)
+                if key not in known:
+                    known[key] = stamp(crate)
+                return known[key]
+
+        return found
+
+
+STAMPS = Stamps()
 
 
 def loaded(script):
@@ -20,6 +54,7 @@ def loaded(script):
     loader = importlib.machinery.SourceFileLoader("rt", f"{kit.folder(script)}/bin/rt")
     made = importlib.util.module_from_spec(importlib.util.spec_from_loader("rt", loader))
     loader.exec_module(made)
+    made.rtlib.Crate.stamp = STAMPS.once(made.rtlib.Crate.stamp)
     return made
 
 
@@ -49,8 +84,9 @@ class Records:
         self.rt, self.built = loaded(script), built
         self.rt.Crate.allowed = self.rt.handles_of(sources)
         self.crates, self.copies = (crates_of(self.rt, top) for top in (sources, built))
-        # (asking for the store would make it)
-        self.store, self.known = os.path.isdir(self.rt.STORE) and self.rt.Kept(list(self.crates.values())), {}
+        # (not every kit has a store, and asking for it would make it)
+        has_store = hasattr(self.rt, "STORE") and os.path.isdir(self.rt.STORE)
+        self.store, self.known = has_store and self.rt.Kept(list(self.crates.values())), {}
 
     def stamp(self, crate):
         """The sum of everything that a crate's program or library is made of."""
@@ -95,3 +131,38 @@ class Records:
         """Records a library that the prover has passed."""
         write_anew(f"{self.built}/crates/{crate}/out/rlib/stamp", self.crates[crate].stamp())
 
+
+def from_store(store, crate, tests, prove):
+    """Gives what is kept of a crate, or of its tests, or proves it; returns the status. What is given is as new as what is made."""
+    status = store.through(crate, tests, prove)
+    for it in store.made_of(crate, tests):
+        with contextlib.suppress(OSError):
+            os.utime(f"{crate.folder}/out/{it}")
+    return status
+
+
+class Run:
+    """A run of `rt ci` over a copy of the repository, whose results are to be recorded."""
+
+    def __init__(self, script, top):
+        self.records, self.begun = Records(script, top, top), time.time()
+        with STAMPS.at_once():
+            self.before = {it: self.records.stamp(it) for it in self.records.crates}
+
+    def is_of_the_run(self, made):
+        """Whether a file or folder was made by the run."""
+        return os.path.exists(made) and os.path.getmtime(made) >= self.begun
+
+    def note(self):
+        """Records what the run, which proved every crate, made of files that have not changed since."""
+        with STAMPS.at_once():
+            after = {it: self.records.stamp(it) for it in self.records.crates}
+        for name, crate in self.records.crates.items():
+            out = f"{crate.folder}/out"
+            if self.before[name] != after[name]:
+                continue
+            # (a library that an earlier build made is put back after the run, with its record)
+            if crate.makes_rlib() and self.is_of_the_run(f"{out}/rlib/{name}.rlib") and not os.path.exists(f"{out}/rlib/stamp"):
+                self.records.note_library(name)
+            elif crate.is_program and self.is_of_the_run(f"{out}/{name}"):
+                self.records.note(name, name)

@@ -14,6 +14,7 @@ import shutil
 import sys
 import tempfile
 
+import passed
 import proved
 
 
@@ -60,7 +61,16 @@ def main():
     held = rt.rtlib.lock([*crate.below(), crate])
     os.makedirs("out", exist_ok=True)
     flags, before = ["--jobs", sys.argv[1]], records.stamp(name)
-    status = crate.build_rlib(flags, anew=True) if crate.makes_rlib() else compiled(rt, crate, flags)
+    # (what `rt ci` passed isn't proved again, and the other way round)
+    if crate.makes_rlib():
+        status = proved.from_store(passed.Store(rt), crate, False, lambda: crate.build_rlib(flags, anew=True))
+    elif crate.is_program and not hasattr(rt, "Kept"):
+        with contextlib.suppress(FileNotFoundError):
+            # (an earlier program has another name, too, by which it can be run in the meantime)
+            os.remove(f"out/{crate.name}")
+        status = proved.from_store(passed.Store(rt), crate, False, lambda: crate.ci(flags, False))
+    else:
+        status = compiled(rt, crate, flags)
     if status and crate.makes_rlib():
         # (the prover may have written what the verdict refuses)
         shutil.rmtree("out/rlib", ignore_errors=True)

@@ -1,6 +1,8 @@
 """The crates of a copy of the repository, and whether what was made of their sources is up to date."""
 import glob
 import os
+import re
+import sys
 
 
 def listed(top):
@@ -28,6 +30,21 @@ def below(crate, used):
 def code(top, crate):
     """The files of a crate's code."""
     return glob.glob(f"{top}/crates/{crate}/src/**/*.rt", recursive=True)
+
+
+def about(top, crate):
+    """The first sentence of a crate's root file."""
+    (root,) = [it for it in (f"{top}/crates/{crate}/src/{name}.rt" for name in ("lib", "main")) if os.path.exists(it)]
+    head = []
+    with open(root, encoding="utf-8") as it:
+        for line in it:
+            if not line.startswith("//!"):
+                break
+            head.append(line[3:].strip())
+    sentence = re.match(r"(.*?)\.(?: |$)", " ".join(head))
+    if not sentence:
+        sys.exit(f"{root} does not begin with a sentence after //!")
+    return sentence[1]
 
 
 def is_fresh(made, top, crates):

@@ -2,11 +2,9 @@
 use Rattle.std.proofs.Common.{◌≡◌, ℕ, ◌+◌, ◌<◌, List, [], ◌∷◌, Bool, true, false, refl, arith, length, count_by, cond, not, zero-add, ap, ◌∙◌}
 use Rattle.std.proofs.lemmas.List.Sums.{sum_by-append}
 use Rattle.std.specs.Prelude.{◌↔◌}
-use Rattle.cedar_tree.specs.declared.error.FormatError.{FormatError}
 use Rattle.cedar_folder.specs.declared.folder.Outcome.{Outcome}
 use Rattle.cedar_folder.specs.declared.folder.Outcome.TheVariants.{Formatted, Empty, Unformatted, Replaced, NotUtf8, Refused, Unread, Unwritten, LeftBeside}
-use Rattle.cedar_files.specs.declared.counts.Counts.{Counts}
-use Rattle.cedar_files.specs.Counts.{IsCountOf, is_changed, is_failed, is_memory, is_refused, is_same, limited}
+use Rattle.cedar_files.specs.Counts.{is_changed, is_failed, is_memory, is_refused, is_same, limited}
 
 -- a number that isn't 0 says that there is one
 pub some_counted : (n m : ℕ) → m ≡ limited n → (0 < m) ↔ (0 < n)

@@ -155,8 +155,8 @@ impl Folder for Disk<'_, '_> {
         let real = self.real_name(name)?;
         // (a file that isn't writable isn't replaced either)
         let file = OpenOptions::new().write(true).open(self.rt, real.as_str())?;
-        if let Some(loss) = self.room.loss_of(file.metadata()?.ino()) {
-            return Err(io::Error::other(loss));
+        if let Some(obstacle) = self.room.obstacle_of(file.metadata()?.ino()) {
+            return Err(io::Error::other(obstacle));
         }
         for _ in 0..MOST_NAMES {
             let beside = name_beside(alloc, self.rt, real.as_str(), self.bits)?;

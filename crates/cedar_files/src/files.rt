@@ -4,6 +4,7 @@ use crate::counts::{Counts, FAILED};
 use crate::disk::Disk;
 use crate::excludes::Excludes;
 use crate::layouts::Layouts;
+use crate::names::Shown;
 use crate::options::{Mode, Options};
 use crate::paths::working_folder;
 use crate::reports::Reports;
@@ -56,7 +57,7 @@ fn find(
     if !options.excludes_named {
         let unmet = excludes.unmet(alloc)?;
         for word in &unmet {
-            let line = format!(in alloc; "cedar-files: nothing is excluded by {word}")?;
+            let line = format!(in alloc; "cedar-files: nothing is excluded by {}", Shown(word))?;
             reports.say(line.as_str());
         }
     }

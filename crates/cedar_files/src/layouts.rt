@@ -1,4 +1,5 @@
 //! How each file is laid out.
+use crate::names::Shown;
 use crate::options::Options;
 use crate::paths::resolved;
 use cedar_policy_formatter::Config;
@@ -86,7 +87,8 @@ impl<'a> Layouts<'a> {
         if self.options.tells_layouts {
             write!(
                 self.rt.stderr(),
-                "{name}: indentation {} ({}), width {} ({})\n",
+                "{}: indentation {} ({}), width {} ({})\n",
+                Shown(name),
                 config.indent_width,
                 source_of(&indent),
                 config.line_width,
@@ -113,7 +115,7 @@ impl<'a> Layouts<'a> {
         let Some(setting) = setting else {
             return Ok(None);
         };
-        let path = self.shown(setting.path.as_str());
+        let path = Shown(self.shown(setting.path.as_str()));
         let line = setting.line;
         Ok(Some(Choice {
             columns: setting.columns,
@@ -125,8 +127,10 @@ impl<'a> Layouts<'a> {
     fn tell_problems(&mut self, problems: &[ProjectProblem]) -> io::Result<()> {
         let alloc = self.rt.alloc();
         for problem in problems {
-            let path = self.shown(problem.path.as_str());
+            let path = Shown(self.shown(problem.path.as_str()));
             let ProjectProblem { line, message, .. } = problem;
+            // (it may have a value of the file)
+            let message = Shown(message.as_str());
             let text = match line {
                 0 => format!(in alloc; "{path}: {message}")?,
                 _ => format!(in alloc; "{path}:{line}: {message}")?,

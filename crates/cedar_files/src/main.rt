@@ -1,8 +1,8 @@
 //! Formats files of policies in place, or checks them. The script `cedar-files` runs it.
 //!
 //! The script names a folder by the variable `NOBLESILK_ROOM`, and tells in it what this program can't find out by itself:
-//! whether a signal has come, and which files have an access control list or extended attributes (`room.rt`). Without the
-//! variable a signal ends the program at once, and it doesn't know of any list or attribute.
+//! whether a signal has come, for which files a new one would have another access control list, and which have extended
+//! attributes (`room.rt`). Without the variable a signal ends the program at once, and it doesn't know of any list or attribute.
 #![tactic(auto)]
 
 mod beside;
@@ -22,15 +22,18 @@ mod reports;
 mod room;
 mod text;
 mod walk;
+mod words;
 
 use clap::Error;
 use clap::error::ErrorKind;
 use counts::FAILED;
+use names::ShownBytes;
 use options::{Mode, Options, read_options};
 use reports::{Why, status_of};
+use std::io;
 use std::io::Write;
 use std::process::ExitCode;
-use std::{env, io};
+use words::Words;
 
 // A usage error.
 const MISUSED: u8 = 2;
@@ -39,47 +42,37 @@ const MISUSED: u8 = 2;
 const STANDARD_INPUT: &str = "-";
 
 fn main(rt: HostRuntime) -> ExitCode {
-    let status = match words(&rt) {
-        Ok(words) => match run(&rt, &words) {
-            Ok(status) => status,
-            Err(error) => {
-                let _ = write!(rt.stderr(), "cedar-files: {}\n", Why(&error));
-                FAILED
-            }
-        },
-        Err(error) if error.kind() == io::ErrorKind::OutOfMemory => {
-            let _ = write!(rt.stderr(), "cedar-files: out of memory\n");
+    let status = match run(&rt) {
+        Ok(status) => status,
+        Err(error) => {
+            let _ = write!(rt.stderr(), "cedar-files: {}\n", Why(&error));
             FAILED
-        }
-        Err(_) => {
-            let _ = write!(
-                rt.stderr(),
-                "cedar-files: a word of the command line is not UTF-8\n"
-            );
-            MISUSED
         }
     };
     ExitCode::from(status)
 }
 
-// The words that the program was given, after its name.
-fn words(rt: &HostRuntime) -> io::Result<Vec<String>> {
-    let words = env::args(rt)?.skip(1).collect(rt.alloc())?;
-    Ok(words)
-}
-
-// Does what the words ask for, and returns the status.
-fn run(rt: &HostRuntime, words: &[String]) -> io::Result<u8> {
+// Does what the words of the command line ask for, and returns the status.
+fn run(rt: &HostRuntime) -> io::Result<u8> {
+    let words = Words::read(rt)?;
     let mut line = Vec::new(rt.alloc());
     line.push("cedar-files")?;
-    for word in words {
-        line.push(word.as_str())?;
+    for text in words.texts() {
+        line.push(text.as_str())?;
     }
-    let options = match read_options(rt.alloc(), &line) {
+    let options = match read_options(rt.alloc(), &line, &words) {
         Ok(options) => options,
         Err(error) => return Ok(answer(rt, &error)),
     };
-    let reads_input = options.paths.iter().any(|path| *path == STANDARD_INPUT);
+    if let Some(word) = odd_word(&words, &options) {
+        let word = ShownBytes(word);
+        let _ = write!(
+            rt.stderr(),
+            "cedar-files: a word of the command line is not UTF-8: {word}\n"
+        );
+        return Ok(MISUSED);
+    }
+    let reads_input = options.paths.iter().any(|path| path.is(STANDARD_INPUT));
     if let Some(message) = misuse_of(&options, reads_input) {
         let _ = write!(rt.stderr(), "cedar-files: {message}\n");
         return Ok(MISUSED);
@@ -89,6 +82,19 @@ fn run(rt: &HostRuntime, words: &[String]) -> io::Result<u8> {
     } else {
         files::run_files(rt, &options)
     }
+}
+
+// An option, or the value of one, that isn't UTF-8.
+fn odd_word<'w>(words: &'w Words, options: &Options<'_>) -> Option<&'w [u8]> {
+    if let Some(word) = words.odd_option() {
+        return Some(word);
+    }
+    for value in options.excluded.iter().chain(&options.input_name) {
+        if let Some(word) = words.odd_word(value) {
+            return Some(word);
+        }
+    }
+    None
 }
 
 // What is wrong with options that can't stand together.
@@ -109,10 +115,22 @@ fn answer(rt: &HostRuntime, error: &Error) -> u8 {
     if !error.use_stderr() {
         return status_of(rt, &write!(rt.stdout(), "{error}"));
     }
-    let _ = write!(rt.stderr(), "{error}");
+    tell_misuse(rt, error);
     if error.kind() == ErrorKind::OutOfMemory {
         FAILED
     } else {
         MISUSED
+    }
+}
+
+// Writes what is wrong with the words.
+fn tell_misuse(rt: &HostRuntime, error: &Error) {
+    let Ok(text) = format!(in rt.alloc(); "{error}") else {
+        let _ = write!(rt.stderr(), "{error}");
+        return;
+    };
+    // (the stand-in of a word that isn't UTF-8 begins with a zero byte)
+    for part in text.as_str().split('\0') {
+        let _ = write!(rt.stderr(), "{part}");
     }
 }

@@ -1,6 +1,7 @@
 //! The words of the command line.
 ghost use Rattle.std.specs.Prelude.{◌≢◌, ◌↔◌, IsTrue};
 
+use crate::words::{Word, Words};
 use cedar_program_words::VERSION;
 use clap::{Arg, ArgAction, ArgMatches, Command, Error, value_parser};
 use std::alloc::{AllocError, Global};
@@ -60,7 +61,7 @@ pub struct Options<'a> {
     /// Whether files and folders that are named are skipped too.
     pub excludes_named: bool,
     /// The files and folders, in order.
-    pub paths: Vec<&'a str>,
+    pub paths: Vec<Word<'a>>,
 }
 
 static FORMATS: [&str; 3] = ["text", "github", "json"];
@@ -187,9 +188,18 @@ fn with_files<'a>(alloc: Global, command: Command<'a>) -> Result<Command<'a>, Al
     command.arg(exclude)?.arg(force)?.arg(input_name)?.arg(path)
 }
 
-/// What the words ask for, or why they are refused, or the help or the version that they ask for.
-pub fn read_options<'a>(alloc: Global, words: &'a [&'a str]) -> Result<Options<'a>, Error> {
-    let matches = command(alloc)?.try_get_matches_from(words)?;
+/// What a line of words asks for, or why it is refused, or the help or the version that it asks for. A word that isn't UTF-8
+/// has its stand-in there.
+pub fn read_options<'a>(
+    alloc: Global,
+    line: &'a [&'a str],
+    words: &'a Words,
+) -> Result<Options<'a>, Error> {
+    let matches = command(alloc)?.try_get_matches_from(line)?;
+    let mut paths = Vec::new(alloc);
+    for path in &texts(alloc, &matches, "path")? {
+        paths.push(words.word_of(path))?;
+    }
     Ok(Options {
         mode: mode_of(&matches),
         format: match matches.get_str("format") {
@@ -206,7 +216,7 @@ pub fn read_options<'a>(alloc: Global, words: &'a [&'a str]) -> Result<Options<'
         quiet: matches.get_flag("quiet"),
         excluded: texts(alloc, &matches, "exclude")?,
         excludes_named: matches.get_flag("force-exclude"),
-        paths: texts(alloc, &matches, "path")?,
+        paths,
     })
 }
 

@@ -6,8 +6,8 @@ use std::{env, fs, io};
 // The variable that names the folder for it.
 const VARIABLE: &str = "NOBLESILK_ROOM";
 
-/// What the script tells a run, in files of a folder: `stop` exists as soon as a signal has come, and `rights` and
-/// `attributes` have the numbers of files with an access control list and with extended attributes.
+/// What the script tells a run, in files of a folder: `stop` exists as soon as a signal has come, `rights` has the numbers of
+/// files for which a new one would have another access control list, and `attributes` of files with extended attributes.
 #[derive(Drop)]
 pub struct Room {
     stop: Option<String>,
@@ -35,10 +35,10 @@ impl Room {
         Ok(room)
     }
 
-    /// What a new file would lose that the file with this number has.
-    pub fn loss_of(&self, number: u64) -> Option<&'static str> {
+    /// Why no new file may take the place of the one with this number.
+    pub fn obstacle_of(&self, number: u64) -> Option<&'static str> {
         if self.rights.contains(&number) {
-            Some("it has an access control list, which a new file would lose")
+            Some("a new file would have another access control list")
         } else if self.attributes.contains(&number) {
             Some("it has extended attributes, which a new file would lose")
         } else {

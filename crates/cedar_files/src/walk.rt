@@ -5,6 +5,7 @@ use crate::names::ShownBytes;
 use crate::options::Options;
 use crate::paths::resolved;
 use crate::reports::{Kind, Remark, Reports};
+use crate::words::Word;
 use std::collections::BTreeSet;
 use std::fs::Files;
 use std::io::{BufRead, BufReader, ErrorKind};
@@ -32,13 +33,23 @@ pub fn find_files(
         files: Vec::new(alloc),
         faults: 0,
     };
-    for path in &options.paths {
+    for word in &options.paths {
+        let (path, name) = match *word {
+            Word::Text(path) => (path, None),
+            Word::Bytes(path) => {
+                let (folder, name) = split_path(path);
+                (folder, Some(name))
+            }
+        };
         let absolute = resolved(alloc, folder, path)?;
         if options.excludes_named && excludes.leaves_named(alloc, absolute.as_str())? {
             continue;
         }
         let mut walk = Walk::new(rt, absolute.as_str(), excludes, reports);
-        walk.take(path)?;
+        match name {
+            Some(name) => walk.leave_named(path, name)?,
+            None => walk.take(path)?,
+        }
         found.faults = found.faults.saturating_add(walk.faults);
         for file in walk.files {
             if seen.insert(file.clone()?)? {
@@ -229,19 +240,49 @@ impl<'a, 'e, 'r> Walk<'a, 'e, 'r> {
         if name.starts_with(b".") {
             return Ok(());
         }
-        self.faults = self.faults.saturating_add(1);
         let message = format!(in self.rt.alloc();
             "holds {}, which is left alone: its name is not UTF-8",
             ShownBytes(name)
         )?;
+        self.leave(folder, message.as_str());
+        Ok(())
+    }
+
+    // Reports a path that was named and isn't UTF-8, by what it names in a folder.
+    fn leave_named(&mut self, folder: &str, name: &[u8]) -> io::Result<()> {
+        // (whether there is such a file can't be found out)
+        let message = format!(in self.rt.alloc();
+            "{} is left alone: its name is not UTF-8",
+            ShownBytes(name)
+        )?;
+        self.leave(folder, message.as_str());
+        Ok(())
+    }
+
+    // Reports what is left alone in a folder, as a fault.
+    fn leave(&mut self, folder: &str, message: &str) {
+        self.faults = self.faults.saturating_add(1);
         self.reports.add(&Remark {
             kind: Kind::Failed,
             file: if folder.is_empty() { "/" } else { folder },
             place: None,
-            message: message.as_str(),
+            message,
         });
-        Ok(())
     }
+}
+
+// The folder of a path that isn't UTF-8, as far as that is, and what the path names in it.
+fn split_path(path: &[u8]) -> (&str, &[u8]) {
+    let valid = match path.utf8_chunks().next() {
+        Some(chunk) => chunk.valid(),
+        None => "",
+    };
+    let Some((folder, _)) = valid.rsplit_once('/') else {
+        return (".", path);
+    };
+    let name = path.get(folder.len().saturating_add(1)..).unwrap_or(path);
+    let folder = folder.trim_end_matches('/');
+    (if folder.is_empty() { "/" } else { folder }, name)
 }
 
 // The path with no link in it, if it leads to something.

@@ -8,6 +8,7 @@ use Rattle.cedar_tokens.specs.Listing.{with_first}
 use Rattle.cedar_tokens.specs.declared.token.Span.{Span}
 use Rattle.cedar_tokens.specs.Bytes.{line_feed, space_character}
 
+-- the last byte; c if there is none
 abbrev pub last_byte_or : ℕ → List ℕ → ℕ
 last_byte_or c [] = c
 last_byte_or c (d ∷ ds) = last_byte_or d ds
@@ -17,7 +18,7 @@ abbrev pub piece_lines : List ℕ → List (List ℕ)
 piece_lines [] = [] ∷ []
 piece_lines (b ∷ bs) = if b == line_feed then (line_feed ∷ []) ∷ piece_lines bs else with_first b (piece_lines bs)
 
--- it ends in a line feed and is otherwise only blanks
+-- it ends in a line feed and is otherwise only blanks (a line without bytes ends in none; a space stands for that)
 abbrev pub is_blank_line : List ℕ → Bool
 is_blank_line l = last_byte_or space_character l == line_feed && list_all is_whitespace (chars l)
 

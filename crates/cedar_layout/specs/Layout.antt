@@ -102,7 +102,7 @@ print flat_space = byte.space_character ∷ []
 print flat_nothing = []
 print (broken i) = byte.line_feed ∷ replicate i byte.space_character
 
--- an indentation plus a nesting, capped at 0 and at the greatest `usize`
+-- an indentation plus a nesting, capped at 0 and at the greatest `usize`, which has 64 bits
 abbrev pub indented : ℕ → ℤ → ℕ
 indented i (pos n) = min (i + n) (2 ^ 64 - 1)
 indented i (negsuc n) = i - suc n

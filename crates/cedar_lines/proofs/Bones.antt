@@ -17,7 +17,7 @@ use Rattle.cedar_grammar.specs.Reader.Sets.{joined}
 use Rattle.cedar_grammar.proofs.Booleans.{and_first, and_second}
 use Rattle.cedar_grammar.proofs.Readers.Equations.{choice_yes, choice_no}
 use Rattle.cedar_laws.specs.Table.{bare_token}
-use Rattle.cedar_lines.specs.Marks.{Mark, lead_of, marks_of}
+use Rattle.cedar_print.specs.WrittenMarks.{Mark, lead_of, marks_of}
 use Rattle.cedar_lines.specs.Rules.{Rule, never, inner, put, token, then, either, star, tail, deeper, lifted, fork, peek}
 use Rattle.cedar_lines.specs.Writing.{State, going, refused, lost, choose, nullable, first, begins, second, goes, looking, refuse, add_all, show, take, lift, size, turns, finish, run}
 use Rattle.cedar_lines.proofs.Tests.{decided}

@@ -14,7 +14,7 @@ use Rattle.cedar_grammar.proofs.Booleans.{and_first, and_second, neither_first, 
 use Rattle.cedar_grammar.proofs.KindSets.{apart, apart_at, within_at}
 use Rattle.cedar_grammar.proofs.Rules.Meanings.{expr_clash}
 use Rattle.cedar_laws.specs.Table.{bare_token}
-use Rattle.cedar_lines.specs.Marks.{Mark, lead_of, marks_of}
+use Rattle.cedar_print.specs.WrittenMarks.{Mark, lead_of, marks_of}
 use Rattle.cedar_lines.specs.Rules.{Rule, never, inner, put, token, then, either, star, tail, deeper, lifted, fork, peek}
 use Rattle.cedar_lines.specs.Lines as lines
 use Rattle.cedar_lines.specs.Languages.{Lang, ◌⋄◌, ◌∪◌, Many, no_more, one_more, Never, Put, Token, Deeper, Lifted, Looking, looks, means, Expr, Policy}

@@ -10,7 +10,7 @@ use Rattle.cedar_grammar.specs.Languages.{Never}
 use Rattle.cedar_grammar.specs.Reader.Reading.{Answer, Reader, done, stuck, too_deep}
 use Rattle.cedar_grammar.proofs.Readers.Families.{IsList, refused as refused_at, unfinished}
 use Rattle.cedar_written.specs.Texts.{without_comments}
-use Rattle.cedar_lines.specs.Marks.{Mark}
+use Rattle.cedar_print.specs.WrittenMarks.{Mark}
 use Rattle.cedar_lines.specs.Rules as R
 use Rattle.cedar_lines.specs.Rules.{◌▸◌}
 use Rattle.cedar_lines.specs.Lines as lines

@@ -13,3 +13,4 @@ pub mod Bones
 pub mod SomeRows
 pub mod Refusals
 pub mod Furthest
+pub mod AnyRoom

@@ -17,8 +17,8 @@ use Rattle.cedar_laws.specs.Table.{bare_token}
 use Rattle.cedar_written.specs.Languages.{◌⋄◌ as ◌⊙◌, ◌∪◌ as ◌⊕◌}
 use Rattle.cedar_written.specs.Languages as L
 use Rattle.cedar_written.specs.Written as W
-use Rattle.cedar_lines.specs.Marks.{Mark, AreMarks, none, both, a_text, a_line, a_line_or_nil, a_hard, a_nest, a_group, begin, end_group, end_nothing, end_nest}
-use Rattle.cedar_lines.specs.Marks as M
+use Rattle.cedar_print.specs.WrittenMarks.{Mark, AreMarks, none, both, a_text, a_line, a_line_or_nil, a_hard, a_nest, a_group, begin, end_group, end_nothing, end_nest}
+use Rattle.cedar_print.specs.WrittenMarks as M
 use Rattle.cedar_lines.specs.Rules as R
 use Rattle.cedar_lines.specs.Rules.{◌▸◌}
 use Rattle.cedar_lines.specs.Lines as l

@@ -6,8 +6,8 @@ use Rattle.cedar_tokens.specs.Listing.{Decorated, token_value}
 use Rattle.cedar_tokens.specs.declared.kind.Kind.{Kind}
 use Rattle.cedar_tokens.specs.Kinds.{is}
 use Rattle.cedar_grammar.specs.Laws.{kind_of_decorated}
-use Rattle.cedar_lines.specs.Marks.{Mark, lead_of, trail_of}
-use Rattle.cedar_lines.specs.Marks as M
+use Rattle.cedar_print.specs.WrittenMarks.{Mark, lead_of, trail_of}
+use Rattle.cedar_print.specs.WrittenMarks as M
 use Rattle.cedar_lines.specs.Rules.{Rule, never, inner, put, token, then, either, star, tail, deeper, lifted, fork, peek}
 use Rattle.cedar_lines.specs.Lines as lines
 use Rattle.cedar_lines.specs.Writing.{State, going, refused, lost, choose, nullable, first, begins, second, goes, looking, refuse, add, add_all, skip, show, take, add_lead, bare_first, lift, size, turns, finish, run, expr_to}

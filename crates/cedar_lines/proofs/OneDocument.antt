@@ -4,7 +4,7 @@ use Rattle.std.proofs.Common.{◌≡◌, ℤ, Bool, true, false, List, [], ◌�
 use Rattle.cedar_layout.specs.Layout.{Doc, nil, text_then, line_then, line_or_nil_then, hard_then, nest_then, group_then, ◌·◌}
 use Rattle.cedar_layout.specs.Layout as D
 use Rattle.cedar_layout.proofs.Values.{dot-nil, dot_assoc}
-use Rattle.cedar_lines.specs.Marks.{Mark, text, line, line_or_nil, hard, nest, end_nest, begin, end_group, end_nothing, AreMarks, none, both, a_text, a_line, a_line_or_nil, a_hard, a_nest, a_group, no_group}
+use Rattle.cedar_print.specs.WrittenMarks.{Mark, text, line, line_or_nil, hard, nest, end_nest, begin, end_group, end_nothing, AreMarks, none, both, a_text, a_line, a_line_or_nil, a_hard, a_nest, a_group, no_group}
 use Rattle.cedar_lines.specs.Laws.{MarksAreOfOne}
 
 -- what follows in the whole, and in each group or nest that has ended but not begun

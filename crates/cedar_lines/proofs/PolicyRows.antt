@@ -11,8 +11,8 @@ use Rattle.cedar_layout.specs.Comments.{space}
 use Rattle.cedar_written.specs.Languages.{◌⋄◌ as ◌⊙◌, ◌∪◌ as ◌⊕◌}
 use Rattle.cedar_written.specs.Languages as L
 use Rattle.cedar_written.specs.Written as W
-use Rattle.cedar_lines.specs.Marks.{Mark, AreMarks, none, a_hard}
-use Rattle.cedar_lines.specs.Marks as M
+use Rattle.cedar_print.specs.WrittenMarks.{Mark, AreMarks, none, a_hard}
+use Rattle.cedar_print.specs.WrittenMarks as M
 use Rattle.cedar_lines.specs.Rules as R
 use Rattle.cedar_lines.specs.Lines as l
 use Rattle.cedar_lines.specs.Languages.{Lang, Looking, looks, means, Expr, Policy, PolicySet, no_policy, a_policy}

@@ -1,6 +1,6 @@
 -- Reading and writing a policy, and the written grammar.
 use Rattle.std.proofs.Common.{◌≡◌, ◌+◌, [], ◌++◌, length, sym, ap, ◌∙◌, arith, subst}
-use Rattle.cedar_lines.specs.Marks.{AreMarks}
+use Rattle.cedar_print.specs.WrittenMarks.{AreMarks}
 use Rattle.cedar_lines.specs.Laws.{ReadPoliciesAreWritten, WrittenPoliciesAreRead, PoliciesHaveOneDocument}
 use Rattle.cedar_lines.specs.Writing.{going, policy_to}
 use Rattle.cedar_lines.proofs.OneDocument.{marks_are_of_one}

@@ -13,7 +13,7 @@ use Rattle.cedar_laws.specs.Table as T
 use Rattle.cedar_laws.specs.Table.{bare_token}
 use Rattle.cedar_written.specs.Languages.{◌⋄◌ as ◌⊙◌, ◌∪◌ as ◌⊕◌}
 use Rattle.cedar_written.specs.Languages as W
-use Rattle.cedar_lines.specs.Marks.{Mark, begin, end_group, end_nothing}
+use Rattle.cedar_print.specs.WrittenMarks.{Mark, begin, end_group, end_nothing}
 use Rattle.cedar_lines.specs.Lines.{is_name}
 use Rattle.cedar_lines.specs.Languages.{Lang, ◌⋄◌, ◌∪◌, Put, Token, Lifted}
 use Rattle.cedar_lines.proofs.SameRows.{Same, Between, written, group as group_same, ungrouped, ◌then◌, ◌or◌, Led}

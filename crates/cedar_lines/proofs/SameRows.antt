@@ -20,8 +20,8 @@ use Rattle.cedar_laws.specs.Table.{bare_token}
 use Rattle.cedar_written.specs.Languages.{◌⋄◌ as ◌⊙◌, ◌∪◌ as ◌⊕◌}
 use Rattle.cedar_written.specs.Languages as W
 use Rattle.cedar_written.specs.Written as G
-use Rattle.cedar_lines.specs.Marks.{Mark, AreMarks, none, both, a_text, a_hard, a_nest, a_group, no_group, begin, end_group, end_nothing, end_nest}
-use Rattle.cedar_lines.specs.Marks as M
+use Rattle.cedar_print.specs.WrittenMarks.{Mark, AreMarks, none, both, a_text, a_hard, a_nest, a_group, no_group, begin, end_group, end_nothing, end_nest}
+use Rattle.cedar_print.specs.WrittenMarks as M
 use Rattle.cedar_lines.specs.Languages.{Lang, ◌⋄◌, ◌∪◌, Many, no_more, one_more, Never, Put, Token, Deeper, Lifted}
 
 abbrev pub Tokens : List Decorated → Type 0

@@ -15,7 +15,7 @@ use Rattle.cedar_grammar.proofs.Booleans.{and_first, and_second}
 use Rattle.cedar_grammar.proofs.Rules.Meanings as M
 use Rattle.cedar_laws.specs.Table.{bare_token}
 use Rattle.cedar_written.proofs.SameRows.{parts}
-use Rattle.cedar_lines.specs.Marks.{Mark, marks_of, lead_of}
+use Rattle.cedar_print.specs.WrittenMarks.{Mark, marks_of, lead_of}
 use Rattle.cedar_lines.specs.Rules.{Rule, never, inner, put, token, then, either, star, tail, deeper, lifted, fork, peek}
 use Rattle.cedar_lines.specs.Languages.{Lang, ◌⋄◌, ◌∪◌, Many, no_more, one_more, Put, Token, Deeper, Lifted, looks, means}
 use Rattle.cedar_lines.specs.Writing.{nullable}

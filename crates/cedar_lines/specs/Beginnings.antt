@@ -2,7 +2,7 @@
 -- are no comments here, and the indentation is 0.
 use Rattle.std.specs.Prelude.{◌↔◌, ℕ, pos, Bool, IsTrue, List, [], ◌∷◌, ◌++◌, map}
 use Rattle.cedar_written.specs.Texts.{without_comments}
-use Rattle.cedar_lines.specs.Marks.{Mark}
+use Rattle.cedar_print.specs.WrittenMarks.{Mark}
 use Rattle.cedar_lines.specs.Languages.{Policy}
 
 -- tokens with these texts are a policy, by the rules

@@ -5,7 +5,7 @@ use Rattle.cedar_tokens.specs.Kinds.{is}
 use Rattle.cedar_tokens.specs.Listing.{Decorated}
 use Rattle.cedar_grammar.specs.Laws.{kind_of_decorated}
 use Rattle.cedar_laws.specs.Table.{bare_token}
-use Rattle.cedar_lines.specs.Marks.{Mark, lead_of, marks_of}
+use Rattle.cedar_print.specs.WrittenMarks.{Mark, lead_of, marks_of}
 use Rattle.cedar_lines.specs.Rules.{Rule, never, inner, put, token, then, either, star, tail, deeper, lifted, fork, peek}
 use Rattle.cedar_lines.specs.Lines as lines
 

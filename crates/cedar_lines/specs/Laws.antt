@@ -6,7 +6,7 @@ use Rattle.cedar_layout.specs.Layout.{Doc}
 use Rattle.cedar_grammar.specs.Laws.{AreTokens}
 use Rattle.cedar_written.specs.Languages.{Lang as DocLang}
 use Rattle.cedar_written.specs.Written as written
-use Rattle.cedar_lines.specs.Marks.{Mark, AreMarks}
+use Rattle.cedar_print.specs.WrittenMarks.{Mark, AreMarks}
 use Rattle.cedar_lines.specs.Languages.{Lang, Expr, Policy, PolicySet}
 use Rattle.cedar_lines.specs.Writing.{going, refused, policy_to}
 use Rattle.cedar_lines.specs.Beginnings.{BeginsPolicy, LeavesPolicy}
@@ -52,6 +52,16 @@ ReadPoliciesAreWritten = (i : ℤ) (n : ℕ) (ts us : List Decorated) (ms ns : L
 abbrev pub WrittenPoliciesAreRead : Type 0
 WrittenPoliciesAreRead = (i : ℤ) (n : ℕ) (xs us : List Decorated) (d : Doc) (ms : List Mark) → written.Policy i n xs d
     → (es : List Mark) × AreMarks es d × ((r : ℕ) → policy_to i n (going (xs ++ us) ms (length es + r)) ≡ going us (ms ++ es) r)
+
+-- However much room there is, tokens that begin with a policy of the written grammar aren't refused,
+abbrev pub WrittenPoliciesAreNotRefused : Type 0
+WrittenPoliciesAreNotRefused = (i : ℤ) (n : ℕ) (xs us vs : List Decorated) (d : Doc) (ms : List Mark) (r : ℕ) (deep : Bool)
+    → written.Policy i n xs d → policy_to i n (going (xs ++ us) ms r) ≡ refused deep vs → ⊥
+
+-- and what is left after reading is what follows the policy.
+abbrev pub ReadingEndsAfterPolicies : Type 0
+ReadingEndsAfterPolicies = (i : ℤ) (n : ℕ) (xs us vs : List Decorated) (d : Doc) (ms ns : List Mark) (r q : ℕ)
+    → written.Policy i n xs d → policy_to i n (going (xs ++ us) ms r) ≡ going vs ns q → map (λ t. t.text) vs ≡ map (λ t. t.text) us
 
 -- So a policy has at most one document, with trailing commas or without.
 abbrev pub PoliciesHaveOneDocument : Type 0

@@ -1,4 +1,3 @@
-pub mod Marks
 pub mod Rules
 pub mod Lines
 pub mod Languages

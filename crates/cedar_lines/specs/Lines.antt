@@ -5,7 +5,7 @@ use Rattle.std.specs.Prelude.{ℤ, pos, Bool, ◌||◌, ◌&&◌, not, List, [],
 use Rattle.cedar_tokens.specs.declared.kind.Kind.{Kind}
 use Rattle.cedar_tokens.specs.declared.kind.Kind.TheVariants as K
 use Rattle.cedar_tokens.specs.Kinds.{is, is_any_word, is_ident, is_variable, is_boolean, is_comparison, is_effect, is_cond_word}
-use Rattle.cedar_lines.specs.Marks as M
+use Rattle.cedar_print.specs.WrittenMarks as M
 use Rattle.cedar_lines.specs.Rules.{Rule, never, inner, put, token, star, tail, deeper, lifted, fork, peek, ◌▸◌, ◌∥◌, nothing, space, line, line_or_nil, hard, begin, end_group, end_nothing, end_nest, group, nest, late, tok_then, tok, one_of, maybe, signs}
 
 -- ---- tokens, and what has no indentation

@@ -2,8 +2,8 @@
 use Rattle.std.specs.Prelude.{ℤ, Bool, List, [], ◌∷◌}
 use Rattle.cedar_tokens.specs.declared.kind.Kind.{Kind}
 use Rattle.cedar_tokens.specs.Kinds.{is}
-use Rattle.cedar_lines.specs.Marks.{Mark}
-use Rattle.cedar_lines.specs.Marks as M
+use Rattle.cedar_print.specs.WrittenMarks.{Mark}
+use Rattle.cedar_print.specs.WrittenMarks as M
 
 pub data Rule : Type 0 where
   -- nothing is read: not even that; what may be inside a bracket or an if

@@ -1,5 +1,5 @@
 //! Laws of the rules and their marks. They only state facts about definitions, so their bodies are empty.
-ghost use Rattle.cedar_lines.specs.Laws.{ExpressionsAgree, MarksAreOfOne, PoliciesAgree, PoliciesHaveOneDocument, ReadPoliciesAreWritten, RefusedAtTheFurthest, SetsAreOfDocuments, SetsAreWritten, WrittenPoliciesAreRead};
+ghost use Rattle.cedar_lines.specs.Laws.{ExpressionsAgree, MarksAreOfOne, PoliciesAgree, PoliciesHaveOneDocument, ReadPoliciesAreWritten, RefusedAtTheFurthest, SetsAreOfDocuments, SetsAreWritten, ReadingEndsAfterPolicies, WrittenPoliciesAreNotRefused, WrittenPoliciesAreRead};
 
 /// Marks are those of one document.
 pub fn marks_are_of_one_document()
@@ -20,6 +20,8 @@ pub fn lines_are_written()
 pub fn policies_are_read()
     ensures there { ReadPoliciesAreWritten }
     ensures back { WrittenPoliciesAreRead }
+    ensures accepted { WrittenPoliciesAreNotRefused }
+    ensures ends { ReadingEndsAfterPolicies }
     ensures one { PoliciesHaveOneDocument }
     ensures refused { RefusedAtTheFurthest }
 {}

@@ -1,9 +1,13 @@
 -- What comparing an output says about its text.
-use Rattle.std.proofs.Common.{◌≡◌, ℕ, ℤ, List, Bool, ap, subst}
+use Rattle.std.proofs.Common.{◌≡◌, ℕ, ℤ, List, Bool, ap, map, subst}
 use Rattle.std.specs.Prelude.{IsTrue, ◌↔◌}
 use Rattle.std.specs.Str.{IsUtf8}
 use Rattle.cedar_tokens.specs.Listing.{ListingIsUnique, by_value}
+use Rattle.cedar_tokens.specs.Places.{AreInOrder}
+use Rattle.cedar_tokens.specs.declared.token.WrappedToken.{WrappedToken}
+use Rattle.cedar_tokens.proofs.Collecting.{spans_in_order}
 use Rattle.cedar_laws.specs.Canonical.{plain_listing}
+use Rattle.cedar_cst.specs.PolicyReaders.{AreTokensOf}
 use Rattle.cedar_written.specs.Canonical.{OutputsTellLists}
 use Rattle.cedar_written.specs.Output.{IsOutputOf}
 
@@ -17,3 +21,8 @@ module _ (tell : OutputsTellLists) (unique : ListingIsUnique) (w : ℕ) (i : ℤ
       → (IsTrue t ↔ (y ≡ x)) → IsTrue t ↔ IsOutputOf w i x x
   formatted_tells x y t u a k =
       (λ h. subst (λ z. IsOutputOf w i x z) (k.0 h) a, λ b. k.1 (one_output x y x u a b))
+
+-- the tokens of a text stand in order
+pub in_order : (text : List ℕ) (tokens : List WrappedToken) → AreTokensOf text tokens
+    → AreInOrder tokens
+in_order text tokens t = spans_in_order text (map (λ w. w.span) tokens) t.spans

@@ -29,7 +29,7 @@ use Rattle.cedar_tree.specs.Erased.{erase, Erased, without_spans}
 use Rattle.cedar_tree.specs.NodeTrees.{IsTreeOf, is_node, span_of, spanned}
 use Rattle.cedar_tree.specs.Laws.{NodesHaveThePlainTexts}
 use Rattle.cedar_laws.specs.Canonical.{OutputHasTheList, OutputIsAccepted}
-use Rattle.cedar_written.specs.Laws.{OutputsAgree}
+use Rattle.cedar_written.specs.Laws.{OutputsAreTheTables}
 use Rattle.cedar_laws.proofs.Grammatical.{value_kind}
 use Rattle.cedar_policy_formatter.specs.Texts.{HasNodes, KeptPoliciesHaveTheSameTokens, plain_values}
 use Rattle.cedar_policy_formatter.specs.OutputPolicies.{OutputsKeepThePolicies, OutputsKeepTheTrees}
@@ -150,10 +150,10 @@ plain_nodes nodes tree e = e ∙ ap (spanned text_of place_of) (plain_same text_
 
 -- ---- the law
 
-pub outputs_keep_the_policies : OutputsAgree → NodesHaveThePlainTexts → OutputIsAccepted
+pub outputs_keep_the_policies : OutputsAreTheTables → NodesHaveThePlainTexts → OutputIsAccepted
     → OutputHasTheList → OutputsKeepThePolicies
-outputs_keep_the_policies agree texts accepted has_list w i x y p u written t =
-    let o = (agree w i x y).1 written in
+outputs_keep_the_policies tables texts accepted has_list w i x y p u written t =
+    let o = tables w i x y written in
     let a = accepted w i x y u o in
     let units = (a.1).units in
     let f = placed_tree units a.0 (kinds_of a.1) in
@@ -218,10 +218,10 @@ values_are text f l x is_list =
     ∙ sym (values_tree x.units x.tree (tree_by_kinds x.units x.tree x.grammar)).leaves
 
 -- an output has the policies of its text
-pub outputs_keep_the_trees : OutputsAgree → OutputIsAccepted → OutputHasTheList
+pub outputs_keep_the_trees : OutputsAreTheTables → OutputIsAccepted → OutputHasTheList
     → OutputsKeepTheTrees
-outputs_keep_the_trees agree accepted has_list w i x y u written =
-    let o = (agree w i x y).1 written in
+outputs_keep_the_trees tables accepted has_list w i x y u written =
+    let o = tables w i x y written in
     let f = nodes_of_accepted x o.accepted in
     let g = nodes_of_accepted y (accepted w i x y u o) in
     let ly : IsListing y (listing g.1.units) =

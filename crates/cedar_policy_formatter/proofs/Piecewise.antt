@@ -8,13 +8,14 @@ use Rattle.cedar_tokens.specs.Split.{SplitsInto}
 use Rattle.cedar_grammar.specs.Texts.{Accepted, only_tokens}
 use Rattle.cedar_laws.specs.Canonical.{IsOutputOf}
 use Rattle.cedar_laws.specs.Output.{closing_text, paragraphs}
-use Rattle.cedar_pieces.specs.Pieces.{IsPiece}
+use Rattle.cedar_pieces.specs.Pieces.{IsPiece, HasNoPiece}
 use Rattle.cedar_pieces.proofs.Scans.{piece_more}
 use Rattle.cedar_pieces.proofs.Prefixes.{through, piece_inside, piece_before, piece_within, piece_alone, through_after}
 use Rattle.cedar_pieces.proofs.Accepted.{accepted_join}
 use Rattle.cedar_pieces.proofs.Refusals.{rest_is_empty}
-use Rattle.cedar_cst.specs.PolicyReaders.{Position, HasRead, GoesOn, HasEnded}
-use Rattle.cedar_cst.proofs.Readers.{read_nothing}
+use Rattle.cedar_parser_steps.specs.Tokens.{HasTokens}
+use Rattle.cedar_cst.specs.PolicyReaders.{EndsPiece}
+use Rattle.cedar_cst.proofs.Places.{accepted_parts, place_accepted}
 use Rattle.cedar_cst.proofs.PartLaws.{append_not_nil}
 use Rattle.cedar_policy_formatter.proofs.PieceOutputs.{outputs_join, outputs_close, closing_output}
 
@@ -28,6 +29,9 @@ LaidOut w i text at out =
 output_is_some : (w : ℕ) (i : ℤ) (x y : List ℕ) → IsOutputOf w i x y → y ≡ [] → ⊥
 output_is_some w i x y o e = append_not_nil (paragraphs o.output.texts) line_feed
     (closing_text o.list.closing) (sym o.output.written ∙ e)
+
+tokens_of : (text : List ℕ) → Accepted text → HasTokens text
+tokens_of text (f, a) = record { units = a.units; split = a.split; fitting = a.fitting }
 
 -- whether a list is empty
 abbrev pub TellsEmpty : Bool → List ℕ → Type 0
@@ -44,18 +48,8 @@ some_more w i text out more layout o e n =
     no_end [] ys h = h
     no_end (x ∷ xs) ys h = absurd cc
 
--- the bytes of a reader's piece are a piece
-pub piece_of : (old new : Position) (piece : List ℕ) → GoesOn old new piece
-    → IsPiece piece (length piece)
-piece_of old new piece g = subst (λ x. IsPiece x (length piece)) (sym g.bytes)
-    (piece_alone (drop old.at old.text) (length piece) g.first.piece)
-
 module _ (w : ℕ) (i : ℤ) (text : List ℕ) where
-  pub laid_begun : (reader : Position) (out : List ℕ) → HasRead reader text [] → out ≡ []
-      → LaidOut w i text reader.at out
-  laid_begun reader out r e = inl (read_nothing reader text r, e)
-
-  laid_next : (at n : ℕ) (out z new : List ℕ) (empty : Bool) → TellsEmpty empty out
+  pub laid_next : (at n : ℕ) (out z new : List ℕ) (empty : Bool) → TellsEmpty empty out
       → LaidOut w i text at out → IsPiece (drop at text) n
       → IsOutputOf w i (take n (drop at text)) z
       → new ≡ (out ++ (if not empty then line_feed ∷ [] else [])) ++ z
@@ -91,19 +85,11 @@ module _ (w : ℕ) (i : ℤ) (text : List ℕ) where
             (outputs_join w i u at out z (accepted_join u at s a.accepted b.accepted) s whole a b),
       )
 
-  -- one more piece
-  pub laid_more : (old new : Position) (piece out layout more : List ℕ) (empty : Bool)
-      → old.text ≡ text → GoesOn old new piece → TellsEmpty empty out → LaidOut w i text old.at out
-      → IsOutputOf w i piece layout
-      → more ≡ (out ++ (if not empty then line_feed ∷ [] else [])) ++ layout
-      → LaidOut w i text new.at more
-  laid_more old new piece out layout more empty same g t l o h =
-      let n = length piece in
-      let bytes : piece ≡ take n (drop old.at text) =
-      g.bytes ∙ ap (λ x. take n (drop old.at x)) same in
-      subst (λ k. LaidOut w i text k more) (sym g.further)
-      (laid_next old.at n out layout more empty t l (subst (λ x. IsPiece (drop old.at x) n) same
-      g.first.piece) (subst (λ x. IsOutputOf w i x layout) bytes o) h)
+  -- a text is accepted if its rest is
+  pub whole_accepted : (at : ℕ) (out : List ℕ) → LaidOut w i text at out → Accepted (drop at text)
+      → Accepted text
+  whole_accepted at out (inl (e, k)) a = subst (λ z. Accepted (drop z text)) e a
+  whole_accepted at out (inr (p, o)) a = accepted_join text at p o.accepted a
 
   laid_last : (at : ℕ) (out new : List ℕ) (empty : Bool) (us : List (List ℕ)) → TellsEmpty empty out
       → LaidOut w i text at out → Accepted text → SplitsInto (drop at text) us → only_tokens us ≡ []
@@ -125,14 +111,31 @@ module _ (w : ℕ) (i : ℤ) (text : List ℕ) where
       subst (λ x. IsOutputOf w i text x) (sym more) (outputs_close w i text at us out a p s n o)
 
   -- after the last piece come the closing comments
-  pub laid_ends : (reader : Position) (rest out new : List ℕ) (empty : Bool) → reader.text ≡ text
-      → HasEnded reader → rest ≡ drop reader.at reader.text → TellsEmpty empty out
-      → LaidOut w i text reader.at out
+  pub laid_ends : (at : ℕ) (rest out new : List ℕ) (empty : Bool) → rest ≡ drop at text
+      → (HasTokens rest → HasNoPiece rest) → Accepted rest → TellsEmpty empty out
+      → LaidOut w i text at out
       → new ≡ (out ++ (if empty then line_feed ∷ [] else [])) ++ closing_text (comments rest)
       → IsOutputOf w i text new
-  laid_ends reader rest out new empty same x r t l h =
-      let left = rest_is_empty (drop reader.at reader.text) x.none x.rest in
-      let bytes : rest ≡ drop reader.at text = r ∙ ap (λ z. drop reader.at z) same in
-      laid_last reader.at out new empty left.0 t l (subst Accepted same x.accepted)
-      (subst (λ z. SplitsInto (drop reader.at z) left.0) same left.1) left.2 (h ∙ ap
-      (λ z. (out ++ (if empty then line_feed ∷ [] else [])) ++ closing_text (comments z)) bytes)
+  laid_ends at rest out new empty r n a t l h =
+      let left = rest_is_empty rest (n (tokens_of rest a)) a in
+      laid_last at out new empty left.0 t l (whole_accepted at out l (subst Accepted r a))
+      (subst (λ z. SplitsInto z left.0) r left.1) left.2 (h ∙ ap
+      (λ z. (out ++ (if empty then line_feed ∷ [] else [])) ++ closing_text (comments z)) r)
+
+  -- ---- refusals
+
+  ends_of : (at : ℕ) (out : List ℕ) → LaidOut w i text at out → EndsPiece text at
+  ends_of at out (inl (e, k)) = inl e
+  ends_of at out (inr (p, o)) = inr p
+
+  -- a text is not accepted where a piece of it is not
+  pub piece_refused : (at n : ℕ) (rest piece out : List ℕ) → rest ≡ drop at text → piece ≡ take n rest
+      → IsPiece rest n → LaidOut w i text at out → ¬ (Accepted piece) → ¬ (Accepted text)
+  piece_refused at n rest piece out r b p l h = λ a.
+      h (subst Accepted (sym b) (accepted_parts rest n p
+      (subst Accepted (sym r) (place_accepted text at (ends_of at out l) a).1)).0)
+
+  pub rest_refused : (at : ℕ) (rest out : List ℕ) → rest ≡ drop at text → LaidOut w i text at out
+      → ¬ (Accepted rest) → ¬ (Accepted text)
+  rest_refused at rest out r l h = λ a.
+      h (subst Accepted (sym r) (place_accepted text at (ends_of at out l) a).1)

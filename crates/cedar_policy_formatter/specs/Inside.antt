@@ -1,4 +1,3 @@
 -- Definitions used only by contracts below the formatter's own calls.
-pub mod Written
 pub mod Sinks
 pub mod Alike

@@ -1,35 +1,22 @@
 //! Formatting of whole texts.
-ghost use Rattle.std.specs.Prelude.{◌≡◌, ◌↔◌, IsTrue, ◌++◌, ℕ, List, [], ◌∷◌, length, map, IfOk, OnOk, MatchResult, string_bytes, if◌then◌else◌};
+ghost use Rattle.std.specs.Prelude.{◌≡◌, ◌↔◌, IsTrue, ◌++◌, ℕ, List, [], ◌∷◌, length, IfOk, OnOk, MatchBool, MatchResult, string_bytes, if◌then◌else◌};
 ghost use Rattle.cedar_tokens.specs.Bytes.{line_feed};
 ghost use Rattle.cedar_tokens.specs.Tokens.{comments_left};
-ghost use Rattle.cedar_tree.specs.Erased as erased;
+ghost use Rattle.cedar_tree.specs.declared.error.FormatError.TheVariants.{OutOfMemory};
 ghost use Rattle.cedar_tree.specs.Refusals.{OutOfMemoryOr, Refuses as RefusesByTrees};
 ghost use Rattle.cedar_grammar.specs.Texts.{Accepted as AcceptedByTree};
-ghost use Rattle.cedar_grammar.specs.TypedTrees.{Clause, part_yield};
-ghost use Rattle.cedar_grammar.specs.TypedTrees as kind;
-ghost use Rattle.cedar_pieces.specs.Pieces.{IsPiece};
-ghost use Rattle.cedar_cst.specs.PolicyReaders.{IsPolicyOf, AreTokensOf};
-ghost use Rattle.cedar_layout.specs.Layout.{Doc};
-ghost use Rattle.cedar_layout.specs.Lookups.{AreInOrder, Shown, shown};
-ghost use Rattle.cedar_sheet.specs.Marks.{flat};
+ghost use Rattle.cedar_parser_steps.specs.Lexemes.{AreLexemes};
+ghost use Rattle.cedar_pieces.specs.Pieces.{IsFirstPiece};
 ghost use Rattle.cedar_laws.specs.Canonical.{IsOutputOf as IsOutputByTable};
 ghost use Rattle.cedar_laws.specs.Output.{closing_text};
 ghost use Rattle.cedar_written.specs.Lists.{HaveEqualLists};
 ghost use Rattle.cedar_written.specs.Output.{IsOutputOf};
 ghost use Rattle.cedar_written.specs.Refusals.{Refuses};
 ghost use Rattle.cedar_written.specs.Texts.{Accepted};
-ghost use Rattle.cedar_document_rows.specs.Kept.{KeepsTokens};
-ghost use Rattle.cedar_document_rows.specs.NodeDocuments.{IsAt};
-ghost use Rattle.cedar_documents.specs.PartDocuments.{IsPartOf};
-ghost use Rattle.cedar_policy_formatter.specs.Inside.Written.{IsCleanLayout, IsPolicyText};
-ghost use Rattle.cedar_policy_formatter.specs.Refused.{IsMemory};
 ghost use Rattle.cedar_policy_formatter.specs.Texts.{IsTextOf, FailsCheck};
 
 use cedar_cst::cst::laws::{accepted_is_not_refused, tree_is_of_accepted};
-use cedar_cst::cst::{
-    FormatError, Node, Policies, Policy, PolicyReader, parse_policies, same_tree,
-};
-use cedar_document_rows::written::NoDocument;
+use cedar_cst::cst::{FormatError, Policies, parse_policies, same_tree};
 use cedar_documents::config::Config;
 use cedar_documents::laws as laws_by_trees;
 pub use cedar_documents::laws::{
@@ -37,13 +24,12 @@ pub use cedar_documents::laws::{
     every_layout_reads_back, every_list_is_good, lists_join, outputs_are_determined,
     outputs_have_the_trees, own_tokens_are_met, policies_stand_alone,
 };
-use cedar_documents::policies::write_policy;
-use cedar_layout::utils::append_without_empty_lines;
-use cedar_pieces::check::has_tokens;
-use cedar_sheet::layout;
-use cedar_sheet::sheet::Sheet;
-use cedar_tokens::lexer::{drop_trailing_commas, listing_is_unique};
-use cedar_tokens::token::{Comments, WrappedToken, get_comment};
+use cedar_parser_steps::lexeme::Lexeme;
+use cedar_pieces::pieces::read_piece;
+use cedar_print::mark::Indent;
+use cedar_tokens::lexer::listing_is_unique;
+use cedar_tokens::token::{Comments, get_comment};
+use cedar_writer::printer::{NotPrinted, PolicyPrinter};
 pub use cedar_written::laws::{
     last_width_decides, outputs_are_canonical, outputs_keep_lists, texts_are_judged,
     written_outputs_agree, written_texts_agree,
@@ -91,17 +77,87 @@ fn write_policies<S: Sink>(
     ensures answer { MatchResult result (λ _. AcceptedByTree ps.now) (OutOfMemoryOr (RefusesByTrees ps.now)) }
     ensures output { OnOk result ((out : List ℕ) × IsOutputByTable config.now.line_width config.now.indent_width ps.now out × S.takes sink.old out sink.new) }
 {
-    let mut reader = PolicyReader::new(ps);
-    let mut buffers = Buffers::new(alloc);
+    let mut lexemes = Vec::new(alloc);
+    let mut printer = PolicyPrinter::new(alloc);
+    let mut layout = String::new(alloc);
+    let mut rest = ps;
     let mut is_empty = true;
-    'pieces: while let Some(piece) = reader.next_piece(alloc, &mut buffers.tokens)? {
-        lay_out(alloc, &mut buffers, piece.text, piece.policy, config)?;
+    'pieces: while let Some(len) = read_piece(rest, &mut lexemes)? {
+        if !lay_out(&mut printer, &rest[..len], &lexemes, config, &mut layout)? {
+            return Err(refusal(alloc, ps));
+        }
         put_feed(!is_empty, sink)?;
-        sink.put(buffers.clean.as_str())?;
+        sink.put(layout.as_str())?;
+        rest = &rest[len..];
         is_empty = false;
     }
+    if !is_accepted(alloc, rest)? {
+        return Err(refusal(alloc, ps));
+    }
     put_feed(is_empty, sink)?;
-    Ok(put_closing(get_comment(reader.rest()), sink)?)
+    Ok(put_closing(get_comment(rest), sink)?)
+}
+
+// Replaces `layout` by the output of a piece, which has these lexemes, if it is accepted; and whether it is.
+fn lay_out<'src>(
+    printer: &mut PolicyPrinter<'src>,
+    piece: &'src str,
+    lexemes: &[Lexeme<'src>],
+    config: &Config,
+    layout: &mut String,
+) -> Result<bool, AllocError>
+    requires piece { IsFirstPiece piece.now (length piece.now) }
+    requires lexemes { AreLexemes piece.now lexemes.now }
+    ensures { IfOk result (λ r. MatchBool r (IsOutputByTable config.now.line_width config.now.indent_width piece.now (string_bytes layout.new)) (¬ (AcceptedByTree piece.now))) }
+{
+    written_texts_agree();
+    written_outputs_agree();
+    let indent = Indent {
+        columns: config.indent_width,
+    };
+    match printer.print(piece, lexemes, config.line_width, indent, layout) {
+        Ok(()) => Ok(true),
+        Err(NotPrinted::NotAccepted) => Ok(false),
+        Err(NotPrinted::Unsound) => Ok(false),
+        Err(NotPrinted::OutOfMemory) => Err(AllocError),
+    }
+}
+
+// Whether a text is accepted.
+fn is_accepted(alloc: Global, text: &str) -> Result<bool, AllocError>
+    ensures { IfOk result (λ r. MatchBool r (AcceptedByTree text.now) (¬ (AcceptedByTree text.now))) }
+{
+    tree_is_of_accepted();
+    accepted_is_not_refused();
+    match parse_policies(alloc, text) {
+        Ok(_) => Ok(true),
+        Err(e) => {
+            if is_memory(e) {
+                Err(AllocError)
+            } else {
+                Ok(false)
+            }
+        }
+    }
+}
+
+// Whether memory was refused.
+fn is_memory(e: FormatError) -> bool
+    ensures { MatchBool result (e ≡ OutOfMemory) (¬ (e ≡ OutOfMemory)) }
+{
+    matches!(e, FormatError::OutOfMemory)
+}
+
+// Why a text that isn't accepted is refused.
+fn refusal(alloc: Global, text: &str) -> FormatError
+    requires { ¬ (AcceptedByTree text.now) }
+    ensures { OutOfMemoryOr (RefusesByTrees text.now) result }
+{
+    tree_is_of_accepted();
+    match parse_policies(alloc, text) {
+        Ok(_) => FormatError::Unsound,
+        Err(e) => e,
+    }
 }
 
 /// Checks that `ps` is a text of these policies: it is accepted, and its tree is this one except for spans. `Unsound` is
@@ -141,93 +197,6 @@ pub fn is_formatted(alloc: Global, ps: &str, config: &Config) -> Result<bool, Fo
     let mut rest = Rest::new(ps);
     write_policies(alloc, ps, config, &mut rest)?;
     Ok(rest.is_used_up())
-}
-
-// What a policy is laid out from and in. The memory is reused for the next policy.
-#[derive(Drop)]
-struct Buffers<'src> {
-    tokens: Vec<WrappedToken<'src>>,
-    sheet: Sheet<'src>,
-    // The layout of the sheet.
-    layout: String,
-    // The layout without empty lines.
-    clean: String,
-}
-
-impl<'src> Buffers<'src> {
-    // Empty, with no memory allocated yet.
-    fn new(alloc: Global) -> Buffers<'src> {
-        Buffers {
-            tokens: Vec::new(alloc),
-            sheet: Sheet::new(alloc),
-            layout: String::new(alloc),
-            clean: String::new(alloc),
-        }
-    }
-}
-
-// Leaves the layout of the policy whose tokens are in the first buffer, with a line feed, in the clean buffer, and checks that
-// it has these tokens. The other buffers are overwritten.
-fn lay_out<'src>(
-    alloc: Global,
-    buffers: &mut Buffers<'src>,
-    text: &'src str,
-    policy: Node<Policy<'src>>,
-    config: &Config,
-) -> Result<(), FormatError>
-    requires piece { IsPiece text.now (length text.now) }
-    requires policy { IsPolicyOf text.now policy }
-    requires tokens { AreTokensOf text.now buffers.old.tokens.items }
-    ensures { MatchResult result (λ _. IsOutputByTable config.now.line_width config.now.indent_width text.now (string_bytes buffers.new.clean)) IsMemory }
-{
-    tree_is_of_accepted();
-    laws_by_trees::outputs_are_canonical();
-    drop_trailing_commas(alloc, &mut buffers.tokens)?;
-    policy_text(buffers, policy, config)?;
-    buffers.clean.push('\n')?;
-    if has_tokens(buffers.clean.as_str(), &buffers.tokens) {
-        Ok(())
-    } else {
-        Err(FormatError::Unsound)
-    }
-}
-
-// Leaves the layout of a policy over its own tokens, without empty lines, in the clean buffer. The policy is dropped first.
-fn policy_text<'src>(
-    buffers: &mut Buffers<'src>,
-    policy: Node<Policy<'src>>,
-    config: &Config,
-) -> Result<(), FormatError>
-    requires { AreInOrder buffers.old.tokens.items }
-    ensures kept { KeepsTokens buffers.old.tokens.items buffers.new.tokens.items }
-    ensures text { (p : Clause Shown kind.policy) → IsAt policy.entry.span (part_yield p) → IsPartOf (erased.policy_parts policy.entry.inner) p → map shown buffers.old.tokens.items ≡ part_yield p
-        → MatchResult result (λ _. IsPolicyText config.now.line_width config.now.indent_width p (string_bytes buffers.new.clean)) IsMemory }
-{
-    buffers.sheet.clear();
-    let wrote = write_policy(
-        &mut buffers.sheet,
-        &policy.inner,
-        policy.span,
-        config.indent_width,
-        buffers.tokens.as_mut_slice(),
-    );
-    drop(policy);
-    match wrote {
-        Ok(()) => clean_layout(buffers, config.line_width),
-        Err(NoDocument::NoToken) => Err(FormatError::NoDocument),
-        Err(NoDocument::OutOfMemory) => Err(FormatError::OutOfMemory),
-    }
-}
-
-// Leaves the layout of the sheet at a width, without empty lines, in the clean buffer.
-fn clean_layout(buffers: &mut Buffers<'_>, width: usize) -> Result<(), FormatError>
-    ensures kept { buffers.new.tokens ≡ buffers.old.tokens }
-    ensures text { (d : Doc) → buffers.old.sheet ≡ flat d → MatchResult result (λ _. IsCleanLayout width d (string_bytes buffers.new.clean)) IsMemory }
-{
-    buffers.layout.clear();
-    layout::lay_out(&mut buffers.sheet, width, &mut buffers.layout)?;
-    buffers.clean.clear();
-    Ok(append_without_empty_lines(buffers.layout.as_str(), &mut buffers.clean)?)
 }
 
 // A line feed, if one is wanted.

@@ -1,24 +1,68 @@
 -- What is written is of the grammar.
-use Rattle.std.proofs.Common.{ℕ, ℤ, List, [], sym, subst, Result, Ok, Err}
-use Rattle.std.specs.Prelude.{IfOk, MatchResult}
+use Rattle.std.proofs.Common.{◌≡◌, ℕ, ℤ, Bool, true, false, List, [], ◌∷◌, length, map, refl, sym, ap, ◌∙◌, subst, append-nil, Result, Ok, Err}
+use Rattle.std.specs.Prelude.{MatchResult}
 use Rattle.cedar_tokens.specs.Listing.{Decorated}
 use Rattle.cedar_grammar.specs.Laws.{AreTokens}
-use Rattle.cedar_lines.specs.Marks.{AreMarks}
-use Rattle.cedar_lines.specs.Writing.{going, policy_to}
+use Rattle.cedar_print.specs.WrittenMarks.{Mark, AreMarks}
+use Rattle.cedar_layout.specs.Layout.{Doc}
+use Rattle.cedar_written.specs.Written as written
+use Rattle.cedar_lines.specs.Writing.{State, refused, going, policy_to}
+use Rattle.cedar_lines.proofs.AnyRoom.{written_policies_are_not_refused, reading_ends_after_policies}
 use Rattle.cedar_lines.proofs.ReadPolicies.{read_policies_are_written}
-use Rattle.cedar_writer.specs.States.{marks_of}
-use Rattle.cedar_writer.specs.declared.policy.Written.{Written}
+use Rattle.cedar_writer.specs.declared.writer.Outcome.{Outcome}
+use Rattle.cedar_writer.specs.declared.writer.Outcome.TheVariants as Ended
 use Rattle.cedar_writer.specs.declared.policy.Refusal.{Refusal}
-use Rattle.cedar_writer.specs.Outcomes.{IsWritten, IsRefused, IsOfTheGrammar}
+use Rattle.cedar_writer.specs.declared.policy.Refusal.TheVariants.{Grammar, TooDeep, OutOfMemory}
+use Rattle.cedar_writer.specs.Outcomes.{IsWritten, HasEnded, IsRead, IsRefused, IsRefusedBefore, ReadsAll, IsOfTheGrammar, refusal_of}
+use Rattle.cedar_writer.specs.States.{tokens_left}
+use Rattle.cedar_writer.proofs.Views.{none_led}
 
-pub of_the_grammar : (i : ℤ) (n : ℕ) (ts : List Decorated) (room : ℕ) (w : Written) → AreTokens (λ t. t.text) ts
-    → IsWritten (policy_to i n (going ts [] room)) w → IsOfTheGrammar i n ts w
-of_the_grammar i n ts room w k x =
-    let y = read_policies_are_written i n ts x.0 [] (marks_of w.marks.items) room x.1 k x.2 in
+pub of_the_grammar : (i : ℤ) (n : ℕ) (ts : List Decorated) (ms : List Mark) (left : ℕ)
+    → AreTokens (λ t. t.text) ts → IsRead i n ts ms left → IsOfTheGrammar i n ts ms left
+of_the_grammar i n ts ms left k (room, x) =
+    let y = read_policies_are_written i n ts x.0 [] ms room x.1 k x.2 in
     (y.0, x.0, y.2, y.3, x.3, subst (λ z. AreMarks z y.2) (sym y.4) y.5, y.6)
 
-pub result_of_the_grammar : (i : ℤ) (n : ℕ) (ts : List Decorated) (room : ℕ) (r : Result Written Refusal) → AreTokens (λ t. t.text) ts
-    → MatchResult r (IsWritten (policy_to i n (going ts [] room))) (IsRefused (policy_to i n (going ts [] room)))
-    → IfOk r (IsOfTheGrammar i n ts)
-result_of_the_grammar i n ts room (Ok w) k x = of_the_grammar i n ts room w k x
-result_of_the_grammar i n ts room (Err e) k x = tt
+none_left : (us : List Decorated) → map (λ (t : Decorated). t.text) us ≡ [] → length us ≡ 0
+none_left [] e = refl
+none_left (u ∷ us) e = absurd cc
+
+module _ (i : ℤ) (n : ℕ) (ts : List Decorated) (d : Doc) (p : written.Policy i n ts d) where
+  not_refused : (room : ℕ) (deep : Bool) (left : ℕ)
+      → IsRefusedBefore (policy_to i n (going ts [] room)) deep left → ⊥
+  not_refused room deep left x = written_policies_are_not_refused i n ts [] x.0 d [] room deep p
+      (subst (λ z. policy_to i n (going z [] room) ≡ refused deep x.0) (sym (append-nil ts)) x.1)
+
+  -- a policy of the written grammar is read to its end
+  pub reads_all : (ms : List Mark) (r : Result ℕ Refusal)
+      → MatchResult r (IsRead i n ts ms) (IsRefused i n ts) → ReadsAll r
+  reads_all ms (Ok left) (room, x) = sym x.3 ∙ none_left x.0
+      (reading_ends_after_policies i n ts [] x.0 d [] ms room x.1 p
+      (subst (λ z. policy_to i n (going z [] room) ≡ going x.0 ms x.1) (sym (append-nil ts)) x.2))
+  reads_all ms (Err (Grammar left)) (room, x) = absurd (not_refused room false left x)
+  reads_all ms (Err (TooDeep left)) (room, x) = absurd (not_refused room true left x)
+  reads_all ms (Err OutOfMemory) x = refl
+
+-- ---- one try with some room
+
+pub read_as : (i : ℤ) (n : ℕ) (ts : List Decorated) (room : ℕ) (ms : List Mark) (o : Outcome)
+    (left : ℕ) {v s : State} → v ≡ going (tokens_left false ts) [] room → s ≡ policy_to i n v
+    → HasEnded s ms o → o ≡ Ended.Written left → IsRead i n ts ms left
+read_as i n ts room ms o left {v} {s} e p h w =
+    let same : s ≡ policy_to i n (going ts [] room) =
+    p ∙ ap (policy_to i n) (e ∙ ap (λ z. going z [] room) (none_led ts)) in
+    (room, subst (λ z. IsWritten z ms left) same (subst (HasEnded s ms) w h))
+
+pub refused_as : (i : ℤ) (n : ℕ) (ts : List Decorated) (room : ℕ) (ms : List Mark) (o : Outcome)
+    (deep : Bool) (left : ℕ) {v s : State} → v ≡ going (tokens_left false ts) [] room
+    → s ≡ policy_to i n v → HasEnded s ms o → o ≡ Ended.Refused deep left
+    → IsRefused i n ts (refusal_of deep left)
+refused_as i n ts room ms o deep left {v} {s} e p h w =
+    let same : s ≡ policy_to i n (going ts [] room) =
+    p ∙ ap (policy_to i n) (e ∙ ap (λ z. going z [] room) (none_led ts)) in
+    go deep (subst (λ z. IsRefusedBefore z deep left) same (subst (HasEnded s ms) w h))
+  where
+    go : (deep : Bool) → IsRefusedBefore (policy_to i n (going ts [] room)) deep left
+        → IsRefused i n ts (refusal_of deep left)
+    go true x = (room, x)
+    go false x = (room, x)

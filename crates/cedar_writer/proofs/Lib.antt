@@ -4,3 +4,5 @@ pub mod Views
 pub mod Lines
 pub mod Grammar
 pub mod Flat
+pub mod OnePolicy
+pub mod Printed

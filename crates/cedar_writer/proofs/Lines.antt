@@ -4,7 +4,7 @@ use Rattle.std.specs.Prelude.{◌||◌}
 use Rattle.cedar_tokens.specs.declared.kind.Kind.TheVariants as K
 use Rattle.cedar_tokens.specs.declared.kind.Kind.{Kind}
 use Rattle.cedar_tokens.specs.Kinds.{is}
-use Rattle.cedar_lines.specs.Marks as M
+use Rattle.cedar_print.specs.WrittenMarks as M
 use Rattle.cedar_lines.specs.Rules.{Rule, deeper, star, ◌▸◌, ◌∥◌, space, line, begin, end_group, end_nothing, group, tok, tok_then, one_of, maybe, nest, put, peek}
 use Rattle.cedar_lines.specs.Lines as lines
 use Rattle.cedar_lines.specs.Writing.{State, choose, begins, take, add_all, run, refuse, expr_to, policy_to}

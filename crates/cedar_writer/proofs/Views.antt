@@ -1,15 +1,15 @@
 -- The tokens that are left.
-use Rattle.std.proofs.Common.{◌≡◌, ℕ, suc, Bool, true, false, List, [], ◌∷◌, length, refl, sym, ap, ◌∙◌}
+use Rattle.std.proofs.Common.{◌≡◌, ℕ, suc, Bool, false, List, [], ◌∷◌, length, refl, sym, ap, ◌∙◌}
 use Rattle.std.specs.Prelude.{◌&&◌, Option, Some, None, is_some}
 use Rattle.cedar_tokens.specs.Listing.{Decorated}
 use Rattle.cedar_tokens.specs.declared.kind.Kind.{Kind}
 use Rattle.cedar_grammar.specs.Laws.{kind_of_decorated}
 use Rattle.cedar_lines.specs.Languages.{looks}
-use Rattle.cedar_lines.specs.Marks as M
-use Rattle.cedar_lines.specs.Writing.{State, second, looking, going}
+use Rattle.cedar_print.specs.WrittenMarks as M
+use Rattle.cedar_lines.specs.Writing.{State, second, looking, going, lost}
 use Rattle.cedar_writer.specs.declared.writer.Stop.{Stop}
 use Rattle.cedar_writer.specs.declared.writer.Stop.TheVariants.{Refused, OutOfRoom}
-use Rattle.cedar_writer.specs.Outcomes.{IsRefused, refusal_of}
+use Rattle.cedar_writer.specs.Outcomes.{IsRefusedBefore, HasEnded, outcome_of}
 use Rattle.cedar_writer.specs.States.{state_of, tokens_left}
 
 -- their kinds don't tell whether the leading lines are written
@@ -33,13 +33,19 @@ pub written_state : (led : Bool) (stop : Option Stop) (ts : List Decorated) (ms 
 written_state led None ts ms n r v e h = (tokens_left led ts, r, sym v, left_length led ts ∙ sym h)
 written_state led (Some x) ts ms n r v e h = absurd cc
 
-pub refused_state : (led : Bool) (stop : Option Stop) (ts : List Decorated) (ms : List M.Mark) (r : ℕ) (x : Stop) {s : State}
-    → state_of led stop ts ms r ≡ s → stop ≡ Some x → IsRefused s (refusal_of x (length ts))
-refused_state led stop ts ms r (Refused true) v e =
-    (tokens_left led ts, sym v ∙ ap (λ z. state_of led z ts ms r) e, left_length led ts)
-refused_state led stop ts ms r (Refused false) v e =
-    (tokens_left led ts, sym v ∙ ap (λ z. state_of led z ts ms r) e, left_length led ts)
-refused_state led stop ts ms r OutOfRoom v e = sym v ∙ ap (λ z. state_of led z ts ms r) e
+refused_state : (led : Bool) (stop : Option Stop) (ts : List Decorated) (ms : List M.Mark) (n r : ℕ) (deep : Bool) {s : State}
+    → state_of led stop ts ms r ≡ s → stop ≡ Some (Refused deep) → n ≡ length ts → IsRefusedBefore s deep n
+refused_state led stop ts ms n r deep v e h =
+    (tokens_left led ts, sym v ∙ ap (λ z. state_of led z ts ms r) e, left_length led ts ∙ sym h)
+
+lost_state : (led : Bool) (stop : Option Stop) (ts : List Decorated) (ms : List M.Mark) (r : ℕ) {s : State}
+    → state_of led stop ts ms r ≡ s → stop ≡ Some OutOfRoom → s ≡ lost
+lost_state led stop ts ms r v e = sym v ∙ ap (λ z. state_of led z ts ms r) e
+
+pub ended_state : (led : Bool) (stop : Option Stop) (ts : List Decorated) (ms : List M.Mark) (n r : ℕ) (x : Stop) {s : State}
+    → state_of led stop ts ms r ≡ s → stop ≡ Some x → n ≡ length ts → HasEnded s ms (outcome_of x n)
+ended_state led stop ts ms n r (Refused deep) v e h = refused_state led stop ts ms n r deep v e h
+ended_state led stop ts ms n r OutOfRoom v e h = lost_state led stop ts ms r v e
 
 pub second_left : (p : Kind → Bool) (led : Bool) (stop : Option Stop) (ms : List M.Mark) (r : ℕ) {x : Bool} {l rest after : List Decorated}
     {t u : Decorated} {s : State} → is_some stop ≡ false → l ≡ t ∷ rest → rest ≡ u ∷ after → state_of led stop l ms r ≡ s

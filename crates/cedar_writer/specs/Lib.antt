@@ -3,3 +3,4 @@ pub mod States
 pub mod Depths
 pub mod Parts
 pub mod Outcomes
+pub mod Printed

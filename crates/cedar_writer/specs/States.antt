@@ -1,28 +1,12 @@
 -- The state of reading that a writer is in.
-use Rattle.std.specs.Prelude.{ℕ, pos, Bool, false, List, [], ◌∷◌, map, Option, Some, None}
+use Rattle.std.specs.Prelude.{ℕ, Bool, false, List, [], ◌∷◌, Option, Some, None}
 use Rattle.cedar_tokens.specs.Listing.{Decorated}
-use Rattle.cedar_lines.specs.Marks as M
+use Rattle.cedar_print.specs.WrittenMarks as M
 use Rattle.cedar_lines.specs.Writing.{State, going, refused, lost, choose}
-use Rattle.cedar_writer.specs.declared.mark.Mark.{Mark}
-use Rattle.cedar_writer.specs.declared.mark.Mark.TheVariants.{Text, Space, Line, LineOrNil, Hard, Nest, EndNest, Begin, EndGroup, EndNothing}
+use Rattle.cedar_print.specs.Marks.{mark_of}
+use Rattle.cedar_print.specs.declared.mark.Mark.{Mark}
 use Rattle.cedar_writer.specs.declared.writer.Stop.{Stop}
 use Rattle.cedar_writer.specs.declared.writer.Stop.TheVariants.{Refused, OutOfRoom}
-
--- the mark that it is
-abbrev pub mark_of : Mark → M.Mark
-mark_of (Text s) = M.text s.now
-mark_of Space = M.space
-mark_of Line = M.line
-mark_of LineOrNil = M.line_or_nil
-mark_of Hard = M.hard
-mark_of (Nest n) = M.nest (pos n)
-mark_of EndNest = M.end_nest
-mark_of Begin = M.begin
-mark_of EndGroup = M.end_group
-mark_of EndNothing = M.end_nothing
-
-abbrev pub marks_of : List Mark → List M.Mark
-marks_of ms = map mark_of ms
 
 -- none or one
 abbrev pub some_mark : Option Mark → List M.Mark

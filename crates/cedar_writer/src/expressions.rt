@@ -1,5 +1,5 @@
 //! Expressions. Each function is given the indentation, in columns, and how many ifs and brackets may still be nested.
-ghost use Rattle.std.specs.Prelude.{pos, ◌≡◌, true};
+ghost use Rattle.std.specs.Prelude.{◌≡◌, true};
 ghost use Rattle.cedar_tokens.specs.declared.kind.Kind.TheVariants as K;
 ghost use Rattle.cedar_tokens.specs.Kinds.{is};
 ghost use Rattle.cedar_lines.specs.Rules.{◌▸◌, inner, line, maybe, nest, star, tok};
@@ -8,16 +8,16 @@ ghost use Rattle.cedar_lines.specs.Writing.{begins, expr_to, finish};
 ghost use Rattle.cedar_writer.specs.Depths.{at_depth, often_at};
 ghost use Rattle.cedar_writer.specs.Parts.{access, accesses, add, after_variable, and, call, called, fields, grouped_member, if_expr, is_in, is_type, list, literal, member, mult, next_access, next_and, next_factor, next_relation, next_summand, or, reference, relation, relation_end, some_arguments, some_comparison, some_exprs, some_inits, test, unary};
 
-use crate::mark::Mark;
 use crate::sets::Set;
 use crate::writer::Writer;
+use cedar_print::mark::{Indent, Mark};
 use cedar_tokens::kind::Kind;
 
-impl Writer<'_> {
+impl Writer<'_, '_> {
     /// Expr = 'if' Expr 'then' Expr 'else' Expr | Or
     #[cycle(rows)]
-    pub(crate) fn expr(&mut self, indent: usize, depth: usize)
-        ensures { self.new ≡ expr_to (pos indent) depth self.old }
+    pub(crate) fn expr(&mut self, indent: Indent, depth: usize)
+        ensures { self.new ≡ expr_to indent.columns depth self.old }
     {
         if self.begins(Set::Only(Kind::If)) {
             self.if_expr(indent, depth);
@@ -28,9 +28,9 @@ impl Writer<'_> {
 
     // 'if' Expr 'then' Expr 'else' Expr
     #[cycle(rows)]
-    fn if_expr(&mut self, indent: usize, depth: usize)
+    fn if_expr(&mut self, indent: Indent, depth: usize)
         requires { begins (is K.If) self.old ≡ true }
-        ensures { self.new ≡ at_depth (pos indent) depth (if_expr (pos indent)) self.old }
+        ensures { self.new ≡ at_depth indent.columns depth (if_expr indent.columns) self.old }
     {
         if depth == 0 {
             self.refuse(true);
@@ -50,8 +50,8 @@ impl Writer<'_> {
 
     // an expression after `if`, `then` or `else`
     #[cycle(rows)]
-    fn below(&mut self, indent: usize, depth: usize)
-        ensures { self.new ≡ at_depth (pos indent) depth (below (pos indent)) self.old }
+    fn below(&mut self, indent: Indent, depth: usize)
+        ensures { self.new ≡ at_depth indent.columns depth (below indent.columns) self.old }
     {
         self.put(Mark::Nest(indent));
         self.put(Mark::Line);
@@ -61,8 +61,8 @@ impl Writer<'_> {
 
     // an expression inside a bracket or an if
     #[cycle(rows)]
-    fn inner(&mut self, indent: usize, depth: usize)
-        ensures { self.new ≡ at_depth (pos indent) depth inner self.old }
+    fn inner(&mut self, indent: Indent, depth: usize)
+        ensures { self.new ≡ at_depth indent.columns depth inner self.old }
     {
         if depth == 0 {
             self.refuse(true);
@@ -74,8 +74,8 @@ impl Writer<'_> {
     // Or = And {'||' And}
     #[cycle(rows)]
     #[tactic(auto, unfolding(crate::specs::Parts::or))]
-    fn or(&mut self, indent: usize, depth: usize)
-        ensures { self.new ≡ at_depth (pos indent) depth (or (pos indent)) self.old }
+    fn or(&mut self, indent: Indent, depth: usize)
+        ensures { self.new ≡ at_depth indent.columns depth (or indent.columns) self.old }
     {
         self.and(indent, depth);
         self.next_ands(indent, depth);
@@ -83,8 +83,8 @@ impl Writer<'_> {
 
     // {'||' And}
     #[cycle(rows)]
-    fn next_ands(&mut self, indent: usize, depth: usize)
-        ensures { self.new ≡ at_depth (pos indent) depth (star (next_and (pos indent))) self.old }
+    fn next_ands(&mut self, indent: Indent, depth: usize)
+        ensures { self.new ≡ at_depth indent.columns depth (star (next_and indent.columns)) self.old }
     {
         'ands: while self.begins(Set::Only(Kind::Or)) {
             self.next_and(indent, depth);
@@ -93,8 +93,8 @@ impl Writer<'_> {
 
     // '||' And
     #[cycle(rows)]
-    fn next_and(&mut self, indent: usize, depth: usize)
-        ensures { self.new ≡ at_depth (pos indent) depth (next_and (pos indent)) self.old }
+    fn next_and(&mut self, indent: Indent, depth: usize)
+        ensures { self.new ≡ at_depth indent.columns depth (next_and indent.columns) self.old }
     {
         self.put(Mark::Space);
         self.take_then(Set::Only(Kind::Or), Mark::Line);
@@ -104,8 +104,8 @@ impl Writer<'_> {
     // And = Relation {'&&' Relation}
     #[cycle(rows)]
     #[tactic(auto, unfolding(crate::specs::Parts::and))]
-    fn and(&mut self, indent: usize, depth: usize)
-        ensures { self.new ≡ at_depth (pos indent) depth (and (pos indent)) self.old }
+    fn and(&mut self, indent: Indent, depth: usize)
+        ensures { self.new ≡ at_depth indent.columns depth (and indent.columns) self.old }
     {
         self.relation(indent, depth);
         self.next_relations(indent, depth);
@@ -113,8 +113,8 @@ impl Writer<'_> {
 
     // {'&&' Relation}
     #[cycle(rows)]
-    fn next_relations(&mut self, indent: usize, depth: usize)
-        ensures { self.new ≡ at_depth (pos indent) depth (star (next_relation (pos indent))) self.old }
+    fn next_relations(&mut self, indent: Indent, depth: usize)
+        ensures { self.new ≡ at_depth indent.columns depth (star (next_relation indent.columns)) self.old }
     {
         'relations: while self.begins(Set::Only(Kind::And)) {
             self.next_relation(indent, depth);
@@ -123,8 +123,8 @@ impl Writer<'_> {
 
     // '&&' Relation
     #[cycle(rows)]
-    fn next_relation(&mut self, indent: usize, depth: usize)
-        ensures { self.new ≡ at_depth (pos indent) depth (next_relation (pos indent)) self.old }
+    fn next_relation(&mut self, indent: Indent, depth: usize)
+        ensures { self.new ≡ at_depth indent.columns depth (next_relation indent.columns) self.old }
     {
         self.put(Mark::Space);
         self.take_then(Set::Only(Kind::And), Mark::Line);
@@ -134,8 +134,8 @@ impl Writer<'_> {
     // Relation = Add [relop Add] | Add 'has' (STR | IDENT {'.' IDENT}) | Add 'like' STR | Add 'is' Path ['in' Add]
     #[cycle(rows)]
     #[tactic(auto, unfolding(crate::specs::Parts::relation))]
-    fn relation(&mut self, indent: usize, depth: usize)
-        ensures { self.new ≡ at_depth (pos indent) depth (relation (pos indent)) self.old }
+    fn relation(&mut self, indent: Indent, depth: usize)
+        ensures { self.new ≡ at_depth indent.columns depth (relation indent.columns) self.old }
     {
         self.put(Mark::Begin);
         self.add(indent, depth);
@@ -144,8 +144,8 @@ impl Writer<'_> {
 
     // what comes after the first Add of a relation
     #[cycle(rows)]
-    fn relation_end(&mut self, indent: usize, depth: usize)
-        ensures { self.new ≡ at_depth (pos indent) depth (relation_end (pos indent)) self.old }
+    fn relation_end(&mut self, indent: Indent, depth: usize)
+        ensures { self.new ≡ at_depth indent.columns depth (relation_end indent.columns) self.old }
     {
         if self.begins(Set::Testing) {
             self.test(indent, depth);
@@ -158,8 +158,8 @@ impl Writer<'_> {
 
     // 'has', 'like' or 'is', and what comes after it
     #[cycle(rows)]
-    fn test(&mut self, indent: usize, depth: usize)
-        ensures { self.new ≡ at_depth (pos indent) depth (test (pos indent)) self.old }
+    fn test(&mut self, indent: Indent, depth: usize)
+        ensures { self.new ≡ at_depth indent.columns depth (test indent.columns) self.old }
     {
         if self.begins(Set::Only(Kind::Has)) {
             self.has(indent);
@@ -172,8 +172,8 @@ impl Writer<'_> {
 
     // 'is' Path ['in' Add]
     #[cycle(rows)]
-    fn is_type(&mut self, indent: usize, depth: usize)
-        ensures { self.new ≡ at_depth (pos indent) depth (is_type (pos indent)) self.old }
+    fn is_type(&mut self, indent: Indent, depth: usize)
+        ensures { self.new ≡ at_depth indent.columns depth (is_type indent.columns) self.old }
     {
         self.put(Mark::Space);
         self.take(Set::Only(Kind::Is));
@@ -186,8 +186,8 @@ impl Writer<'_> {
 
     // ['in' Add]
     #[cycle(rows)]
-    fn is_in(&mut self, indent: usize, depth: usize)
-        ensures { self.new ≡ at_depth (pos indent) depth (is_in (pos indent)) self.old }
+    fn is_in(&mut self, indent: Indent, depth: usize)
+        ensures { self.new ≡ at_depth indent.columns depth (is_in indent.columns) self.old }
     {
         if self.begins(Set::Only(Kind::In)) {
             self.put(Mark::Line);
@@ -201,8 +201,8 @@ impl Writer<'_> {
 
     // [relop Add]
     #[cycle(rows)]
-    fn some_comparison(&mut self, indent: usize, depth: usize)
-        ensures { self.new ≡ at_depth (pos indent) depth (some_comparison (pos indent)) self.old }
+    fn some_comparison(&mut self, indent: Indent, depth: usize)
+        ensures { self.new ≡ at_depth indent.columns depth (some_comparison indent.columns) self.old }
     {
         if self.begins(Set::Comparison) {
             self.put(Mark::Space);
@@ -215,8 +215,8 @@ impl Writer<'_> {
     // Add = Mult {('+'|'-') Mult}
     #[cycle(rows)]
     #[tactic(auto, unfolding(crate::specs::Parts::add))]
-    fn add(&mut self, indent: usize, depth: usize)
-        ensures { self.new ≡ at_depth (pos indent) depth (add (pos indent)) self.old }
+    fn add(&mut self, indent: Indent, depth: usize)
+        ensures { self.new ≡ at_depth indent.columns depth (add indent.columns) self.old }
     {
         self.put(Mark::Begin);
         self.mult(indent, depth);
@@ -226,8 +226,8 @@ impl Writer<'_> {
 
     // {('+'|'-') Mult}
     #[cycle(rows)]
-    fn next_summands(&mut self, indent: usize, depth: usize)
-        ensures { self.new ≡ at_depth (pos indent) depth (star (next_summand (pos indent))) self.old }
+    fn next_summands(&mut self, indent: Indent, depth: usize)
+        ensures { self.new ≡ at_depth indent.columns depth (star (next_summand indent.columns)) self.old }
     {
         'summands: while self.begins(Set::SumSign) {
             self.next_summand(indent, depth);
@@ -236,8 +236,8 @@ impl Writer<'_> {
 
     // ('+'|'-') Mult
     #[cycle(rows)]
-    fn next_summand(&mut self, indent: usize, depth: usize)
-        ensures { self.new ≡ at_depth (pos indent) depth (next_summand (pos indent)) self.old }
+    fn next_summand(&mut self, indent: Indent, depth: usize)
+        ensures { self.new ≡ at_depth indent.columns depth (next_summand indent.columns) self.old }
     {
         self.put(Mark::Space);
         self.take(Set::SumSign);
@@ -248,8 +248,8 @@ impl Writer<'_> {
     // Mult = Unary {'*' Unary}
     #[cycle(rows)]
     #[tactic(auto, unfolding(crate::specs::Parts::mult))]
-    fn mult(&mut self, indent: usize, depth: usize)
-        ensures { self.new ≡ at_depth (pos indent) depth (mult (pos indent)) self.old }
+    fn mult(&mut self, indent: Indent, depth: usize)
+        ensures { self.new ≡ at_depth indent.columns depth (mult indent.columns) self.old }
     {
         self.put(Mark::Begin);
         self.unary(indent, depth);
@@ -259,8 +259,8 @@ impl Writer<'_> {
 
     // {'*' Unary}
     #[cycle(rows)]
-    fn next_factors(&mut self, indent: usize, depth: usize)
-        ensures { self.new ≡ at_depth (pos indent) depth (star (next_factor (pos indent))) self.old }
+    fn next_factors(&mut self, indent: Indent, depth: usize)
+        ensures { self.new ≡ at_depth indent.columns depth (star (next_factor indent.columns)) self.old }
     {
         'factors: while self.begins(Set::Only(Kind::Mul)) {
             self.next_factor(indent, depth);
@@ -269,8 +269,8 @@ impl Writer<'_> {
 
     // '*' Unary
     #[cycle(rows)]
-    fn next_factor(&mut self, indent: usize, depth: usize)
-        ensures { self.new ≡ at_depth (pos indent) depth (next_factor (pos indent)) self.old }
+    fn next_factor(&mut self, indent: Indent, depth: usize)
+        ensures { self.new ≡ at_depth indent.columns depth (next_factor indent.columns) self.old }
     {
         self.put(Mark::Space);
         self.take(Set::Only(Kind::Mul));
@@ -281,8 +281,8 @@ impl Writer<'_> {
     // Unary = [one to four '!', or one to four '-'] Member
     #[cycle(rows)]
     #[tactic(auto, unfolding(crate::specs::Parts::unary))]
-    fn unary(&mut self, indent: usize, depth: usize)
-        ensures { self.new ≡ at_depth (pos indent) depth (unary (pos indent)) self.old }
+    fn unary(&mut self, indent: Indent, depth: usize)
+        ensures { self.new ≡ at_depth indent.columns depth (unary indent.columns) self.old }
     {
         self.some_signs();
         self.member(indent, depth);
@@ -291,8 +291,8 @@ impl Writer<'_> {
     // Member = Primary {Access} | Path '(' [Exprs] ')' {Access}
     #[cycle(rows)]
     #[tactic(auto, unfolding(crate::specs::Parts::member))]
-    fn member(&mut self, indent: usize, depth: usize)
-        ensures { self.new ≡ at_depth (pos indent) depth (member (pos indent)) self.old }
+    fn member(&mut self, indent: Indent, depth: usize)
+        ensures { self.new ≡ at_depth indent.columns depth (member indent.columns) self.old }
     {
         self.put(Mark::Begin);
         self.grouped_member(indent, depth);
@@ -300,8 +300,8 @@ impl Writer<'_> {
     }
 
     #[cycle(rows)]
-    fn grouped_member(&mut self, indent: usize, depth: usize)
-        ensures { self.new ≡ at_depth (pos indent) depth (grouped_member (pos indent)) self.old }
+    fn grouped_member(&mut self, indent: Indent, depth: usize)
+        ensures { self.new ≡ at_depth indent.columns depth (grouped_member indent.columns) self.old }
     {
         if self.begins(Set::Literal) {
             self.literal(indent, depth);
@@ -317,8 +317,8 @@ impl Writer<'_> {
 
     // the rest of an Entity or of a called path, or accesses
     #[cycle(rows)]
-    fn after_variable(&mut self, indent: usize, depth: usize)
-        ensures { self.new ≡ at_depth (pos indent) depth (after_variable (pos indent)) self.old }
+    fn after_variable(&mut self, indent: Indent, depth: usize)
+        ensures { self.new ≡ at_depth indent.columns depth (after_variable indent.columns) self.old }
     {
         if self.begins(Set::Referring) {
             self.reference(indent, depth);
@@ -329,16 +329,16 @@ impl Writer<'_> {
 
     // the rest of an Entity or of a called path, after its first word, with accesses
     #[cycle(rows)]
-    fn reference(&mut self, indent: usize, depth: usize)
-        ensures { self.new ≡ at_depth (pos indent) depth (reference (pos indent)) self.old }
+    fn reference(&mut self, indent: Indent, depth: usize)
+        ensures { self.new ≡ at_depth indent.columns depth (reference indent.columns) self.old }
     {
         self.words();
         self.reference_end(indent, depth);
     }
 
     #[cycle(rows)]
-    fn reference_end(&mut self, indent: usize, depth: usize)
-        ensures { self.new ≡ finish (is K.DoubleColon) (at_depth (pos indent) depth (str ▸ accesses (pos indent))) (at_depth (pos indent) depth (called (pos indent))) self.old }
+    fn reference_end(&mut self, indent: Indent, depth: usize)
+        ensures { self.new ≡ finish (is K.DoubleColon) (at_depth indent.columns depth (str ▸ accesses indent.columns)) (at_depth indent.columns depth (called indent.columns)) self.old }
     {
         if self.begins(Set::Only(Kind::DoubleColon)) {
             self.take(Set::Only(Kind::DoubleColon));
@@ -351,8 +351,8 @@ impl Writer<'_> {
 
     // '(' [Exprs] ')' {Access}
     #[cycle(rows)]
-    fn called(&mut self, indent: usize, depth: usize)
-        ensures { self.new ≡ at_depth (pos indent) depth (called (pos indent)) self.old }
+    fn called(&mut self, indent: Indent, depth: usize)
+        ensures { self.new ≡ at_depth indent.columns depth (called indent.columns) self.old }
     {
         self.put(Mark::Nest(indent));
         self.call(indent, depth);
@@ -363,8 +363,8 @@ impl Writer<'_> {
     // {Access}
     #[cycle(rows)]
     #[tactic(auto, unfolding(crate::specs::Parts::accesses))]
-    fn accesses(&mut self, indent: usize, depth: usize)
-        ensures { self.new ≡ at_depth (pos indent) depth (accesses (pos indent)) self.old }
+    fn accesses(&mut self, indent: Indent, depth: usize)
+        ensures { self.new ≡ at_depth indent.columns depth (accesses indent.columns) self.old }
     {
         self.put(Mark::Nest(indent));
         self.some_accesses(indent, depth);
@@ -372,8 +372,8 @@ impl Writer<'_> {
     }
 
     #[cycle(rows)]
-    fn some_accesses(&mut self, indent: usize, depth: usize)
-        ensures { self.new ≡ at_depth (pos indent) depth (maybe (access (pos indent) ▸ star (next_access (pos indent)))) self.old }
+    fn some_accesses(&mut self, indent: Indent, depth: usize)
+        ensures { self.new ≡ at_depth indent.columns depth (maybe (access indent.columns ▸ star (next_access indent.columns))) self.old }
     {
         if self.begins(Set::Accessing) {
             self.access(indent, depth);
@@ -383,8 +383,8 @@ impl Writer<'_> {
 
     // {Access}, after the first or after a call
     #[cycle(rows)]
-    fn next_accesses(&mut self, indent: usize, depth: usize)
-        ensures { self.new ≡ at_depth (pos indent) depth (star (next_access (pos indent))) self.old }
+    fn next_accesses(&mut self, indent: Indent, depth: usize)
+        ensures { self.new ≡ at_depth indent.columns depth (star (next_access indent.columns)) self.old }
     {
         'accesses: while self.begins(Set::Accessing) {
             self.next_access(indent, depth);
@@ -392,8 +392,8 @@ impl Writer<'_> {
     }
 
     #[cycle(rows)]
-    fn next_access(&mut self, indent: usize, depth: usize)
-        ensures { self.new ≡ at_depth (pos indent) depth (next_access (pos indent)) self.old }
+    fn next_access(&mut self, indent: Indent, depth: usize)
+        ensures { self.new ≡ at_depth indent.columns depth (next_access indent.columns) self.old }
     {
         self.put(Mark::LineOrNil);
         self.access(indent, depth);
@@ -401,8 +401,8 @@ impl Writer<'_> {
 
     // Access = '.' IDENT ['(' [Exprs] ')'] | '[' STR ']'
     #[cycle(rows)]
-    fn access(&mut self, indent: usize, depth: usize)
-        ensures { self.new ≡ at_depth (pos indent) depth (access (pos indent)) self.old }
+    fn access(&mut self, indent: Indent, depth: usize)
+        ensures { self.new ≡ at_depth indent.columns depth (access indent.columns) self.old }
     {
         if self.begins(Set::Only(Kind::Dot)) {
             self.field();
@@ -414,8 +414,8 @@ impl Writer<'_> {
 
     // ['(' [Exprs] ')']
     #[cycle(rows)]
-    fn some_call(&mut self, indent: usize, depth: usize)
-        ensures { self.new ≡ at_depth (pos indent) depth (maybe (call (pos indent))) self.old }
+    fn some_call(&mut self, indent: Indent, depth: usize)
+        ensures { self.new ≡ at_depth indent.columns depth (maybe (call indent.columns)) self.old }
     {
         if self.begins(Set::Only(Kind::LParen)) {
             self.call(indent, depth);
@@ -424,8 +424,8 @@ impl Writer<'_> {
 
     // '(' [Exprs] ')' after a path or a field
     #[cycle(rows)]
-    fn call(&mut self, indent: usize, depth: usize)
-        ensures { self.new ≡ at_depth (pos indent) depth (call (pos indent)) self.old }
+    fn call(&mut self, indent: Indent, depth: usize)
+        ensures { self.new ≡ at_depth indent.columns depth (call indent.columns) self.old }
     {
         if !self.begins(Set::Only(Kind::LParen)) {
             self.refuse(false);
@@ -443,8 +443,8 @@ impl Writer<'_> {
     // [Exprs] of a call
     #[cycle(rows)]
     #[tactic(auto, unfolding(crate::specs::Parts::some_arguments))]
-    fn some_arguments(&mut self, indent: usize, depth: usize)
-        ensures { self.new ≡ at_depth (pos indent) depth (some_arguments (pos indent)) self.old }
+    fn some_arguments(&mut self, indent: Indent, depth: usize)
+        ensures { self.new ≡ at_depth indent.columns depth (some_arguments indent.columns) self.old }
     {
         if self.begins(Set::Expression) {
             self.put(Mark::Nest(indent));
@@ -457,8 +457,8 @@ impl Writer<'_> {
 
     // Primary but for what begins with a word
     #[cycle(rows)]
-    fn literal(&mut self, indent: usize, depth: usize)
-        ensures { self.new ≡ at_depth (pos indent) depth (literal (pos indent)) self.old }
+    fn literal(&mut self, indent: Indent, depth: usize)
+        ensures { self.new ≡ at_depth indent.columns depth (literal indent.columns) self.old }
     {
         if self.begins(Set::Boolean) {
             self.take(Set::Boolean);
@@ -477,9 +477,9 @@ impl Writer<'_> {
 
     // '(' Expr ')'
     #[cycle(rows)]
-    fn parens(&mut self, indent: usize, depth: usize)
+    fn parens(&mut self, indent: Indent, depth: usize)
         requires { begins (is K.LParen) self.old ≡ true }
-        ensures { self.new ≡ at_depth (pos indent) depth (parens (pos indent)) self.old }
+        ensures { self.new ≡ at_depth indent.columns depth (parens indent.columns) self.old }
     {
         if depth == 0 {
             self.refuse(true);
@@ -487,7 +487,7 @@ impl Writer<'_> {
         }
         self.put(Mark::Begin);
         self.take(Set::Only(Kind::LParen));
-        self.put(Mark::Nest(1));
+        self.put(Mark::Nest(Indent { columns: 1 }));
         self.inner(indent, depth);
         self.put(Mark::EndNest);
         self.take(Set::Only(Kind::RParen));
@@ -496,16 +496,16 @@ impl Writer<'_> {
 
     // '[' [Exprs] ']'
     #[cycle(rows)]
-    fn list(&mut self, indent: usize, depth: usize)
+    fn list(&mut self, indent: Indent, depth: usize)
         requires { begins (is K.LBracket) self.old ≡ true }
-        ensures { self.new ≡ at_depth (pos indent) depth (list (pos indent)) self.old }
+        ensures { self.new ≡ at_depth indent.columns depth (list indent.columns) self.old }
     {
         if depth == 0 {
             self.refuse(true);
             return;
         }
         self.take(Set::Only(Kind::LBracket));
-        self.put(Mark::Nest(1));
+        self.put(Mark::Nest(Indent { columns: 1 }));
         self.some_exprs(indent, depth);
         self.put(Mark::EndNest);
         self.take(Set::Only(Kind::RBracket));
@@ -513,8 +513,8 @@ impl Writer<'_> {
 
     // '{' [Init {',' Init} [',']] '}'
     #[cycle(rows)]
-    fn fields(&mut self, indent: usize, depth: usize)
-        ensures { self.new ≡ at_depth (pos indent) depth (fields (pos indent)) self.old }
+    fn fields(&mut self, indent: Indent, depth: usize)
+        ensures { self.new ≡ at_depth indent.columns depth (fields indent.columns) self.old }
     {
         if !self.begins(Set::Only(Kind::LBrace)) {
             self.refuse(false);
@@ -532,8 +532,8 @@ impl Writer<'_> {
     // [Init {',' Init} [',']]
     #[cycle(rows)]
     #[tactic(auto, unfolding(crate::specs::Parts::some_inits))]
-    fn some_inits(&mut self, indent: usize, depth: usize)
-        ensures { self.new ≡ at_depth (pos indent) depth (some_inits (pos indent)) self.old }
+    fn some_inits(&mut self, indent: Indent, depth: usize)
+        ensures { self.new ≡ at_depth indent.columns depth (some_inits indent.columns) self.old }
     {
         if self.begins(Set::Key) {
             self.put(Mark::Nest(indent));
@@ -548,8 +548,8 @@ impl Writer<'_> {
 
     // Init {',' Init} [',']
     #[cycle(rows)]
-    fn inits(&mut self, indent: usize, depth: usize)
-        ensures { self.new ≡ at_depth (pos indent) depth (items (init (pos indent))) self.old }
+    fn inits(&mut self, indent: Indent, depth: usize)
+        ensures { self.new ≡ at_depth indent.columns depth (items (init indent.columns)) self.old }
     {
         self.init(indent, depth);
         self.next_inits(indent, depth);
@@ -558,8 +558,8 @@ impl Writer<'_> {
 
     // {',' Init}
     #[cycle(rows)]
-    fn next_inits(&mut self, indent: usize, depth: usize)
-        ensures { self.new ≡ often_at (pos indent) depth K.Comma (line ▸ init (pos indent)) self.old }
+    fn next_inits(&mut self, indent: Indent, depth: usize)
+        ensures { self.new ≡ often_at indent.columns depth K.Comma (line ▸ init indent.columns) self.old }
     {
         'inits: while self.goes(Set::Only(Kind::Comma), Set::Key) {
             self.next_init(indent, depth);
@@ -568,8 +568,8 @@ impl Writer<'_> {
 
     // ',' Init
     #[cycle(rows)]
-    fn next_init(&mut self, indent: usize, depth: usize)
-        ensures { self.new ≡ at_depth (pos indent) depth (tok K.Comma ▸ line ▸ init (pos indent)) self.old }
+    fn next_init(&mut self, indent: Indent, depth: usize)
+        ensures { self.new ≡ at_depth indent.columns depth (tok K.Comma ▸ line ▸ init indent.columns) self.old }
     {
         self.take(Set::Only(Kind::Comma));
         self.put(Mark::Line);
@@ -578,8 +578,8 @@ impl Writer<'_> {
 
     // Init = (IDENT | STR) ':' Expr
     #[cycle(rows)]
-    fn init(&mut self, indent: usize, depth: usize)
-        ensures { self.new ≡ at_depth (pos indent) depth (init (pos indent)) self.old }
+    fn init(&mut self, indent: Indent, depth: usize)
+        ensures { self.new ≡ at_depth indent.columns depth (init indent.columns) self.old }
     {
         self.key();
         self.take(Set::Only(Kind::Colon));
@@ -590,8 +590,8 @@ impl Writer<'_> {
     // [Exprs]
     #[cycle(rows)]
     #[tactic(auto, unfolding(crate::specs::Parts::some_exprs))]
-    fn some_exprs(&mut self, indent: usize, depth: usize)
-        ensures { self.new ≡ at_depth (pos indent) depth (some_exprs (pos indent)) self.old }
+    fn some_exprs(&mut self, indent: Indent, depth: usize)
+        ensures { self.new ≡ at_depth indent.columns depth (some_exprs indent.columns) self.old }
     {
         if self.begins(Set::Expression) {
             self.exprs(indent, depth);
@@ -600,8 +600,8 @@ impl Writer<'_> {
 
     // Exprs = Expr {',' Expr} [',']
     #[cycle(rows)]
-    fn exprs(&mut self, indent: usize, depth: usize)
-        ensures { self.new ≡ at_depth (pos indent) depth (items inner) self.old }
+    fn exprs(&mut self, indent: Indent, depth: usize)
+        ensures { self.new ≡ at_depth indent.columns depth (items inner) self.old }
     {
         self.inner(indent, depth);
         self.next_exprs(indent, depth);
@@ -610,8 +610,8 @@ impl Writer<'_> {
 
     // {',' Expr}
     #[cycle(rows)]
-    fn next_exprs(&mut self, indent: usize, depth: usize)
-        ensures { self.new ≡ often_at (pos indent) depth K.Comma (line ▸ inner) self.old }
+    fn next_exprs(&mut self, indent: Indent, depth: usize)
+        ensures { self.new ≡ often_at indent.columns depth K.Comma (line ▸ inner) self.old }
     {
         'exprs: while self.goes(Set::Only(Kind::Comma), Set::Expression) {
             self.next_expr(indent, depth);
@@ -620,8 +620,8 @@ impl Writer<'_> {
 
     // ',' Expr
     #[cycle(rows)]
-    fn next_expr(&mut self, indent: usize, depth: usize)
-        ensures { self.new ≡ at_depth (pos indent) depth (tok K.Comma ▸ line ▸ inner) self.old }
+    fn next_expr(&mut self, indent: Indent, depth: usize)
+        ensures { self.new ≡ at_depth indent.columns depth (tok K.Comma ▸ line ▸ inner) self.old }
     {
         self.take(Set::Only(Kind::Comma));
         self.put(Mark::Line);

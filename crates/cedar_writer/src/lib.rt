@@ -3,12 +3,11 @@
 #![tactic(auto)]
 
 mod expressions;
-pub mod mark;
 mod names;
 mod operands;
 mod policies;
 pub mod policy;
+pub mod printer;
 mod scopes;
 mod sets;
-pub mod token;
 mod writer;

@@ -8,12 +8,12 @@ ghost use Rattle.cedar_lines.specs.Writing.{finish};
 ghost use Rattle.cedar_writer.specs.Depths.{alone, often};
 ghost use Rattle.cedar_writer.specs.Parts.{annotation_end, index, key, last_comma, next_word, some_signs};
 
-use crate::mark::Mark;
 use crate::sets::Set;
 use crate::writer::Writer;
+use cedar_print::mark::Mark;
 use cedar_tokens::kind::Kind;
 
-impl Writer<'_> {
+impl Writer<'_, '_> {
     // Path = IDENT {'::' IDENT}
     pub(crate) fn path(&mut self)
         ensures { self.new ≡ alone path self.old }

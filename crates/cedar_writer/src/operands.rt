@@ -1,17 +1,17 @@
 //! Operands without operators: in three groups, one in the other.
-ghost use Rattle.std.specs.Prelude.{pos, ◌≡◌};
+ghost use Rattle.std.specs.Prelude.{◌≡◌};
 ghost use Rattle.cedar_tokens.specs.declared.kind.Kind.TheVariants as K;
 ghost use Rattle.cedar_lines.specs.Rules.{nest, star, group, ◌▸◌, ◌∥◌, maybe};
 ghost use Rattle.cedar_lines.specs.Lines.{accessed, accesses, field, ident, operand, str};
 ghost use Rattle.cedar_writer.specs.Depths.{alone};
 ghost use Rattle.cedar_writer.specs.Parts.{begin_operand, end_groups, end_operand, has, like, next_field};
 
-use crate::mark::Mark;
 use crate::sets::Set;
 use crate::writer::Writer;
+use cedar_print::mark::{Indent, Mark};
 use cedar_tokens::kind::Kind;
 
-impl Writer<'_> {
+impl Writer<'_, '_> {
     // three groups begin
     pub(crate) fn begin_operand(&mut self)
         ensures { self.new ≡ alone begin_operand self.old }
@@ -31,8 +31,8 @@ impl Writer<'_> {
     }
 
     // an empty nest, and they end
-    pub(crate) fn end_operand(&mut self, indent: usize)
-        ensures { self.new ≡ alone (end_operand (pos indent)) self.old }
+    pub(crate) fn end_operand(&mut self, indent: Indent)
+        ensures { self.new ≡ alone (end_operand indent.columns) self.old }
     {
         self.put(Mark::Nest(indent));
         self.put(Mark::EndNest);
@@ -40,8 +40,8 @@ impl Writer<'_> {
     }
 
     // STR, as an operand
-    fn text_operand(&mut self, indent: usize)
-        ensures { self.new ≡ alone (operand (pos indent) str) self.old }
+    fn text_operand(&mut self, indent: Indent)
+        ensures { self.new ≡ alone (operand indent.columns str) self.old }
     {
         self.begin_operand();
         self.take(Set::Only(Kind::Str));
@@ -49,8 +49,8 @@ impl Writer<'_> {
     }
 
     // IDENT {'.' IDENT}, as an operand
-    fn fields_operand(&mut self, indent: usize)
-        ensures { self.new ≡ alone (group (group (accessed (pos indent) ident field))) self.old }
+    fn fields_operand(&mut self, indent: Indent)
+        ensures { self.new ≡ alone (group (group (accessed indent.columns ident field))) self.old }
     {
         self.begin_operand();
         self.take(Set::Ident);
@@ -88,8 +88,8 @@ impl Writer<'_> {
     }
 
     // 'has' (STR | IDENT {'.' IDENT})
-    pub(crate) fn has(&mut self, indent: usize)
-        ensures { self.new ≡ alone (has (pos indent)) self.old }
+    pub(crate) fn has(&mut self, indent: Indent)
+        ensures { self.new ≡ alone (has indent.columns) self.old }
     {
         self.put(Mark::Line);
         self.take(Set::Only(Kind::Has));
@@ -100,8 +100,8 @@ impl Writer<'_> {
     }
 
     // STR | IDENT {'.' IDENT}
-    fn text_or_fields(&mut self, indent: usize)
-        ensures { self.new ≡ alone (operand (pos indent) str ∥ group (group (accessed (pos indent) ident field))) self.old }
+    fn text_or_fields(&mut self, indent: Indent)
+        ensures { self.new ≡ alone (operand indent.columns str ∥ group (group (accessed indent.columns ident field))) self.old }
     {
         if self.begins(Set::Only(Kind::Str)) {
             self.text_operand(indent);
@@ -111,8 +111,8 @@ impl Writer<'_> {
     }
 
     // 'like' STR
-    pub(crate) fn like(&mut self, indent: usize)
-        ensures { self.new ≡ alone (like (pos indent)) self.old }
+    pub(crate) fn like(&mut self, indent: Indent)
+        ensures { self.new ≡ alone (like indent.columns) self.old }
     {
         self.put(Mark::Line);
         self.take(Set::Only(Kind::Like));

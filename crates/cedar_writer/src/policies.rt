@@ -1,14 +1,14 @@
 //! Policies. Each function is given the indentation, in columns, and how many ifs and brackets an expression may nest.
-ghost use Rattle.std.specs.Prelude.{pos, ◌≡◌};
+ghost use Rattle.std.specs.Prelude.{◌≡◌};
 ghost use Rattle.cedar_lines.specs.Rules.{star};
 ghost use Rattle.cedar_lines.specs.Lines.{block, cond};
 ghost use Rattle.cedar_lines.specs.Writing.{policy_to};
 ghost use Rattle.cedar_writer.specs.Depths.{alone, around};
 ghost use Rattle.cedar_writer.specs.Parts.{body, conds, head, next_cond, policy_end, scope_end};
 
-use crate::mark::Mark;
 use crate::sets::Set;
 use crate::writer::Writer;
+use cedar_print::mark::{Indent, Mark};
 use cedar_tokens::kind::Kind;
 
 /// How three bare variables begin.
@@ -21,10 +21,10 @@ const BARE: &[Set] = &[
     Set::AfterScope,
 ];
 
-impl Writer<'_> {
+impl Writer<'_, '_> {
     // Policy = {Annotation} ('permit'|'forbid') '(' Principal ',' Action ',' Resource [','] ')' {Cond} ';'
-    pub(crate) fn policy(&mut self, indent: usize, depth: usize)
-        ensures { self.new ≡ policy_to (pos indent) depth self.old }
+    pub(crate) fn policy(&mut self, indent: Indent, depth: usize)
+        ensures { self.new ≡ policy_to indent.columns depth self.old }
     {
         self.annotations();
         self.head();
@@ -44,8 +44,8 @@ impl Writer<'_> {
     }
 
     // Principal ',' Action ',' Resource [','] ')' {Cond} ';'
-    fn body(&mut self, indent: usize, depth: usize)
-        ensures { self.new ≡ around (pos indent) depth (body (pos indent)) self.old }
+    fn body(&mut self, indent: Indent, depth: usize)
+        ensures { self.new ≡ around indent.columns depth (body indent.columns) self.old }
     {
         if self.looking(BARE) {
             self.bare_scope(indent);
@@ -58,16 +58,16 @@ impl Writer<'_> {
 
     // [','] ')' {Cond} ';'
     #[tactic(auto, unfolding(crate::specs::Parts::policy_end))]
-    fn policy_end(&mut self, indent: usize, depth: usize)
-        ensures { self.new ≡ around (pos indent) depth (policy_end (pos indent)) self.old }
+    fn policy_end(&mut self, indent: Indent, depth: usize)
+        ensures { self.new ≡ around indent.columns depth (policy_end indent.columns) self.old }
     {
         self.last_comma();
         self.scope_end(indent, depth);
     }
 
     // ')' {Cond} ';'
-    fn scope_end(&mut self, indent: usize, depth: usize)
-        ensures { self.new ≡ around (pos indent) depth (scope_end (pos indent)) self.old }
+    fn scope_end(&mut self, indent: Indent, depth: usize)
+        ensures { self.new ≡ around indent.columns depth (scope_end indent.columns) self.old }
     {
         if self.second(Set::Condition) {
             self.take_then(Set::Only(Kind::RParen), Mark::Hard);
@@ -79,8 +79,8 @@ impl Writer<'_> {
     }
 
     // {Cond} ';', at least one
-    fn conds(&mut self, indent: usize, depth: usize)
-        ensures { self.new ≡ around (pos indent) depth (conds (pos indent)) self.old }
+    fn conds(&mut self, indent: Indent, depth: usize)
+        ensures { self.new ≡ around indent.columns depth (conds indent.columns) self.old }
     {
         self.cond(indent, depth);
         self.next_conds(indent, depth);
@@ -88,24 +88,24 @@ impl Writer<'_> {
     }
 
     // {Cond}, after the first
-    fn next_conds(&mut self, indent: usize, depth: usize)
-        ensures { self.new ≡ around (pos indent) depth (star (next_cond (pos indent))) self.old }
+    fn next_conds(&mut self, indent: Indent, depth: usize)
+        ensures { self.new ≡ around indent.columns depth (star (next_cond indent.columns)) self.old }
     {
         'conds: while self.begins(Set::Condition) {
             self.next_cond(indent, depth);
         }
     }
 
-    fn next_cond(&mut self, indent: usize, depth: usize)
-        ensures { self.new ≡ around (pos indent) depth (next_cond (pos indent)) self.old }
+    fn next_cond(&mut self, indent: Indent, depth: usize)
+        ensures { self.new ≡ around indent.columns depth (next_cond indent.columns) self.old }
     {
         self.put(Mark::Hard);
         self.cond(indent, depth);
     }
 
     // Cond = ('when'|'unless') '{' Expr '}'
-    fn cond(&mut self, indent: usize, depth: usize)
-        ensures { self.new ≡ around (pos indent) depth (cond (pos indent)) self.old }
+    fn cond(&mut self, indent: Indent, depth: usize)
+        ensures { self.new ≡ around indent.columns depth (cond indent.columns) self.old }
     {
         self.lift();
         self.put(Mark::Begin);
@@ -115,8 +115,8 @@ impl Writer<'_> {
     }
 
     // '{' Expr '}'
-    fn block(&mut self, indent: usize, depth: usize)
-        ensures { self.new ≡ around (pos indent) depth (block (pos indent)) self.old }
+    fn block(&mut self, indent: Indent, depth: usize)
+        ensures { self.new ≡ around indent.columns depth (block indent.columns) self.old }
     {
         self.take_brace(indent);
         self.lift();

@@ -1,21 +1,21 @@
 //! The scope of a policy: its three variables.
-ghost use Rattle.std.specs.Prelude.{pos, ◌≡◌};
+ghost use Rattle.std.specs.Prelude.{◌≡◌};
 ghost use Rattle.cedar_tokens.specs.declared.kind.Kind.TheVariants as K;
 ghost use Rattle.cedar_lines.specs.Rules.{maybe, star, line, ◌▸◌, ◌∥◌, tok};
 ghost use Rattle.cedar_lines.specs.Lines.{compared, entity, type_part, ungrouped};
 ghost use Rattle.cedar_writer.specs.Depths.{alone, often};
-ghost use Rattle.cedar_writer.specs.States.{mark_of};
+ghost use Rattle.cedar_print.specs.Marks.{mark_of};
 ghost use Rattle.cedar_writer.specs.Parts.{action, action_end, bare_scope, begin_compared, broken_scope, end_compared, entities, entities_operand, entity_operand, scoped, scoped_end, scoped_in, slot_operand, slot_or_entity, some_entities, variables};
 
-use crate::mark::Mark;
 use crate::sets::Set;
 use crate::writer::Writer;
+use cedar_print::mark::{Indent, Mark};
 use cedar_tokens::kind::Kind;
 
-impl<'a> Writer<'a> {
+impl<'src> Writer<'_, 'src> {
     // 'is' Path
-    fn type_part(&mut self, indent: usize)
-        ensures { self.new ≡ alone (type_part (pos indent)) self.old }
+    fn type_part(&mut self, indent: Indent)
+        ensures { self.new ≡ alone (type_part indent.columns) self.old }
     {
         self.put(Mark::Begin);
         self.put(Mark::Nest(indent));
@@ -30,8 +30,8 @@ impl<'a> Writer<'a> {
     }
 
     // ['is' Path]
-    fn some_type(&mut self, indent: usize)
-        ensures { self.new ≡ alone (maybe (type_part (pos indent))) self.old }
+    fn some_type(&mut self, indent: Indent)
+        ensures { self.new ≡ alone (maybe (type_part indent.columns)) self.old }
     {
         if self.begins(Set::Only(Kind::Is)) {
             self.type_part(indent);
@@ -51,8 +51,8 @@ impl<'a> Writer<'a> {
 
     // slot | Entity, as an operand
     #[tactic(auto, unfolding(crate::specs::Parts::slot_operand))]
-    fn slot_operand(&mut self, indent: usize, slot: Kind)
-        ensures { self.new ≡ alone (slot_operand (pos indent) slot) self.old }
+    fn slot_operand(&mut self, indent: Indent, slot: Kind)
+        ensures { self.new ≡ alone (slot_operand indent.columns slot) self.old }
     {
         self.begin_operand();
         self.slot_or_entity(slot);
@@ -60,8 +60,8 @@ impl<'a> Writer<'a> {
     }
 
     // an operator, up to its operand
-    fn begin_compared(&mut self, indent: usize, operator: Kind)
-        ensures { self.new ≡ alone (begin_compared (pos indent) operator) self.old }
+    fn begin_compared(&mut self, indent: Indent, operator: Kind)
+        ensures { self.new ≡ alone (begin_compared indent.columns operator) self.old }
     {
         self.put(Mark::Line);
         self.take(Set::Only(operator));
@@ -79,8 +79,8 @@ impl<'a> Writer<'a> {
     }
 
     // an operator, and slot | Entity
-    fn compared_slot(&mut self, indent: usize, operator: Kind, slot: Kind)
-        ensures { self.new ≡ alone (compared (pos indent) operator (slot_operand (pos indent) slot)) self.old }
+    fn compared_slot(&mut self, indent: Indent, operator: Kind, slot: Kind)
+        ensures { self.new ≡ alone (compared indent.columns operator (slot_operand indent.columns slot)) self.old }
     {
         self.begin_compared(indent, operator);
         self.slot_operand(indent, slot);
@@ -96,8 +96,8 @@ impl<'a> Writer<'a> {
     }
 
     // ['in' VE]
-    fn scoped_in(&mut self, indent: usize, slot: Kind)
-        ensures { self.new ≡ alone (scoped_in (pos indent) slot) self.old }
+    fn scoped_in(&mut self, indent: Indent, slot: Kind)
+        ensures { self.new ≡ alone (scoped_in indent.columns slot) self.old }
     {
         if self.begins(Set::Only(Kind::In)) {
             self.compared_slot(indent, Kind::In, slot);
@@ -107,8 +107,8 @@ impl<'a> Writer<'a> {
     }
 
     // [ '==' VE | 'is' Path ['in' VE] | 'in' VE ]
-    fn scoped_end(&mut self, indent: usize, slot: Kind)
-        ensures { self.new ≡ alone (scoped_end (pos indent) slot) self.old }
+    fn scoped_end(&mut self, indent: Indent, slot: Kind)
+        ensures { self.new ≡ alone (scoped_end indent.columns slot) self.old }
     {
         if self.begins(Set::Only(Kind::Equal)) {
             self.compared_slot(indent, Kind::Equal, slot);
@@ -121,8 +121,8 @@ impl<'a> Writer<'a> {
     // Principal = 'principal' [ '==' PE | 'is' Path ['in' PE] | 'in' PE ]      PE = Entity | '?principal'
     // Resource = 'resource' [ '==' RE | 'is' Path ['in' RE] | 'in' RE ]      RE = Entity | '?resource'
     #[tactic(auto, unfolding(crate::specs::Parts::scoped))]
-    fn scoped(&mut self, indent: usize, variable: Kind, slot: Kind)
-        ensures { self.new ≡ alone (scoped (pos indent) variable slot) self.old }
+    fn scoped(&mut self, indent: Indent, variable: Kind, slot: Kind)
+        ensures { self.new ≡ alone (scoped indent.columns variable slot) self.old }
     {
         self.lift();
         self.put(Mark::Begin);
@@ -132,8 +132,8 @@ impl<'a> Writer<'a> {
     }
 
     // Entity, as an operand
-    fn entity_operand(&mut self, indent: usize)
-        ensures { self.new ≡ alone (entity_operand (pos indent)) self.old }
+    fn entity_operand(&mut self, indent: Indent)
+        ensures { self.new ≡ alone (entity_operand indent.columns) self.old }
     {
         self.begin_operand();
         self.entity();
@@ -141,8 +141,8 @@ impl<'a> Writer<'a> {
     }
 
     // ',' Entity
-    fn next_entity(&mut self, indent: usize)
-        ensures { self.new ≡ alone (tok K.Comma ▸ line ▸ entity_operand (pos indent)) self.old }
+    fn next_entity(&mut self, indent: Indent)
+        ensures { self.new ≡ alone (tok K.Comma ▸ line ▸ entity_operand indent.columns) self.old }
     {
         self.take(Set::Only(Kind::Comma));
         self.put(Mark::Line);
@@ -150,8 +150,8 @@ impl<'a> Writer<'a> {
     }
 
     // {',' Entity}
-    fn next_entities(&mut self, indent: usize)
-        ensures { self.new ≡ often K.Comma (line ▸ entity_operand (pos indent)) self.old }
+    fn next_entities(&mut self, indent: Indent)
+        ensures { self.new ≡ often K.Comma (line ▸ entity_operand indent.columns) self.old }
     {
         'entities: while self.goes(Set::Only(Kind::Comma), Set::Ident) {
             self.next_entity(indent);
@@ -160,8 +160,8 @@ impl<'a> Writer<'a> {
 
     // [Entity {',' Entity} [',']]
     #[tactic(auto, unfolding(crate::specs::Parts::some_entities))]
-    fn some_entities(&mut self, indent: usize)
-        ensures { self.new ≡ alone (some_entities (pos indent)) self.old }
+    fn some_entities(&mut self, indent: Indent)
+        ensures { self.new ≡ alone (some_entities indent.columns) self.old }
     {
         if self.begins(Set::Ident) {
             self.entity_operand(indent);
@@ -171,19 +171,19 @@ impl<'a> Writer<'a> {
     }
 
     // '[' [Entity {',' Entity} [',']] ']'
-    fn entities(&mut self, indent: usize)
-        ensures { self.new ≡ alone (entities (pos indent)) self.old }
+    fn entities(&mut self, indent: Indent)
+        ensures { self.new ≡ alone (entities indent.columns) self.old }
     {
         self.take(Set::Only(Kind::LBracket));
-        self.put(Mark::Nest(1));
+        self.put(Mark::Nest(Indent { columns: 1 }));
         self.some_entities(indent);
         self.put(Mark::EndNest);
         self.take(Set::Only(Kind::RBracket));
     }
 
     // Entity | '[' [Entity {',' Entity} [',']] ']'
-    fn entity_or_entities(&mut self, indent: usize)
-        ensures { self.new ≡ alone (entity ∥ entities (pos indent)) self.old }
+    fn entity_or_entities(&mut self, indent: Indent)
+        ensures { self.new ≡ alone (entity ∥ entities indent.columns) self.old }
     {
         if self.begins(Set::Ident) {
             self.entity();
@@ -194,8 +194,8 @@ impl<'a> Writer<'a> {
 
     // the same, as an operand
     #[tactic(auto, unfolding(crate::specs::Parts::entities_operand))]
-    fn entities_operand(&mut self, indent: usize)
-        ensures { self.new ≡ alone (entities_operand (pos indent)) self.old }
+    fn entities_operand(&mut self, indent: Indent)
+        ensures { self.new ≡ alone (entities_operand indent.columns) self.old }
     {
         self.begin_operand();
         self.entity_or_entities(indent);
@@ -203,8 +203,8 @@ impl<'a> Writer<'a> {
     }
 
     // '==' Entity
-    fn equal_entity(&mut self, indent: usize)
-        ensures { self.new ≡ alone (compared (pos indent) K.Equal (entity_operand (pos indent))) self.old }
+    fn equal_entity(&mut self, indent: Indent)
+        ensures { self.new ≡ alone (compared indent.columns K.Equal (entity_operand indent.columns)) self.old }
     {
         self.begin_compared(indent, Kind::Equal);
         self.entity_operand(indent);
@@ -212,8 +212,8 @@ impl<'a> Writer<'a> {
     }
 
     // 'in' (Entity | '[' [Entity {',' Entity} [',']] ']')
-    fn in_entities(&mut self, indent: usize)
-        ensures { self.new ≡ alone (compared (pos indent) K.In (entities_operand (pos indent))) self.old }
+    fn in_entities(&mut self, indent: Indent)
+        ensures { self.new ≡ alone (compared indent.columns K.In (entities_operand indent.columns)) self.old }
     {
         self.begin_compared(indent, Kind::In);
         self.entities_operand(indent);
@@ -221,8 +221,8 @@ impl<'a> Writer<'a> {
     }
 
     // [ '==' Entity | 'in' (Entity | '[' [Entity {',' Entity} [',']] ']') ]
-    fn action_end(&mut self, indent: usize)
-        ensures { self.new ≡ alone (action_end (pos indent)) self.old }
+    fn action_end(&mut self, indent: Indent)
+        ensures { self.new ≡ alone (action_end indent.columns) self.old }
     {
         if self.begins(Set::Only(Kind::Equal)) {
             self.equal_entity(indent);
@@ -235,8 +235,8 @@ impl<'a> Writer<'a> {
 
     // Action = 'action' [ '==' Entity | 'in' (Entity | '[' [Entity {',' Entity} [',']] ']') ]
     #[tactic(auto, unfolding(crate::specs::Parts::action))]
-    fn action(&mut self, indent: usize)
-        ensures { self.new ≡ alone (action (pos indent)) self.old }
+    fn action(&mut self, indent: Indent)
+        ensures { self.new ≡ alone (action indent.columns) self.old }
     {
         self.lift();
         self.put(Mark::Begin);
@@ -247,8 +247,8 @@ impl<'a> Writer<'a> {
 
     // Principal ',' Action ',' Resource
     #[tactic(auto, unfolding(crate::specs::Parts::variables))]
-    fn variables(&mut self, indent: usize, next: Mark<'a>)
-        ensures { self.new ≡ alone (variables (pos indent) (mark_of next.entry)) self.old }
+    fn variables(&mut self, indent: Indent, next: Mark<'src>)
+        ensures { self.new ≡ alone (variables indent.columns (mark_of next.entry)) self.old }
     {
         self.scoped(indent, Kind::Principal, Kind::PrincipalSlot);
         self.take_then(Set::Only(Kind::Comma), next);
@@ -259,8 +259,8 @@ impl<'a> Writer<'a> {
 
     // the same on one line, if it fits
     #[tactic(auto, unfolding(crate::specs::Parts::bare_scope))]
-    pub(crate) fn bare_scope(&mut self, indent: usize)
-        ensures { self.new ≡ alone (bare_scope (pos indent)) self.old }
+    pub(crate) fn bare_scope(&mut self, indent: Indent)
+        ensures { self.new ≡ alone (bare_scope indent.columns) self.old }
     {
         self.put(Mark::Begin);
         self.put(Mark::Nest(indent));
@@ -271,8 +271,8 @@ impl<'a> Writer<'a> {
 
     // the same on a line each
     #[tactic(auto, unfolding(crate::specs::Parts::broken_scope))]
-    pub(crate) fn broken_scope(&mut self, indent: usize)
-        ensures { self.new ≡ alone (broken_scope (pos indent)) self.old }
+    pub(crate) fn broken_scope(&mut self, indent: Indent)
+        ensures { self.new ≡ alone (broken_scope indent.columns) self.old }
     {
         self.put(Mark::Nest(indent));
         self.put(Mark::Hard);

@@ -1,25 +1,36 @@
 //! A writer: the tokens of a policy that are left, and the marks that are written.
-ghost use Rattle.std.specs.Prelude.{pos, ◌≡◌, IfOk, ◌<◌, length, [], ◌∷◌, map, false, MatchResult};
-ghost use Rattle.cedar_tokens.specs.Listing.{comments, token_value};
-ghost use Rattle.cedar_lines.specs.Marks as M;
-ghost use Rattle.cedar_lines.specs.Marks.{broken_lines, lead_of, trail_of};
+ghost use Rattle.std.specs.Prelude.{◌≡◌, IfOk, ◌<◌, length, [], ◌∷◌, map, false};
+ghost use Rattle.cedar_tokens.specs.Listing.{token_value};
+ghost use Rattle.cedar_print.specs.Marks.{mark_of, marks_of};
+ghost use Rattle.cedar_print.specs.WrittenMarks as M;
+ghost use Rattle.cedar_print.specs.WrittenMarks.{broken_lines, lead_of, trail_of};
 ghost use Rattle.cedar_lines.specs.Writing.{going, begins, second, goes, looking, refuse, add, add_all, skip, take, add_lead, bare_first, lift};
-ghost use Rattle.cedar_tokens.specs.Tokens.{comments_left};
+ghost use Rattle.cedar_slices.specs.Lines.{lines_left};
 ghost use Rattle.cedar_lines.specs.Languages.{looks};
 ghost use Rattle.cedar_writer.specs.Sets.{contains};
 ghost use Rattle.cedar_writer.specs.declared.sets.Set.TheVariants.{Only};
 ghost use Rattle.cedar_tokens.specs.declared.kind.Kind.TheVariants.{LBrace};
-ghost use Rattle.cedar_writer.specs.Outcomes.{IsRefused, IsWritten, refusal_of};
-ghost use Rattle.cedar_writer.specs.States.{after_first, mark_of, some_mark, tokens_left};
+ghost use Rattle.cedar_writer.specs.Outcomes.{HasEnded, outcome_of};
+ghost use Rattle.cedar_writer.specs.States.{after_first, some_mark, tokens_left};
 
-use crate::mark::Mark;
-use crate::policy::{Refusal, Written};
 use crate::sets::Set;
-use crate::token::{Token, value};
+use cedar_print::mark::{Indent, Mark};
+use cedar_slices::lines::Lines;
+use cedar_slices::token::{Token, value};
 use cedar_tokens::kind::Kind;
-use cedar_tokens::token::{Comments, get_comment};
-use std::alloc::{AllocError, Global};
+use std::alloc::AllocError;
 use std::marker::Model;
+
+/// How reading ended.
+#[derive(Clone, Copy)]
+pub(crate) enum Outcome {
+    /// A policy was read and written, and so many tokens are left.
+    Written { left: usize },
+    /// The first of so many tokens was refused, for its depth alone or not.
+    Refused { too_deep: bool, left: usize },
+    /// There was no room for a mark.
+    OutOfRoom,
+}
 
 /// Why nothing more is read and written.
 #[derive(Clone, Copy)]
@@ -32,19 +43,19 @@ pub(crate) enum Stop {
 
 /// The tokens that are left, and the marks so far, with room for some more. After a stop nothing is read or written.
 #[derive(Drop)]
-pub(crate) struct Writer<'a> {
-    left: &'a [Token<'a>],
+pub(crate) struct Writer<'t, 'src> {
+    left: &'t [Token<'src>],
     led: bool,
-    marks: Vec<Mark<'a>>,
+    marks: Vec<Mark<'src>>,
     free: usize,
     stop: Option<Stop>,
 }
 
-impl<'a> Model for Writer<'a> {
+impl<'t, 'src> Model for Writer<'t, 'src> {
     ghost use Rattle.std.specs.Prelude.{◌+◌, ◌≤◌, length, vec_capacity};
     ghost use Rattle.cedar_lines.specs.Writing.{State};
-    ghost use Rattle.cedar_writer.specs.Outcomes.{IsRefused, IsWritten, refusal_of};
-    ghost use Rattle.cedar_writer.specs.States.{marks_of, state_of};
+    ghost use Rattle.cedar_print.specs.Marks.{marks_of};
+    ghost use Rattle.cedar_writer.specs.States.{state_of};
 
     ghost Value = { State };
 
@@ -53,16 +64,17 @@ impl<'a> Model for Writer<'a> {
     ghost invariant = { λ w. length w.marks.items + w.free ≤ vec_capacity w.marks };
 }
 
-impl<'a> Writer<'a> {
-    /// Nothing is written yet, and there is room for so many marks.
+impl<'t, 'src> Writer<'t, 'src> {
+    /// Nothing is written yet, and there is room for so many marks. The given ones are dropped, and their memory is used.
     pub(crate) fn new(
-        alloc: Global,
-        left: &'a [Token<'a>],
+        mut marks: Vec<Mark<'src>>,
+        left: &'t [Token<'src>],
         room: usize,
-    ) -> Result<Writer<'a>, AllocError>
+    ) -> Result<Writer<'t, 'src>, AllocError>
         ensures { IfOk result (λ w. w ≡ going (tokens_left false left.now) [] room) }
     {
-        let marks = Vec::with_capacity(alloc, room)?;
+        marks.clear();
+        marks.reserve(room)?;
         Ok(Writer {
             left,
             led: false,
@@ -72,22 +84,19 @@ impl<'a> Writer<'a> {
         })
     }
 
-    /// What has become of the tokens.
-    pub(crate) fn outcome(self) -> Result<Written<'a>, Refusal>
-        ensures { MatchResult result (IsWritten self.entry) (IsRefused self.entry) }
+    /// The marks, and what has become of the tokens.
+    pub(crate) fn finish(self) -> (Vec<Mark<'src>>, Outcome)
+        ensures { HasEnded self.entry (marks_of result.0.items) result.1 }
     {
         let left = self.left.len();
         match self.stop {
-            None => Ok(Written {
-                marks: self.marks,
-                left,
-            }),
-            Some(stop) => Err(refusal_of(stop, left)),
+            None => (self.marks, Outcome::Written { left }),
+            Some(stop) => (self.marks, outcome_of(stop, left)),
         }
     }
 
     /// Writes a mark, if there is room.
-    pub(crate) fn put(&mut self, mark: Mark<'a>)
+    pub(crate) fn put(&mut self, mark: Mark<'src>)
         ensures { self.new ≡ add (mark_of mark.entry) self.old }
     {
         if self.stop.is_none() {
@@ -163,13 +172,13 @@ impl<'a> Writer<'a> {
     }
 
     /// The same; the mark is written if it has no trailing text.
-    pub(crate) fn take_then(&mut self, set: Set, next: Mark<'a>)
+    pub(crate) fn take_then(&mut self, set: Set, next: Mark<'src>)
         ensures { self.new ≡ take (contains set) [] (mark_of next.entry ∷ []) self.old }
     {
         self.take_with(set, Some(next));
     }
 
-    fn take_with(&mut self, set: Set, next: Option<Mark<'a>>)
+    fn take_with(&mut self, set: Set, next: Option<Mark<'src>>)
         ensures { self.new ≡ take (contains set) [] (some_mark next.entry) self.old }
     {
         if !self.begins(set) {
@@ -185,8 +194,8 @@ impl<'a> Writer<'a> {
     }
 
     /// A `{`; after its text a group and a nest begin, and a possible break follows if it has no trailing text.
-    pub(crate) fn take_brace(&mut self, indent: usize)
-        ensures { self.new ≡ take (contains (Only LBrace)) (M.begin ∷ M.nest (pos indent) ∷ []) (M.line ∷ []) self.old }
+    pub(crate) fn take_brace(&mut self, indent: Indent)
+        ensures { self.new ≡ take (contains (Only LBrace)) (M.begin ∷ M.nest indent.columns ∷ []) (M.line ∷ []) self.old }
     {
         if !self.begins(Set::Only(Kind::LBrace)) {
             self.refuse(false);
@@ -203,7 +212,7 @@ impl<'a> Writer<'a> {
     }
 
     // A trailing text, or the mark if there is none.
-    fn trail(&mut self, text: &'a str, next: Option<Mark<'a>>)
+    fn trail(&mut self, text: &'src str, next: Option<Mark<'src>>)
         ensures { self.new ≡ add_all (trail_of text.now (some_mark next.entry)) self.old }
     {
         if !text.is_empty() {
@@ -246,7 +255,7 @@ impl<'a> Writer<'a> {
         }
         if let Some((first, _)) = self.left.split_first() {
             if !self.led {
-                self.lead(first.leading());
+                self.lead(first.lines());
             }
         }
     }
@@ -263,11 +272,10 @@ impl<'a> Writer<'a> {
         }
     }
 
-    // The comments of a text, on lines of their own.
-    fn lead(&mut self, text: &'a str)
-        ensures { self.new ≡ add_all (lead_of (comments text.now)) self.old }
+    // Each line on a line of its own.
+    fn lead(&mut self, mut lines: Lines<'src>)
+        ensures { self.new ≡ add_all (lead_of (lines_left lines.entry)) self.old }
     {
-        let mut lines = get_comment(text);
         if let Some(line) = lines.next() {
             self.put(Mark::Hard);
             self.put(Mark::Text(line));
@@ -276,8 +284,8 @@ impl<'a> Writer<'a> {
         }
     }
 
-    fn more_lines(&mut self, lines: Comments<'a>)
-        ensures { self.new ≡ add_all (broken_lines (comments_left lines.entry)) self.old }
+    fn more_lines(&mut self, lines: Lines<'src>)
+        ensures { self.new ≡ add_all (broken_lines (lines_left lines.entry)) self.old }
     {
         for line in lines {
             self.put(Mark::Text(line));
@@ -286,19 +294,18 @@ impl<'a> Writer<'a> {
     }
 }
 
-// What is told of a stop before so many tokens.
-fn refusal_of(stop: Stop, left: usize) -> Refusal
-    ensures { result ≡ refusal_of stop left }
+// What has become of the tokens after a stop before so many of them.
+fn outcome_of(stop: Stop, left: usize) -> Outcome
+    ensures { result ≡ outcome_of stop left }
 {
     match stop {
-        Stop::Refused(true) => Refusal::TooDeep { left },
-        Stop::Refused(false) => Refusal::Grammar { left },
-        Stop::OutOfRoom => Refusal::OutOfRoom,
+        Stop::Refused(too_deep) => Outcome::Refused { too_deep, left },
+        Stop::OutOfRoom => Outcome::OutOfRoom,
     }
 }
 
 // The tokens after the first.
-fn after_first<'a>(tokens: &'a [Token<'a>]) -> &'a [Token<'a>]
+fn after_first<'t, 'src>(tokens: &'t [Token<'src>]) -> &'t [Token<'src>]
     requires { 0 < length tokens.now }
     ensures { result.now ≡ after_first tokens.now }
 {
@@ -306,7 +313,7 @@ fn after_first<'a>(tokens: &'a [Token<'a>]) -> &'a [Token<'a>]
 }
 
 // Whether the kinds of the first tokens are in these sets.
-fn looks<'a>(tokens: &'a [Token<'a>], sets: &[Set]) -> bool
+fn looks(tokens: &[Token<'_>], sets: &[Set]) -> bool
     ensures { result ≡ looks (map contains sets.now) tokens.now }
 {
     let mut left = tokens;

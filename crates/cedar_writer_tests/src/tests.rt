@@ -1,8 +1,8 @@
 //! Policies, and their marks, worked out by hand from the grammar and its table.
+use cedar_print::mark::{Indent, Mark};
+use cedar_slices::token::Token;
 use cedar_tokens::kind::kind_of;
-use cedar_writer::mark::Mark;
 use cedar_writer::policy::{Refusal, write_policy};
-use cedar_writer::token::Token;
 use std::alloc::{AllocError, Global};
 use std::process::Abort;
 
@@ -149,7 +149,7 @@ fn push_mark(out: &mut String, mark: &Mark<'_>) -> Result<(), AllocError> {
         Mark::Line => out.push_str("line")?,
         Mark::LineOrNil => out.push_str("nil")?,
         Mark::Hard => out.push_str("hard")?,
-        Mark::Nest(1) => out.push_str("nest1")?,
+        Mark::Nest(Indent { columns: 1 }) => out.push_str("nest1")?,
         Mark::Nest(_) => out.push_str("nest2")?,
         Mark::EndNest => out.push_str("end")?,
         Mark::Begin => out.push_str("begin")?,
@@ -160,35 +160,35 @@ fn push_mark(out: &mut String, mark: &Mark<'_>) -> Result<(), AllocError> {
     Ok(())
 }
 
-// The marks of the row, each and a blank after it, where there is room for so many; or why there are none.
+// The marks of the row, each and a blank after it, and how many tokens are left; or why there are none.
 fn marks_of(
     alloc: Global,
     row: &Row,
-    room: usize,
+    marks: &mut Vec<Mark<'static>>,
 ) -> Result<Result<(String, usize), Refusal>, AllocError> {
     let tokens = tokens_of(alloc, row)?;
-    match write_policy(alloc, &tokens, room, 2, row.depth) {
-        Ok(written) => {
+    match write_policy(&tokens, marks, Indent { columns: 2 }, row.depth) {
+        Ok(left) => {
             let mut out = String::new(alloc);
-            for mark in &written.marks {
+            for mark in marks {
                 push_mark(&mut out, mark)?;
             }
-            Ok(Ok((out, written.marks.len())))
+            Ok(Ok((out, left)))
         }
         Err(refusal) => Ok(Err(refusal)),
     }
 }
 
-fn expect_row(rt: &impl Abort, alloc: Global, row: &Row) -> Result<(), AllocError> {
-    match marks_of(alloc, row, 1000)? {
-        Ok((marks, len)) => {
+fn expect_row(
+    rt: &impl Abort,
+    alloc: Global,
+    row: &Row,
+    marks: &mut Vec<Mark<'static>>,
+) -> Result<(), AllocError> {
+    match marks_of(alloc, row, marks)? {
+        Ok((marks, left)) => {
             assert_eq!(rt; marks.as_str(), row.marks, "{}", row.name);
-            let fits = marks_of(alloc, row, len)?.is_ok();
-            assert!(rt; fits, "{}: room for all", row.name);
-            if len > 0 {
-                let lacks = matches!(marks_of(alloc, row, len - 1)?, Err(Refusal::OutOfRoom));
-                assert!(rt; lacks, "{}: no room for the last", row.name);
-            }
+            assert_eq!(rt; left, row.left, "{}", row.name);
         }
         Err(refusal) => {
             let wanted = if row.too_deep {
@@ -203,10 +203,14 @@ fn expect_row(rt: &impl Abort, alloc: Global, row: &Row) -> Result<(), AllocErro
     Ok(())
 }
 
+// Each row in new memory, and in that of the rows before it.
 #[test]
 fn rows(rt: HostRuntime) -> Result<(), AllocError> {
+    let mut kept = Vec::new(rt.alloc());
     for row in &ROWS {
-        expect_row(&rt, rt.alloc(), row)?;
+        let mut marks = Vec::new(rt.alloc());
+        expect_row(&rt, rt.alloc(), row, &mut marks)?;
+        expect_row(&rt, rt.alloc(), row, &mut kept)?;
     }
     Ok(())
 }

@@ -1,27 +1,40 @@
 -- Accepted texts, refusals and outputs are those of the grammar of trees and the table.
-use Rattle.std.proofs.Common.{◌≡◌, ◌↔◌, ℕ, ℤ, Bool, true, false, List, [], ◌∷◌, ◌++◌, map, subst}
-use Rattle.std.specs.List.{AllZip, filter}
+use Rattle.std.proofs.Common.{◌≡◌, ◌↔◌, ℕ, ℤ, Bool, true, false, List, [], ◌∷◌, ◌++◌, map, sym, subst}
+use Rattle.std.specs.List.{AllByRecursion, AllZip, filter}
+use Rattle.std.specs.Str.{IsUtf8}
 use Rattle.cedar_tokens.specs.Units.{is_token}
 use Rattle.cedar_tokens.specs.Listing.{Decorated, Listing, IsListing}
 use Rattle.cedar_tokens.specs.PlainList.{plain_list}
+use Rattle.cedar_tokens.specs.Split.{Splits, SplitsInto}
+use Rattle.cedar_tokens.proofs.Lists.{All-parts}
+use Rattle.cedar_tokens.proofs.Scanning.{listing_unique}
 use Rattle.cedar_layout.specs.Layout.{IsTheLayoutAt}
-use Rattle.cedar_layout.specs.Cleaning.{IsCleaned}
+use Rattle.cedar_layout.specs.Cleaning.{IsCleaned as IsCleanedByPieces}
 use Rattle.cedar_grammar.specs.Beginnings as trees
 use Rattle.cedar_grammar.specs.Texts.{greatest_depth}
 use Rattle.cedar_grammar.specs.Texts as trees_texts
-use Rattle.cedar_grammar.specs.TypedTrees.{Clause, policy}
+use Rattle.cedar_grammar.specs.TypedTrees.{Clause, policy, part_yield}
 use Rattle.cedar_tree.specs.declared.error.FormatError.TheVariants as E
 use Rattle.cedar_tree.specs.Refusals.{Refuses as RefusesByTrees}
 use Rattle.cedar_tree.proofs.Memory.{memory_map}
 use Rattle.cedar_laws.specs.Table.{part_table}
-use Rattle.cedar_laws.specs.Output.{PolicyTexts}
+use Rattle.cedar_laws.specs.Fit.{PartFit}
+use Rattle.cedar_laws.specs.Good.{IsGood}
+use Rattle.cedar_laws.specs.Output.{PolicyTexts, with_value, tokens_of}
 use Rattle.cedar_laws.specs.Canonical as trees_outputs
-use Rattle.cedar_laws.proofs.Grammatical.{tree_of_accepted, plain_tree}
+use Rattle.cedar_laws.proofs.Assembled.{raw_reads_back}
+use Rattle.cedar_laws.proofs.CanonicalForm.{own_list}
+use Rattle.cedar_laws.proofs.Encoded.{value_utf8}
+use Rattle.cedar_laws.proofs.GoodLists.{every_list_good, plain_list_good}
+use Rattle.cedar_laws.proofs.Grammatical.{tree_of_accepted, plain_tree, leaves_of, trees_of, tree_fits}
+use Rattle.cedar_laws.proofs.Listed.{value_token}
+use Rattle.cedar_written.specs.Cleaning.{IsCleaned}
 use Rattle.cedar_written.specs.Layout.{layout}
 use Rattle.cedar_written.specs.Texts.{Begins, LeaveAfter}
 use Rattle.cedar_written.specs.Refusals.{Refuses}
 use Rattle.cedar_written.specs.Output.{IsOutputOf}
-use Rattle.cedar_written.specs.Laws.{AcceptedAgree, LeavesAgree, RefusalsAgree, ErrorsAgree, OutputsAgree}
+use Rattle.cedar_written.specs.Laws.{AcceptedAgree, LeavesAgree, RefusalsAgree, ErrorsAgree, TableOutputsAreOutputs, OutputsAreTheTables}
+use Rattle.cedar_written.proofs.Cleaning.{cleanings_agree}
 use Rattle.cedar_written.proofs.Layouts.{layout_at, layouts_agree}
 use Rattle.cedar_written.proofs.Lists.{grammars_agree_in_texts, documents_are_the_tables, tables_are_documents}
 
@@ -119,16 +132,62 @@ plain_twice : (x : List ℕ) (l : Listing) → trees_texts.Accepted x → IsList
 plain_twice x l a s =
     let t = tree_of_accepted x l a s in subst (λ z. plain_list z ≡ z) t.2 (plain_tree t.0 t.1)
 
+-- the tokens of every list of the text have the comments of a real text
+abbrev pub HasGoodLists : List ℕ → Type 0
+HasGoodLists x = (l : Listing) → IsListing x l → AllByRecursion IsGood l.tokens
+
+good_lists : (x : List ℕ) → IsUtf8 x → HasGoodLists x
+good_lists x u l s = (every_list_good x l u s).0
+
+good_value : (t : Decorated) → IsGood t → IsGood (with_value t)
+good_value t g = record {
+  token = value_token t.text g.token;
+  utf8 = value_utf8 t.text g.utf8;
+  leading = g.leading;
+  trailing = g.trailing;
+}
+
+good_values : (ts : List Decorated) → AllByRecursion IsGood ts
+    → AllByRecursion IsGood (map with_value ts)
+good_values [] a = tt
+good_values (t ∷ ts) a = (good_value t a.0, good_values ts a.1)
+
+good_leaves : {w : ℕ} {i : ℤ} {x y : List ℕ} → HasGoodLists x
+    → (o : trees_outputs.IsOutputOf w i x y) → AllByRecursion IsGood (tokens_of o.policies)
+good_leaves g o = subst (AllByRecursion IsGood) (sym (leaves_of o))
+    (plain_list_good o.list.tokens (g o.list o.is_list))
+
+-- and so have those of an output
+pub good_output : (w : ℕ) (i : ℤ) (x y : List ℕ) → IsUtf8 x → trees_outputs.IsOutputOf w i x y
+    → HasGoodLists y
+good_output w i x y u o l s = subst (λ (z : Listing). AllByRecursion IsGood z.tokens)
+    (listing_unique y (record {
+      tokens = map with_value (tokens_of o.policies);
+      closing = o.list.closing;
+    }) l (own_list w i x y u o) s)
+    (good_values (tokens_of o.policies) (good_leaves (good_lists x u) o))
+
+-- the layout of a policy splits
+layout_splits : (w : ℕ) (i : ℤ) (p : Clause Decorated policy) → PartFit p
+    → AllByRecursion IsGood (part_yield p) → Splits (layout w (part_table i p))
+layout_splits w i p f g =
+    let laid = layout_at w (part_table i p) in
+    let back = raw_reads_back i p laid.0.0 f g in
+    (back.units, subst (λ z. SplitsInto z back.units) (sym laid.0.2) back.split)
+
 texts_there : (w : ℕ) (i : ℤ) (ps : List (Clause Decorated policy)) (ts : List (List ℕ))
+    → AllByRecursion PartFit ps → AllByRecursion IsGood (tokens_of ps)
     → PolicyTexts (IsTheLayoutAt w) i ps ts
     → AllZip (λ d t. IsCleaned (layout w d) t) (map (part_table i) ps) ts
-texts_there w i [] [] a = tt
-texts_there w i [] (t ∷ ts) a = absurd a
-texts_there w i (p ∷ ps) [] a = absurd a
-texts_there w i (p ∷ ps) (t ∷ ts) a = (
-  subst (λ z. IsCleaned z t) ((layouts_agree w (part_table i p) a.0.0).0 a.0.1) a.0.2,
-  texts_there w i ps ts a.1,
-)
+texts_there w i [] [] f g a = tt
+texts_there w i [] (t ∷ ts) f g a = absurd a
+texts_there w i (p ∷ ps) [] f g a = absurd a
+texts_there w i (p ∷ ps) (t ∷ ts) f g a =
+    let parts = All-parts IsGood (part_yield p) (tokens_of ps) g in (
+      (cleanings_agree (layout w (part_table i p)) t (layout_splits w i p f.0 parts.0)).0
+          (subst (λ z. IsCleanedByPieces z t) ((layouts_agree w (part_table i p) a.0.0).0 a.0.1) a.0.2),
+      texts_there w i ps ts f.1 parts.1 a.1,
+    )
 
 texts_back : (w : ℕ) (i : ℤ) (ps : List (Clause Decorated policy)) (ts : List (List ℕ))
     → AllZip (λ d t. IsCleaned (layout w d) t) (map (part_table i) ps) ts
@@ -137,41 +196,47 @@ texts_back w i [] [] a = tt
 texts_back w i [] (t ∷ ts) a = absurd a
 texts_back w i (p ∷ ps) [] a = absurd a
 texts_back w i (p ∷ ps) (t ∷ ts) a = (
-  (layout w (part_table i p), layout_at w (part_table i p), a.0),
+  (
+    layout w (part_table i p),
+    layout_at w (part_table i p),
+    (cleanings_agree (layout w (part_table i p)) t (a.0.units, a.0.split)).1 a.0,
+  ),
   texts_back w i ps ts a.1,
 )
 
-pub outputs_agree : OutputsAgree
-outputs_agree w i x y = (there, back)
-  where
-    there : trees_outputs.IsOutputOf w i x y → IsOutputOf w i x y
-    there o = record {
-      accepted = (accepted_agree x).0 o.accepted;
+pub written_output : (w : ℕ) (i : ℤ) (x y : List ℕ) → HasGoodLists x
+    → trees_outputs.IsOutputOf w i x y → IsOutputOf w i x y
+written_output w i x y g o = record {
+  accepted = (accepted_agree x).0 o.accepted;
+  list = o.list;
+  is_list = o.is_list;
+  documents = map (part_table i) o.policies;
+  written = tables_are_documents i greatest_depth (plain_list o.list.tokens) o.policies
+      (plain_twice x o.list o.accepted o.is_list) o.grammar;
+  texts = o.output.texts;
+  cleaned = texts_there w i o.policies o.output.texts (tree_fits o.policies (trees_of o))
+      (good_leaves g o) o.output.cleaned;
+  output = o.output.written;
+}
+
+pub table_outputs_are_outputs : TableOutputsAreOutputs
+table_outputs_are_outputs w i x y u o = written_output w i x y (good_lists x u) o
+
+pub outputs_are_the_tables : OutputsAreTheTables
+outputs_are_the_tables w i x y o =
+    let a = (accepted_agree x).1 o.accepted in
+    let q = documents_are_the_tables i greatest_depth (plain_list o.list.tokens) o.documents
+    (plain_twice x o.list a o.is_list) o.written in
+    record {
+      accepted = a;
       list = o.list;
       is_list = o.is_list;
-      documents = map (part_table i) o.policies;
-      written = tables_are_documents i greatest_depth (plain_list o.list.tokens) o.policies
-          (plain_twice x o.list o.accepted o.is_list) o.grammar;
-      texts = o.output.texts;
-      cleaned = texts_there w i o.policies o.output.texts o.output.cleaned;
-      output = o.output.written;
+      policies = q.0;
+      grammar = q.1;
+      output = record {
+        texts = o.texts;
+        cleaned = texts_back w i q.0 o.texts
+            (subst (λ z. AllZip (λ d t. IsCleaned (layout w d) t) z o.texts) q.2 o.cleaned);
+        written = o.output;
+      };
     }
-
-    back : IsOutputOf w i x y → trees_outputs.IsOutputOf w i x y
-    back o =
-        let a = (accepted_agree x).1 o.accepted in
-        let q = documents_are_the_tables i greatest_depth (plain_list o.list.tokens) o.documents
-        (plain_twice x o.list a o.is_list) o.written in
-        record {
-          accepted = a;
-          list = o.list;
-          is_list = o.is_list;
-          policies = q.0;
-          grammar = q.1;
-          output = record {
-            texts = o.texts;
-            cleaned = texts_back w i q.0 o.texts
-                (subst (λ z. AllZip (λ d t. IsCleaned (layout w d) t) z o.texts) q.2 o.cleaned);
-            written = o.output;
-          };
-        }

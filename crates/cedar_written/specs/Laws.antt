@@ -1,5 +1,6 @@
 -- The written grammar with its documents says the same as the grammar of trees and the table.
 use Rattle.std.specs.Prelude.{◌≡◌, ◌↔◌, ℕ, ℤ, Bool, List, map}
+use Rattle.std.specs.Str.{IsUtf8}
 use Rattle.cedar_tokens.specs.Listing.{Decorated}
 use Rattle.cedar_tokens.specs.PlainList.{plain_list}
 use Rattle.cedar_layout.specs.Layout.{Doc, IsTheLayoutAt}
@@ -69,6 +70,12 @@ RefusalsAgree = (x : List ℕ) (e : FormatError) → RefusesByTrees x e ↔ Refu
 abbrev pub ErrorsAgree : Type 0
 ErrorsAgree = (x : List ℕ) (e : FormatError) → OutOfMemoryOr (RefusesByTrees x) e ↔ OutOfMemoryOr (Refuses x) e
 
--- and the same outputs: those of the table, for the policies whose tree is that of its list without trailing commas
-abbrev pub OutputsAgree : Type 0
-OutputsAgree = (w : ℕ) (i : ℤ) (x y : List ℕ) → IsOutputByTable w i x y ↔ IsOutputOf w i x y
+-- ---- outputs
+
+-- the outputs of the table, for the policies whose tree is that of the text's list without trailing commas, are outputs
+abbrev pub TableOutputsAreOutputs : Type 0
+TableOutputsAreOutputs = (w : ℕ) (i : ℤ) (x y : List ℕ) → IsUtf8 x → IsOutputByTable w i x y → IsOutputOf w i x y
+
+-- and there are no others
+abbrev pub OutputsAreTheTables : Type 0
+OutputsAreTheTables = (w : ℕ) (i : ℤ) (x y : List ℕ) → IsOutputOf w i x y → IsOutputByTable w i x y

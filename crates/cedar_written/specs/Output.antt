@@ -5,9 +5,9 @@ use Rattle.cedar_tokens.specs.Bytes.{line_feed}
 use Rattle.cedar_tokens.specs.Listing.{Listing, IsListing}
 use Rattle.cedar_tokens.specs.PlainList.{plain_list}
 use Rattle.cedar_layout.specs.Layout.{Doc}
-use Rattle.cedar_layout.specs.Cleaning.{IsCleaned}
 use Rattle.cedar_grammar.specs.Texts.{greatest_depth}
 use Rattle.cedar_laws.specs.Output.{paragraphs, closing_text}
+use Rattle.cedar_written.specs.Cleaning.{IsCleaned}
 use Rattle.cedar_written.specs.Layout.{layout}
 use Rattle.cedar_written.specs.Texts.{Accepted}
 use Rattle.cedar_written.specs.Written.{PolicySet}

@@ -2,7 +2,7 @@
 ghost use Rattle.cedar_written.specs.Canonical.{AcceptedHasOutput, LastWidthDecides, OutputHasTheList, OutputIsAccepted, OutputIsItsOwn, OutputsTellLists};
 ghost use Rattle.cedar_written.specs.Cleaning.{CleaningsAgree};
 ghost use Rattle.cedar_written.specs.Judged.{AcceptedIsNotRefused, RefusalIsUnique, TextIsJudged};
-ghost use Rattle.cedar_written.specs.Laws.{AcceptedAgree, DocumentsAreTheTables, DocumentsAreUnique, ErrorsAgree, GrammarsAgree, LayoutsAgree, LeavesAgree, ListsAgree, OutputsAgree, RefusalsAgree, TablesAreDocuments};
+ghost use Rattle.cedar_written.specs.Laws.{AcceptedAgree, DocumentsAreTheTables, DocumentsAreUnique, ErrorsAgree, GrammarsAgree, LayoutsAgree, LeavesAgree, ListsAgree, OutputsAreTheTables, RefusalsAgree, TableOutputsAreOutputs, TablesAreDocuments};
 ghost use Rattle.cedar_written.specs.Lists.{EqualListsHaveEqualOutputs, OutputKeepsTheList};
 
 /// The written grammar and the grammar of trees have the same lists, at each depth and with trailing commas or without.
@@ -39,7 +39,8 @@ pub fn written_texts_agree()
 
 /// An accepted text has the same output by the written grammar and by trees and the table.
 pub fn written_outputs_agree()
-    ensures { OutputsAgree }
+    ensures there { TableOutputsAreOutputs }
+    ensures back { OutputsAreTheTables }
 {}
 
 /// An output has the list of its text, and texts with equal lists have equal outputs: so for each width and indentation the

@@ -21,5 +21,5 @@ returns-clause-output c =
     let made = c.in_ok-write_policies.ensures.output in
     formatted_tells c.outputs_are_canonical.ensures.equal c.listing_is_unique.ensures w i text
     made.0 c.is_used_up.result c.utf8.ps
-    ((c.written_outputs_agree.ensures w i text made.0).0 made.1)
+    (c.written_outputs_agree.ensures.there w i text made.0 c.utf8.ps made.1)
     (used_up text made.0 _ _ c.is_used_up.result c.new-rest.ensures made.2 c.is_used_up.ensures)

@@ -12,5 +12,5 @@ returns-clause-list c =
     let out = string_bytes c.write_policies.new.sink in
     let same : out ≡ made.0 = made.2 ∙ ap (λ z. z ++ made.0) c.new-text.ensures.bytes in
     c.outputs_keep_lists.ensures.keeps w i text out c.utf8.ps
-    ((c.written_outputs_agree.ensures w i text out).0
+    (c.written_outputs_agree.ensures.there w i text out c.utf8.ps
     (subst (IsOutputOf w i text) (sym same) made.1))

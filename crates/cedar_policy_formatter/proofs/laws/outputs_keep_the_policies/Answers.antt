@@ -3,9 +3,9 @@ use Rattle.cedar_policy_formatter.proofs.laws.outputs_keep_the_policies.Goals as
 
 pub returns-clause-policies : goal.returns-clause-policies
 returns-clause-policies c =
-    outputs_keep_the_policies c.written_outputs_agree.ensures c.nodes_have_the_plain_texts.ensures
+    outputs_keep_the_policies c.written_outputs_agree.ensures.back c.nodes_have_the_plain_texts.ensures
     c.outputs_are_canonical.ensures.accepted c.outputs_are_canonical.ensures.list
 
 pub returns-clause-trees : goal.returns-clause-trees
-returns-clause-trees c = outputs_keep_the_trees c.written_outputs_agree.ensures
+returns-clause-trees c = outputs_keep_the_trees c.written_outputs_agree.ensures.back
     c.outputs_are_canonical.ensures.accepted c.outputs_are_canonical.ensures.list

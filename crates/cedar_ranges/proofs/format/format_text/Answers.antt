@@ -24,8 +24,8 @@ returns-clause-output c =
     let out = string_bytes c.in_ok-output.output in
     record {
       out = out;
-      output = (c.written_outputs_agree.ensures c.args.config.now.line_width
-          c.args.config.now.indent_width text out).1 c.in_ok-output.ensures.answer;
+      output = c.written_outputs_agree.ensures.back c.args.config.now.line_width
+          c.args.config.now.indent_width text out c.in_ok-output.ensures.answer;
       ends = whole_ends text out (string_bytes c.in_ok-output-2.output)
           (edited_by text c.in_ok-edits.edits.items) c.in_ok-output-2.ensures
           (c.in_ok-edits.ensures.bytes ∙ ap (edited text (whole text)) c.as_str.ensures.value);
@@ -42,4 +42,4 @@ returns-clause-keeps c =
     (edited_by text c.in_ok-edits.edits.items) c.in_ok-output-2.ensures
     (c.in_ok-edits.ensures.bytes ∙ ap (edited text (whole text)) c.as_str.ensures.value))
     (output_keeps w i text out c.utf8.text
-    ((c.written_outputs_agree.ensures w i text out).1 c.in_ok-output.ensures.answer))
+    (c.written_outputs_agree.ensures.back w i text out c.in_ok-output.ensures.answer))

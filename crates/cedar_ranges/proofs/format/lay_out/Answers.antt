@@ -16,7 +16,7 @@ returns-clause-layout c =
     omega (arith, c.requires.part.order, c.if-span.false) in
     let part : c.range-2.result.now ≡ within text c.args.span = c.range-2.ensures.value in
     let front : c.range.result.now ≡ take c.args.span.start text = search rules in
-    let laid = (c.written_outputs_agree.ensures w i c.range-2.result.now out).1
+    let laid = c.written_outputs_agree.ensures.back w i c.range-2.result.now out
     c.in_ok-layout.ensures.answer in
     let output = subst (λ z. IsOutputOf w i z out) part laid in
     let bytes : string_bytes c.push_str.new.self

@@ -1,15 +1,32 @@
-use Rattle.std.proofs.Common.{pos, [], ap, ◌∙◌, subst}
-use Rattle.std.specs.Prelude.{MatchResult}
-use Rattle.cedar_lines.specs.Writing.{State, going, policy_to}
-use Rattle.cedar_writer.specs.Outcomes.{IsRefused, IsWritten}
-use Rattle.cedar_writer.proofs.Views.{none_led}
-use Rattle.cedar_writer.proofs.Grammar.{result_of_the_grammar}
+use Rattle.std.proofs.Common.{sym, subst, Ok, Err}
+use Rattle.cedar_print.specs.Marks.{marks_of}
+use Rattle.cedar_writer.specs.Outcomes.{IsRefused}
+use Rattle.cedar_writer.proofs.Grammar.{read_as, refused_as, reads_all, of_the_grammar}
 use Rattle.cedar_writer.proofs.policy.write_policy.Goals as goal
 
-pub returns-in-Ok-clause-outcome : goal.returns-in-Ok-clause-outcome
-returns-in-Ok-clause-outcome c = subst (λ (s : State). MatchResult c.outcome.result (IsWritten s) (IsRefused s))
-    (c.policy.ensures ∙ ap (policy_to (pos c.args.indent) c.args.depth) (c.in-Ok.ensures ∙ ap (λ ts. going ts [] c.args.room) (none_led c.args.tokens.now)))
-    c.outcome.ensures
+pub returns-in-Written-clause-outcome : goal.returns-in-Written-clause-outcome
+returns-in-Written-clause-outcome c = read_as c.args.indent.columns c.args.depth c.args.tokens.now
+    c.loop.room (marks_of c.finish-written.result.0.items) c.finish-written.result.1
+    c.in-Written.left c.in-Ok.ensures c.policy.ensures c.finish-written.ensures c.in-Written.is
 
-pub returns-in-Ok-clause-grammar : goal.returns-in-Ok-clause-grammar
-returns-in-Ok-clause-grammar c = λ k. result_of_the_grammar (pos c.args.indent) c.args.depth c.args.tokens.now c.args.room c.outcome.result k (returns-in-Ok-clause-outcome c)
+pub returns-in-Written-clause-policies : goal.returns-in-Written-clause-policies
+returns-in-Written-clause-policies c = λ d p. reads_all c.args.indent.columns c.args.depth
+    c.args.tokens.now d p (marks_of c.finish-written.result.0.items) (Ok c.in-Written.left)
+    (returns-in-Written-clause-outcome c)
+
+pub returns-in-Written-clause-grammar : goal.returns-in-Written-clause-grammar
+returns-in-Written-clause-grammar c = λ k. of_the_grammar c.args.indent.columns c.args.depth
+    c.args.tokens.now (marks_of c.finish-written.result.0.items) c.in-Written.left k
+    (returns-in-Written-clause-outcome c)
+
+pub returns-in-Refused-clause-outcome : goal.returns-in-Refused-clause-outcome
+returns-in-Refused-clause-outcome c =
+    subst (IsRefused c.args.indent.columns c.args.depth c.args.tokens.now) (sym c.refusal_of.ensures)
+    (refused_as c.args.indent.columns c.args.depth c.args.tokens.now c.loop.room
+    (marks_of c.finish-written.result.0.items) c.finish-written.result.1 c.in-Refused.too_deep
+    c.in-Refused.left c.in-Ok.ensures c.policy.ensures c.finish-written.ensures c.in-Refused.is)
+
+pub returns-in-Refused-clause-policies : goal.returns-in-Refused-clause-policies
+returns-in-Refused-clause-policies c = λ d p. reads_all c.args.indent.columns c.args.depth
+    c.args.tokens.now d p (marks_of c.finish-written.result.0.items) (Err c.refusal_of.result)
+    (returns-in-Refused-clause-outcome c)

@@ -1,5 +1,5 @@
 use Rattle.cedar_policy_formatter.proofs.EqualLists.{told_next}
-use Rattle.cedar_policy_formatter.proofs.Outputs.{in_order}
+use Rattle.cedar_policy_formatter.proofs.Comparisons.{in_order}
 use Rattle.cedar_policy_formatter.proofs.fmt.compare.goes_on_alike.Goals as goal
 
 pub same_tokens-requires-clause-first : goal.same_tokens-requires-clause-first

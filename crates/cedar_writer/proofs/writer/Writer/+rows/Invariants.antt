@@ -1,4 +1,4 @@
-use Rattle.std.proofs.Common.{pos, ◌≡◌, ◌+◌, ◌*◌}
+use Rattle.std.proofs.Common.{◌≡◌, ◌+◌, ◌*◌}
 use Rattle.cedar_tokens.specs.declared.kind.Kind.TheVariants as K
 use Rattle.cedar_lines.specs.Rules.{inner, line, star, ◌▸◌}
 use Rattle.cedar_lines.specs.Lines.{init}
@@ -158,43 +158,43 @@ abbrev pub decreases-expr : goal.decreases-expr
 decreases-expr l = 36 * l.depth + 35
 
 abbrev pub invariant-next_ands-ands : goal.invariant-next_ands-ands
-invariant-next_ands-ands l = at_depth (pos l.indent) l.depth (star (next_and (pos l.indent))) l.fn.self ≡ at_depth (pos l.indent) l.depth (star (next_and (pos l.indent))) l.self
+invariant-next_ands-ands l = at_depth l.indent.columns l.depth (star (next_and l.indent.columns)) l.fn.self ≡ at_depth l.indent.columns l.depth (star (next_and l.indent.columns)) l.self
 
 abbrev pub decreases-next_ands-ands : goal.decreases-next_ands-ands
 decreases-next_ands-ands l = size l.self
 
 abbrev pub invariant-next_relations-relations : goal.invariant-next_relations-relations
-invariant-next_relations-relations l = at_depth (pos l.indent) l.depth (star (next_relation (pos l.indent))) l.fn.self ≡ at_depth (pos l.indent) l.depth (star (next_relation (pos l.indent))) l.self
+invariant-next_relations-relations l = at_depth l.indent.columns l.depth (star (next_relation l.indent.columns)) l.fn.self ≡ at_depth l.indent.columns l.depth (star (next_relation l.indent.columns)) l.self
 
 abbrev pub decreases-next_relations-relations : goal.decreases-next_relations-relations
 decreases-next_relations-relations l = size l.self
 
 abbrev pub invariant-next_summands-summands : goal.invariant-next_summands-summands
-invariant-next_summands-summands l = at_depth (pos l.indent) l.depth (star (next_summand (pos l.indent))) l.fn.self ≡ at_depth (pos l.indent) l.depth (star (next_summand (pos l.indent))) l.self
+invariant-next_summands-summands l = at_depth l.indent.columns l.depth (star (next_summand l.indent.columns)) l.fn.self ≡ at_depth l.indent.columns l.depth (star (next_summand l.indent.columns)) l.self
 
 abbrev pub decreases-next_summands-summands : goal.decreases-next_summands-summands
 decreases-next_summands-summands l = size l.self
 
 abbrev pub invariant-next_factors-factors : goal.invariant-next_factors-factors
-invariant-next_factors-factors l = at_depth (pos l.indent) l.depth (star (next_factor (pos l.indent))) l.fn.self ≡ at_depth (pos l.indent) l.depth (star (next_factor (pos l.indent))) l.self
+invariant-next_factors-factors l = at_depth l.indent.columns l.depth (star (next_factor l.indent.columns)) l.fn.self ≡ at_depth l.indent.columns l.depth (star (next_factor l.indent.columns)) l.self
 
 abbrev pub decreases-next_factors-factors : goal.decreases-next_factors-factors
 decreases-next_factors-factors l = size l.self
 
 abbrev pub invariant-next_accesses-accesses : goal.invariant-next_accesses-accesses
-invariant-next_accesses-accesses l = at_depth (pos l.indent) l.depth (star (next_access (pos l.indent))) l.fn.self ≡ at_depth (pos l.indent) l.depth (star (next_access (pos l.indent))) l.self
+invariant-next_accesses-accesses l = at_depth l.indent.columns l.depth (star (next_access l.indent.columns)) l.fn.self ≡ at_depth l.indent.columns l.depth (star (next_access l.indent.columns)) l.self
 
 abbrev pub decreases-next_accesses-accesses : goal.decreases-next_accesses-accesses
 decreases-next_accesses-accesses l = size l.self
 
 abbrev pub invariant-next_exprs-exprs : goal.invariant-next_exprs-exprs
-invariant-next_exprs-exprs l = often_at (pos l.indent) l.depth K.Comma (line ▸ inner) l.fn.self ≡ often_at (pos l.indent) l.depth K.Comma (line ▸ inner) l.self
+invariant-next_exprs-exprs l = often_at l.indent.columns l.depth K.Comma (line ▸ inner) l.fn.self ≡ often_at l.indent.columns l.depth K.Comma (line ▸ inner) l.self
 
 abbrev pub decreases-next_exprs-exprs : goal.decreases-next_exprs-exprs
 decreases-next_exprs-exprs l = size l.self
 
 abbrev pub invariant-next_inits-inits : goal.invariant-next_inits-inits
-invariant-next_inits-inits l = often_at (pos l.indent) l.depth K.Comma (line ▸ init (pos l.indent)) l.fn.self ≡ often_at (pos l.indent) l.depth K.Comma (line ▸ init (pos l.indent)) l.self
+invariant-next_inits-inits l = often_at l.indent.columns l.depth K.Comma (line ▸ init l.indent.columns) l.fn.self ≡ often_at l.indent.columns l.depth K.Comma (line ▸ init l.indent.columns) l.self
 
 abbrev pub decreases-next_inits-inits : goal.decreases-next_inits-inits
 decreases-next_inits-inits l = size l.self

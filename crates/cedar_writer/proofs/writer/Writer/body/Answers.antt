@@ -1,4 +1,4 @@
-use Rattle.std.proofs.Common.{pos, sym, ap, ◌∙◌}
+use Rattle.std.proofs.Common.{sym, ap, ◌∙◌}
 use Rattle.cedar_lines.specs.Rules.{◌▸◌}
 use Rattle.cedar_lines.specs.Lines.{bare}
 use Rattle.cedar_lines.specs.Writing as W
@@ -9,11 +9,11 @@ use Rattle.cedar_writer.proofs.Flat.{bare_around, broken_around}
 use Rattle.cedar_writer.proofs.writer.Writer.body.Goals as goal
 
 pub returns-then-looking : goal.returns-then-looking
-returns-then-looking c = taken (W.looking bare c.args.self.now) (around (pos c.args.indent) c.args.depth (bare_scope (pos c.args.indent) ▸ policy_end (pos c.args.indent)) c.args.self.now)
-    (around (pos c.args.indent) c.args.depth (broken_scope (pos c.args.indent) ▸ policy_end (pos c.args.indent)) c.args.self.now) _ (sym c.looking.ensures ∙ c.if-looking.true)
-    (c.policy_end.ensures ∙ ap (around (pos c.args.indent) c.args.depth (policy_end (pos c.args.indent))) (c.bare_scope.ensures ∙ bare_around (pos c.args.indent) c.args.depth c.args.self.now))
+returns-then-looking c = taken (W.looking bare c.args.self.now) (around c.args.indent.columns c.args.depth (bare_scope c.args.indent.columns ▸ policy_end c.args.indent.columns) c.args.self.now)
+    (around c.args.indent.columns c.args.depth (broken_scope c.args.indent.columns ▸ policy_end c.args.indent.columns) c.args.self.now) _ (sym c.looking.ensures ∙ c.if-looking.true)
+    (c.policy_end.ensures ∙ ap (around c.args.indent.columns c.args.depth (policy_end c.args.indent.columns)) (c.bare_scope.ensures ∙ bare_around c.args.indent.columns c.args.depth c.args.self.now))
 
 pub returns-else-looking : goal.returns-else-looking
-returns-else-looking c = left (W.looking bare c.args.self.now) (around (pos c.args.indent) c.args.depth (bare_scope (pos c.args.indent) ▸ policy_end (pos c.args.indent)) c.args.self.now)
-    (around (pos c.args.indent) c.args.depth (broken_scope (pos c.args.indent) ▸ policy_end (pos c.args.indent)) c.args.self.now) _ (sym c.looking.ensures ∙ c.if-looking.false)
-    (c.policy_end-else-looking.ensures ∙ ap (around (pos c.args.indent) c.args.depth (policy_end (pos c.args.indent))) (c.broken_scope.ensures ∙ broken_around (pos c.args.indent) c.args.depth c.args.self.now))
+returns-else-looking c = left (W.looking bare c.args.self.now) (around c.args.indent.columns c.args.depth (bare_scope c.args.indent.columns ▸ policy_end c.args.indent.columns) c.args.self.now)
+    (around c.args.indent.columns c.args.depth (broken_scope c.args.indent.columns ▸ policy_end c.args.indent.columns) c.args.self.now) _ (sym c.looking.ensures ∙ c.if-looking.false)
+    (c.policy_end-else-looking.ensures ∙ ap (around c.args.indent.columns c.args.depth (policy_end c.args.indent.columns)) (c.broken_scope.ensures ∙ broken_around c.args.indent.columns c.args.depth c.args.self.now))

@@ -1,4 +1,4 @@
-use Rattle.std.proofs.Common.{pos, ap, ◌∙◌}
+use Rattle.std.proofs.Common.{ap, ◌∙◌}
 use Rattle.cedar_lines.specs.Rules.{◌∥◌}
 use Rattle.cedar_writer.specs.Depths.{alone}
 use Rattle.cedar_lines.specs.Lines.{entity}
@@ -8,4 +8,4 @@ use Rattle.cedar_writer.proofs.writer.Writer.entities_operand.Goals as goal
 
 pub returns : goal.returns
 unfolding entities_operand
-returns c = c.end_operand.ensures ∙ ap (alone (end_operand (pos c.args.indent))) (c.entity_or_entities.ensures ∙ ap (alone (entity ∥ entities (pos c.args.indent))) c.begin_operand.ensures)
+returns c = c.end_operand.ensures ∙ ap (alone (end_operand c.args.indent.columns)) (c.entity_or_entities.ensures ∙ ap (alone (entity ∥ entities c.args.indent.columns)) c.begin_operand.ensures)

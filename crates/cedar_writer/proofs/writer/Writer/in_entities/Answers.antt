@@ -1,7 +1,7 @@
-use Rattle.std.proofs.Common.{pos, ap, ◌∙◌}
+use Rattle.std.proofs.Common.{ap, ◌∙◌}
 use Rattle.cedar_writer.specs.Depths.{alone}
 use Rattle.cedar_writer.specs.Parts.{end_compared, entities_operand}
 use Rattle.cedar_writer.proofs.writer.Writer.in_entities.Goals as goal
 
 pub returns : goal.returns
-returns c = c.end_compared.ensures ∙ ap (alone end_compared) (c.entities_operand.ensures ∙ ap (alone (entities_operand (pos c.args.indent))) c.begin_compared.ensures)
+returns c = c.end_compared.ensures ∙ ap (alone end_compared) (c.entities_operand.ensures ∙ ap (alone (entities_operand c.args.indent.columns)) c.begin_compared.ensures)

@@ -1,4 +1,4 @@
-use Rattle.std.proofs.Common.{pos, ◌≡◌}
+use Rattle.std.proofs.Common.{◌≡◌}
 use Rattle.cedar_lines.specs.Rules.{star}
 use Rattle.cedar_lines.specs.Writing.{size}
 use Rattle.cedar_writer.specs.Depths.{around}
@@ -6,7 +6,7 @@ use Rattle.cedar_writer.specs.Parts.{next_cond}
 use Rattle.cedar_writer.proofs.writer.Writer.next_conds.Given as goal
 
 abbrev pub invariant-conds : goal.invariant-conds
-invariant-conds l = around (pos l.indent) l.depth (star (next_cond (pos l.indent))) l.fn.self ≡ around (pos l.indent) l.depth (star (next_cond (pos l.indent))) l.self
+invariant-conds l = around l.indent.columns l.depth (star (next_cond l.indent.columns)) l.fn.self ≡ around l.indent.columns l.depth (star (next_cond l.indent.columns)) l.self
 
 abbrev pub decreases-conds : goal.decreases-conds
 decreases-conds l = size l.self

@@ -1,6 +1,6 @@
-use Rattle.std.proofs.Common.{pos, ap, ◌∙◌, []}
+use Rattle.std.proofs.Common.{ap, ◌∙◌, []}
 use Rattle.cedar_tokens.specs.Kinds.{is}
-use Rattle.cedar_lines.specs.Marks as M
+use Rattle.cedar_print.specs.WrittenMarks as M
 use Rattle.cedar_lines.specs.Writing as W
 use Rattle.cedar_writer.specs.Depths.{alone}
 use Rattle.cedar_writer.specs.Parts.{scoped, scoped_end}
@@ -8,4 +8,4 @@ use Rattle.cedar_writer.proofs.writer.Writer.scoped.Goals as goal
 
 pub returns : goal.returns
 unfolding scoped
-returns c = c.scoped_end.ensures ∙ ap (alone (scoped_end (pos c.args.indent) c.args.slot)) (c.take.ensures ∙ ap (W.take (is c.args.variable) [] []) (c.put-2.ensures ∙ ap (W.add M.begin) (c.put.ensures ∙ ap (W.add M.begin) c.lift.ensures)))
+returns c = c.scoped_end.ensures ∙ ap (alone (scoped_end c.args.indent.columns c.args.slot)) (c.take.ensures ∙ ap (W.take (is c.args.variable) [] []) (c.put-2.ensures ∙ ap (W.add M.begin) (c.put.ensures ∙ ap (W.add M.begin) c.lift.ensures)))

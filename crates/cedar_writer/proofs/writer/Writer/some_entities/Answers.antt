@@ -1,4 +1,4 @@
-use Rattle.std.proofs.Common.{pos, sym, ap, ◌∙◌}
+use Rattle.std.proofs.Common.{sym, ap, ◌∙◌}
 use Rattle.cedar_tokens.specs.declared.kind.Kind.TheVariants as K
 use Rattle.cedar_lines.specs.Rules.{line, ◌▸◌}
 use Rattle.cedar_lines.specs.Lines.{items}
@@ -11,5 +11,5 @@ use Rattle.cedar_writer.proofs.writer.Writer.some_entities.Goals as goal
 
 pub returns-then-begins : goal.returns-then-begins
 unfolding some_entities
-returns-then-begins c = taken (begins is_ident c.args.self.now) (alone (items (entity_operand (pos c.args.indent))) c.args.self.now) c.args.self.now _ (sym c.begins.ensures ∙ c.if-begins.true)
-    (c.last_comma.ensures ∙ ap (alone last_comma) (c.next_entities.ensures ∙ ap (often K.Comma (line ▸ entity_operand (pos c.args.indent))) c.entity_operand.ensures))
+returns-then-begins c = taken (begins is_ident c.args.self.now) (alone (items (entity_operand c.args.indent.columns)) c.args.self.now) c.args.self.now _ (sym c.begins.ensures ∙ c.if-begins.true)
+    (c.last_comma.ensures ∙ ap (alone last_comma) (c.next_entities.ensures ∙ ap (often K.Comma (line ▸ entity_operand c.args.indent.columns)) c.entity_operand.ensures))

@@ -1,0 +1,7 @@
+pub mod Columns
+pub mod Beginnings
+pub mod Facts
+pub mod Printing
+pub mod Units
+pub mod Clean
+pub mod Cleaned

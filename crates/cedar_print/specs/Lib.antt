@@ -1,0 +1,5 @@
+pub mod WrittenMarks
+pub mod Marks
+pub mod Clean
+pub mod Laws
+pub mod Inside

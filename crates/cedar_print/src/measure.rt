@@ -1,0 +1,101 @@
+//! The first pass over marks, from the last to the first. It finds what the second one needs about groups and breaks.
+ghost use Rattle.std.specs.Prelude.{◌≡◌, ◌+◌, ◌^◌, ◌<◌, ◌≤◌, [], OnOk};
+ghost use Rattle.cedar_print.specs.Marks.{mark_of, marks_of};
+ghost use Rattle.cedar_print.specs.Inside.Measured.{before, before_break, facts, facts_of};
+
+use crate::mark::Mark;
+use cedar_layout::layout::columns::columns_of;
+use std::alloc::{AllocError, Global};
+
+/// The columns of a hard break in a group that is laid out flat: more than any width, so that the group is broken.
+const TOO_WIDE: u128 = 1 << 64;
+
+/// What is known at a mark about the marks from there on.
+#[derive(Drop)]
+pub(crate) struct Known {
+    /// Their columns, all laid out flat.
+    pub columns: u128,
+    /// The columns of those from the next break on.
+    pub stop: u128,
+    /// For each end of what began earlier: the columns from the next break after that end on, if it is a group's. The last
+    /// one is that of the first end.
+    pub ends: Vec<Option<u128>>,
+    /// For each break the columns after it. The last one is that of the first break.
+    pub breaks: Vec<u128>,
+    /// For each beginning what is known of its end. The last one is that of the first beginning.
+    pub begins: Vec<Option<u128>>,
+}
+
+impl Known {
+    /// Nothing is known, and there is no room yet.
+    pub(crate) fn new(alloc: Global) -> Known {
+        Known {
+            columns: 0,
+            stop: 0,
+            ends: Vec::new(alloc),
+            breaks: Vec::new(alloc),
+            begins: Vec::new(alloc),
+        }
+    }
+
+    /// Finds what is known at the first of these marks.
+    pub(crate) fn measure(&mut self, marks: &[Mark<'_>]) -> Result<(), AllocError>
+        ensures facts { OnOk result (facts_of self.new ≡ facts (marks_of marks.now)) }
+        ensures columns { OnOk result (self.new.columns + 2 ^ 64 ≤ 2 ^ 128) }
+    {
+        self.go_to_the_end();
+        for i in (0..marks.len()).rev() {
+            self.take_up(&marks[i])?;
+        }
+        Ok(())
+    }
+
+    /// Goes to the end, where nothing follows.
+    fn go_to_the_end(&mut self)
+        ensures { facts_of self.new ≡ facts [] }
+    {
+        self.columns = 0;
+        self.stop = 0;
+        self.ends.clear();
+        self.breaks.clear();
+        self.begins.clear();
+    }
+
+    /// Goes on to what is known before a mark.
+    #[tactic(auto, using(crate::proofs::Columns::columns_of_space))]
+    fn take_up(&mut self, mark: &Mark<'_>) -> Result<(), AllocError>
+        requires { self.old.columns + 2 ^ 64 < 2 ^ 128 }
+        ensures facts { OnOk result (facts_of self.new ≡ before (mark_of mark.now) (facts_of self.old)) }
+        ensures columns { self.new.columns ≤ self.old.columns + 2 ^ 64 }
+    {
+        match mark {
+            Mark::Text(text) => self.columns += columns_of(text),
+            Mark::Space => self.columns += 1,
+            Mark::Line => self.break_before(1)?,
+            Mark::LineOrNil => self.break_before(0)?,
+            Mark::Hard => self.break_before(TOO_WIDE)?,
+            Mark::Nest(_) => {
+                self.ends.pop();
+            }
+            Mark::Begin => {
+                let end = self.ends.pop().unwrap_or(None);
+                self.begins.push(end)?;
+            }
+            Mark::EndNest | Mark::EndNothing => self.ends.push(None)?,
+            Mark::EndGroup => self.ends.push(Some(self.stop))?,
+        }
+        Ok(())
+    }
+
+    /// Goes on to what is known before a break that takes this many columns where it is laid out flat.
+    fn break_before(&mut self, columns: u128) -> Result<(), AllocError>
+        requires { self.old.columns + columns < 2 ^ 128 }
+        ensures facts { OnOk result (facts_of self.new ≡ before_break columns (facts_of self.old)) }
+        ensures columns { self.new.columns ≤ self.old.columns + columns }
+    {
+        self.breaks.push(self.columns)?;
+        self.columns += columns;
+        self.stop = self.columns;
+        Ok(())
+    }
+}

@@ -1,0 +1,3 @@
+-- Definitions cited only by contracts of private functions.
+pub mod Lexed
+pub mod Commas

@@ -1,0 +1,5 @@
+<<<<<<< HEAD
+permit (principal, action, resource);
+=======
+permit (principal, action, resource);
+>>>>>>> other

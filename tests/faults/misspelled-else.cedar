@@ -1,0 +1,1 @@
+permit (principal, action, resource) when { if true then 1 els 2 };
