@@ -9,7 +9,8 @@ use Rattle.cedar_grammar.specs.Languages.{Lang, ◌⋄◌, ◌∪◌, Many, Mayb
 
 -- true false if then else in is like has
 abbrev pub reserved : List (List ℕ)
-reserved = codes "true" ∷ codes "false" ∷ codes "if" ∷ codes "then" ∷ codes "else" ∷ codes "in" ∷ codes "is" ∷ codes "like" ∷ codes "has" ∷ []
+reserved = codes "true" ∷ codes "false" ∷ codes "if" ∷ codes "then" ∷ codes "else"
+    ∷ codes "in" ∷ codes "is" ∷ codes "like" ∷ codes "has" ∷ []
 
 -- a word that is none of them
 abbrev pub is_identifier : List ℕ → Bool

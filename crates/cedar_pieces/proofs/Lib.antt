@@ -1,4 +1,3 @@
-pub mod Held
 pub mod Semicolons
 pub mod Scans
 pub mod Prefixes

@@ -1,3 +1,2 @@
-pub mod SameTokens
 pub mod Pieces
 pub mod Inside

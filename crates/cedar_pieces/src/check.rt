@@ -1,36 +1,12 @@
-//! Whether a text has given tokens, and whether tokens and comments are the same, numbers by value.
+//! Whether tokens and comments are the same, numbers by value.
 ghost use Rattle.std.specs.Prelude.{◌≡◌, ◌↔◌, IsTrue, map};
 ghost use Rattle.cedar_tokens.specs.Listing.{comments, token_value};
 ghost use Rattle.cedar_tokens.specs.Tokens.{decorated};
 ghost use Rattle.cedar_laws.specs.Output.{with_value};
-ghost use Rattle.cedar_pieces.specs.SameTokens.{HasTheTokens};
 
 use cedar_parser_steps::lexeme::is_number;
 use cedar_parser_steps::literals::without_zeros;
-use cedar_tokens::lexer::UnitKind;
 use cedar_tokens::token::{WrappedToken, get_comment};
-use cedar_tokens::units::Units;
-
-/// Whether `text` splits and its tokens are `tokens`, numbers by value. Ignores comments, and allocates nothing.
-pub fn has_tokens(text: &str, tokens: &[WrappedToken<'_>]) -> bool
-    ensures { IsTrue result ↔ HasTheTokens text.now tokens.now }
-{
-    let mut found = 0;
-    let mut at = 0;
-    for unit in Units::new(text) {
-        at += unit.text.len();
-        if unit.kind == UnitKind::Token {
-            let Some(token) = tokens.get(found) else {
-                return false;
-            };
-            if !same_value(unit.text, token.token.text()) {
-                return false;
-            }
-            found += 1;
-        }
-    }
-    at == text.len() && found == tokens.len()
-}
 
 // Whether the tokens are equal by value.
 fn same_value(a: &str, b: &str) -> bool

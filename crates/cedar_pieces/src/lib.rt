@@ -1,4 +1,4 @@
-//! The pieces of a text, one for each policy, and whether a text has given tokens.
+//! The pieces of a text, one for each policy, and whether tokens are the same.
 #![tactic(auto)]
 
 pub mod check;

@@ -18,7 +18,6 @@ ghost use Rattle.cedar_policy_formatter.specs.Texts.{IsTextOf, FailsCheck};
 use cedar_cst::cst::laws::{accepted_is_not_refused, tree_is_of_accepted};
 use cedar_cst::cst::{FormatError, Policies, parse_policies, same_tree};
 use cedar_documents::config::Config;
-use cedar_documents::laws as laws_by_trees;
 pub use cedar_documents::laws::{
     accepted_texts_have_trees, cleaning_is_unique, cleaning_keeps_the_list, cleaning_takes_blanks,
     every_layout_reads_back, every_list_is_good, lists_join, outputs_are_determined,

@@ -26,7 +26,8 @@ with_trailing_of d c = record { text = d.text; leading = d.leading; trailing = c
 
 -- the bracket b with the lines of the comma c before its own: c's leading lines, then the comments of c's trailing text
 abbrev pub with_lines_of : Decorated → Decorated → Decorated
-with_lines_of b c = record { text = b.text; leading = c.leading ++ (comments c.trailing ++ b.leading); trailing = b.trailing }
+with_lines_of b c =
+    record { text = b.text; leading = c.leading ++ (comments c.trailing ++ b.leading); trailing = b.trailing }
 
 -- the token d and the list after it, without the trailing commas after d
 abbrev pub plain_from : Decorated → List Decorated → List Decorated
