@@ -55,6 +55,7 @@ static ROWS: [Row; 5] = [
     },
 ];
 
+#[tactic(auto, using(crate::proofs::Whole::whole_lexemes, crate::proofs::Whole::whole_piece))]
 fn expect_row(
     rt: &impl Abort,
     printer: &mut PolicyPrinter<'static>,
@@ -65,11 +66,14 @@ fn expect_row(
     let Some(len) = read_piece(row.text, lexemes)? else {
         panic!(rt; "{}", row.name);
     };
+    if len != row.text.len() {
+        panic!(rt; "{}", row.name);
+    }
     let indent = Indent {
         columns: row.columns,
     };
     match (
-        printer.print(&row.text[..len], lexemes, row.width, indent, out),
+        printer.print(row.text, lexemes, row.width, indent, out),
         row.printed,
     ) {
         (Ok(()), Some(printed)) => assert_eq!(rt; out.as_str(), printed, "{}", row.name),
