@@ -1,39 +1,45 @@
 -- What is laid out of a text with one policy is its output, and has its tokens.
 use Rattle.std.proofs.Common.{◌≡◌, ℕ, ℤ, List, [], ◌∷◌, ◌++◌, length, map, refl, ap, arith, sym, ◌∙◌, subst, append-nil}
 use Rattle.std.specs.Prelude.{Result, Ok, Err, MatchResult}
-use Rattle.std.specs.List.{AllZip}
+use Rattle.std.specs.List.{AllByRecursion}
 use Rattle.std.specs.Str.{IsUtf8}
 use Rattle.std.proofs.lemmas.List.{take_all}
 use Rattle.cedar_tokens.specs.Bytes.{line_feed}
-use Rattle.cedar_tokens.specs.Split.{Splits}
 use Rattle.cedar_tokens.specs.Listing.{Decorated, Listing, IsListing, listing, token_value}
 use Rattle.cedar_tokens.specs.PlainList.{plain_list}
 use Rattle.cedar_tokens.proofs.Scanning.{listing_unique}
-use Rattle.cedar_layout.specs.Cleaning.{IsCleaned as IsCleanedByPieces}
-use Rattle.cedar_layout.specs.Layout.{Doc, IsTheLayoutAt}
+use Rattle.cedar_layout.specs.Layout.{Doc}
 use Rattle.cedar_grammar.specs.Laws.{AreTokens}
 use Rattle.cedar_grammar.specs.Texts.{greatest_depth}
 use Rattle.cedar_grammar.proofs.Texts.Grammars.{texts_are_tokens}
 use Rattle.cedar_grammar.proofs.Texts.Listings.{listing_texts}
 use Rattle.cedar_grammar.proofs.Trees.Relabelling.{map_map}
-use Rattle.cedar_laws.specs.Output.{closing_text}
-use Rattle.cedar_laws.proofs.Grammatical.{tree_of_accepted, plain_tree}
+use Rattle.cedar_laws.specs.Output.{closing_text, tokens_of}
+use Rattle.cedar_laws.specs.Fit.{PartFit}
+use Rattle.cedar_laws.specs.Good.{IsGood}
+use Rattle.cedar_laws.specs.Table.{part_table}
+use Rattle.cedar_laws.proofs.GoodLists.{every_list_good, plain_list_good}
+use Rattle.cedar_laws.proofs.Grammatical.{grammar_of, tree_fits, tree_of_accepted, plain_tree}
 use Rattle.cedar_parser_steps.specs.Lexemes.{AreLexemes}
 use Rattle.cedar_parser_steps.specs.declared.lexeme.Lexeme.{Lexeme}
 use Rattle.cedar_pieces.specs.Pieces.{IsFirstPiece}
 use Rattle.cedar_pieces.proofs.Lists.{piece_ends}
 use Rattle.cedar_slices.specs.SameTokens.{HasTheTokens, value_of}
-use Rattle.cedar_written.specs.Cleaning.{IsCleaned}
 use Rattle.cedar_written.specs.Layout.{layout}
 use Rattle.cedar_written.specs.Output.{IsOutputOf}
 use Rattle.cedar_written.specs.Texts.{Accepted}
 use Rattle.cedar_written.specs.Written.{Policy, PolicySet}
 use Rattle.cedar_written.proofs.Canonical.{accepted_has_output, output_accepted, output_list}
-use Rattle.cedar_written.proofs.Cleaning.{cleanings_agree}
 use Rattle.cedar_written.proofs.Layouts.{layouts_agree}
-use Rattle.cedar_written.proofs.Lists.{lists_agree, documents_are_unique}
+use Rattle.cedar_written.proofs.Lists.{lists_agree, documents_are_unique, tables_are_documents}
 use Rattle.cedar_written.proofs.Outputs.{accepted_agree}
+use Rattle.cedar_grammar.specs.TypedTrees.{Clause, policy, part_yield}
+use Rattle.cedar_tokens.proofs.Lists.{All-parts}
+use Rattle.cedar_print.specs.Clean.{IsTheCleanLayoutAt}
+use Rattle.cedar_print.specs.Laws.{SplitsByPieces}
 use Rattle.cedar_print.specs.WrittenMarks.{Mark}
+use Rattle.cedar_print.proofs.Cleaned.{clean_layouts_are_cleaned}
+use Rattle.cedar_writer.proofs.Cutting.{policy_splits}
 use Rattle.cedar_writer.specs.Outcomes.{IsOfTheGrammar}
 use Rattle.cedar_writer.specs.Printed.{HasMarks, IsLaidOut, IsNotPolicy, IsNotPrinted, IsPolicyRead}
 use Rattle.cedar_writer.specs.declared.printer.NotPrinted.{NotPrinted}
@@ -56,19 +62,12 @@ all_read i ts ms left z (xs, us, d, s, l, m, p) = (
   m,
 )
 
--- a layout that was appended to an empty text, cleaned, appended to one, and fed
-pub laid_out : (w : ℕ) (d : Doc) (empty laid text bare out fed : List ℕ) → empty ≡ []
-    → ((t : List ℕ) × IsTheLayoutAt w d t × (laid ≡ empty ++ t)) → text ≡ laid → bare ≡ []
-    → ((t : List ℕ) × IsCleanedByPieces text t × (out ≡ bare ++ t))
-    → fed ≡ out ++ (line_feed ∷ [])
-    → (x y : List ℕ) × IsTheLayoutAt w d x × IsCleanedByPieces x y × (fed ≡ y ++ (line_feed ∷ []))
-laid_out w d empty laid text bare out fed b (t, l, r) f n (u, k, e) h = (
-  t,
-  u,
-  l,
-  subst (λ z. IsCleanedByPieces z u) (f ∙ r ∙ ap (λ z. z ++ t) b) k,
-  h ∙ ap (λ z. z ++ (line_feed ∷ [])) (e ∙ ap (λ z. z ++ u) n),
-)
+-- a layout that was appended to an empty text, and fed
+pub laid_out : (w : ℕ) (d : Doc) (bare out fed : List ℕ) → bare ≡ []
+    → ((t : List ℕ) × IsTheCleanLayoutAt w d t × (out ≡ bare ++ t)) → fed ≡ out ++ (line_feed ∷ [])
+    → (y : List ℕ) × IsTheCleanLayoutAt w d y × (fed ≡ y ++ (line_feed ∷ []))
+laid_out w d bare out fed n (t, l, e) h =
+    (t, l, h ∙ ap (λ z. z ++ (line_feed ∷ [])) (e ∙ ap (λ z. z ++ t) n))
 
 -- ---- refusals
 
@@ -81,14 +80,6 @@ not_accepted i text l s p Unsound h = h
 not_accepted i text l s p OutOfMemory h = tt
 
 -- ---- outputs
-
--- the layout that was cleaned splits
-layout_splits : (w : ℕ) (ds : List Doc) (ts : List (List ℕ)) (d : Doc) → ds ≡ d ∷ []
-    → AllZip (λ d t. IsCleaned (layout w d) t) ds ts → Splits (layout w d)
-layout_splits w [] ts d e a = absurd cc
-layout_splits w (c ∷ ds) [] d e a = absurd a
-layout_splits w (c ∷ ds) (t ∷ ts) d e a =
-    let same : c ≡ d = cc in subst (λ z. Splits (layout w z)) same (a.0.units, a.0.split)
 
 module _ (w : ℕ) (i : ℤ) (text : List ℕ) (utf8 : IsUtf8 text) (p : IsFirstPiece text (length text))
     (l : Listing) (s : IsListing text l) (a : Accepted text) where
@@ -124,17 +115,32 @@ module _ (w : ℕ) (i : ℤ) (text : List ℕ) (utf8 : IsUtf8 text) (p : IsFirst
   plain_not_accepted ts k Unsound h = h
   plain_not_accepted ts k OutOfMemory h = tt
 
-  -- the document of the plain list, laid out and cleaned, and a line feed
-  pub printed : (d : Doc) (x y out : List ℕ) → Policy i greatest_depth (plain_list l.tokens) d
-      → IsTheLayoutAt w d x → IsCleanedByPieces x y → out ≡ y ++ (line_feed ∷ [])
-      → IsOutputOf w i text out
-  printed d x y out k h c e =
-      let written = alone i greatest_depth (plain_list l.tokens) d k in
-      let one : some.1.documents ≡ d ∷ [] =
-      documents_are_unique i greatest_depth greatest_depth (plain_list l.tokens) some.1.documents
-      (d ∷ []) plain_twice plain_written written in
-      let laid : x ≡ layout w d = (layouts_agree w d x).0 h in
-      let splits = layout_splits w some.1.documents some.1.texts d one some.1.cleaned in
+  -- the layouts of the document of the plain list split by their pieces
+  splits_by_pieces : (d : Doc) → Policy i greatest_depth (plain_list l.tokens) d → SplitsByPieces w d
+  splits_by_pieces d k =
+      let t = tree_of_accepted text l ((accepted_agree text).1 a) s in
+      let tables = tables_are_documents i greatest_depth (plain_list l.tokens) t.0 plain_twice
+      (grammar_of t.0 (plain_list l.tokens) t.1 t.2) in
+      let e : map (part_table i) t.0 ≡ d ∷ [] =
+      documents_are_unique i greatest_depth greatest_depth (plain_list l.tokens)
+      (map (part_table i) t.0) (d ∷ []) plain_twice tables
+      (alone i greatest_depth (plain_list l.tokens) d k) in
+      let good = plain_list_good l.tokens (every_list_good text l utf8 s).0 in
+      only t.0 e (tree_fits t.0 t.1) (subst (AllByRecursion IsGood) (sym t.2) good)
+    where
+      only : (ps : List (Clause Decorated policy)) → map (part_table i) ps ≡ d ∷ []
+          → AllByRecursion PartFit ps → AllByRecursion IsGood (tokens_of ps) → SplitsByPieces w d
+      only [] e f g = absurd cc
+      only (q ∷ []) e f g = let same : part_table i q ≡ d = cc in subst (SplitsByPieces w) same
+          (policy_splits w i q f.0 (All-parts IsGood (part_yield q) [] g).0)
+      only (q ∷ (r ∷ rs)) e f g = absurd cc
+
+  -- the document of the plain list, laid out without blank lines, and a line feed
+  pub printed : (d : Doc) (y out : List ℕ) → Policy i greatest_depth (plain_list l.tokens) d
+      → IsTheCleanLayoutAt w d y → out ≡ y ++ (line_feed ∷ []) → IsOutputOf w i text out
+  printed d y out k c e =
+      let clean = clean_layouts_are_cleaned w d (layout w d) y (splits_by_pieces d k)
+      ((layouts_agree w d (layout w d)).1 refl) c in
       let closed = piece_ends text (length text) l p.piece (subst (λ z. IsListing z l)
       (sym (take_all (length text) text (omega arith))) s) in
       record {
@@ -142,13 +148,9 @@ module _ (w : ℕ) (i : ℤ) (text : List ℕ) (utf8 : IsUtf8 text) (p : IsFirst
         list = l;
         is_list = s;
         documents = d ∷ [];
-        written = written;
+        written = alone i greatest_depth (plain_list l.tokens) d k;
         texts = y ∷ [];
-        cleaned = (
-          (cleanings_agree (layout w d) y splits).0
-              (subst (λ z. IsCleanedByPieces z y) laid c),
-          tt,
-        );
+        cleaned = (clean, tt);
         output = e ∙ ap (λ z. y ++ (line_feed ∷ closing_text z)) (sym closed.0);
       }
 
@@ -213,8 +215,8 @@ module _ (w : ℕ) (i : ℤ) (text : List ℕ) (utf8 : IsUtf8 text) (p : IsFirst
   output_of =
       let m = r.marks in
       let x = h m.0 m.2 in
-      printed w i text utf8 p r.list r.is_list r.accepted m.0 x.0 x.1 out
-      (subst (λ z. Policy i greatest_depth z m.0) r.plain m.1) x.2 x.3 x.4
+      printed w i text utf8 p r.list r.is_list r.accepted m.0 x.0 out
+      (subst (λ z. Policy i greatest_depth z m.0) r.plain m.1) x.1 x.2
 
   pub has_tokens_read : HasTheTokens out ts
   has_tokens_read = subst (HasTheTokens out) (sym r.plain)

@@ -4,8 +4,8 @@ use Rattle.cedar_tokens.specs.Bytes.{line_feed}
 use Rattle.cedar_tokens.specs.Listing.{Decorated, Listing, IsListing}
 use Rattle.cedar_tokens.specs.PlainList.{plain_list}
 use Rattle.cedar_grammar.specs.Texts.{greatest_depth}
-use Rattle.cedar_layout.specs.Cleaning.{IsCleaned}
-use Rattle.cedar_layout.specs.Layout.{Doc, IsTheLayoutAt}
+use Rattle.cedar_layout.specs.Layout.{Doc}
+use Rattle.cedar_print.specs.Clean.{IsTheCleanLayoutAt}
 use Rattle.cedar_print.specs.WrittenMarks.{Mark, AreMarks}
 use Rattle.cedar_written.specs.Written as written
 use Rattle.cedar_written.specs.Texts.{Accepted}
@@ -28,9 +28,9 @@ IsNotPolicy i ts NotAccepted = (d : Doc) → ¬ (written.Policy i greatest_depth
 IsNotPolicy i ts Unsound = ⊥
 IsNotPolicy i ts OutOfMemory = ⊤
 
--- the text is the cleaned layout of the marks' document at the width, and a line feed
+-- the text is the layout of the marks' document at the width, without blank lines, and a line feed
 abbrev pub IsLaidOut : ℕ → List Mark → List ℕ → Type 0
-IsLaidOut w ms out = (d : Doc) → AreMarks ms d → (x y : List ℕ) × IsTheLayoutAt w d x × IsCleaned x y × (out ≡ y ++ (line_feed ∷ []))
+IsLaidOut w ms out = (d : Doc) → AreMarks ms d → (y : List ℕ) × IsTheCleanLayoutAt w d y × (out ≡ y ++ (line_feed ∷ []))
 
 -- the text is accepted, and these are its tokens without trailing commas and the marks of their document
 pub record IsPolicyRead (i : ℤ) (text : List ℕ) (ts : List Decorated) (ms : List Mark) : Type 0 where

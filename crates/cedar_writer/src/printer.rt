@@ -5,15 +5,12 @@ ghost use Rattle.cedar_grammar.specs.Laws.{AreTokens};
 ghost use Rattle.cedar_grammar.specs.Texts.{greatest_depth};
 ghost use Rattle.cedar_parser_steps.specs.Lexemes.{AreLexemes};
 ghost use Rattle.cedar_pieces.specs.Pieces.{IsFirstPiece};
-ghost use Rattle.cedar_layout.specs.Cleaning.{IsCleaned};
-ghost use Rattle.cedar_layout.specs.Layout.{Doc, IsTheLayoutAt};
 ghost use Rattle.cedar_print.specs.Marks.{marks_of};
 ghost use Rattle.cedar_print.specs.WrittenMarks.{AreMarks};
 ghost use Rattle.cedar_written.specs.Output.{IsOutputOf};
 ghost use Rattle.cedar_writer.specs.Printed.{HasMarks, IsLaidOut, IsNotPolicy, IsNotPrinted, IsPolicyRead};
 
 use crate::policy::{Refusal, write_policy};
-use cedar_layout::utils::append_without_empty_lines;
 use cedar_parser_steps::lexeme::Lexeme;
 use cedar_print::mark::{Indent, Mark};
 use cedar_print::printer::Printer;
@@ -53,7 +50,6 @@ pub struct PolicyPrinter<'src> {
     tokens: Vec<Token<'src>>,
     marks: Vec<Mark<'src>>,
     printer: Printer,
-    layout: String,
 }
 
 impl<'src> PolicyPrinter<'src> {
@@ -63,7 +59,6 @@ impl<'src> PolicyPrinter<'src> {
             tokens: Vec::new(alloc),
             marks: Vec::new(alloc),
             printer: Printer::new(alloc),
-            layout: String::new(alloc),
         }
     }
 
@@ -136,10 +131,8 @@ impl<'src> PolicyPrinter<'src> {
         ensures tokens { self.new.tokens ≡ self.old.tokens }
         ensures layout { OnOk result (IsLaidOut width (marks_of self.old.marks.items) (string_bytes out.new)) }
     {
-        self.layout.clear();
-        self.printer.lay_out(&self.marks, width, &mut self.layout)?;
         out.clear();
-        append_without_empty_lines(self.layout.as_str(), out)?;
+        self.printer.lay_out_clean(&self.marks, width, out)?;
         Ok(out.push('\n')?)
     }
 }

@@ -7,7 +7,6 @@ use Rattle.cedar_writer.proofs.printer.PolicyPrinter.lay_out.Goals as goal
 
 pub returns-clause-layout : goal.returns-clause-layout
 unfolding encode
-returns-clause-layout c = λ d m. laid_out _ d _ _ _ _ _ _ c.clear.ensures.bytes
-    (c.in_ok-lay_out.ensures.ok d (subst (λ z. AreMarks (marks_of z) d) (sym c.deref.ensures.value) m))
-    c.as_str.ensures.value c.clear-2.ensures.bytes c.in_ok-append_without_empty_lines.ensures.ok
-    c.in_ok-push.ensures.bytes
+returns-clause-layout c = λ d m. laid_out _ d _ _ _ c.clear.ensures.bytes
+    (c.in_ok-lay_out_clean.ensures.ok d
+    (subst (λ z. AreMarks (marks_of z) d) (sym c.deref.ensures.value) m)) c.in_ok-push.ensures.bytes
