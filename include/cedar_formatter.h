@@ -91,14 +91,19 @@ struct cedar_place_answer {
  */
 void cedar_place(const char *text, size_t len, size_t at, struct cedar_place_answer *place);
 
-/* A fault of a text. All bytes are counted from 0; without a fault they are 0, and so is the length. */
+/*
+ * A fault of a text. All bytes are counted from 0, in the whole text; without a fault they are 0, and so is the length. Only the
+ * end of the text, a `;` or a closing bracket of another kind leaves a bracket open.
+ */
 struct cedar_fault_answer {
     uint32_t kind; /* 1 to 5 for a fault; CEDAR_RESULT if none is left; CEDAR_OUT_OF_MEMORY or CEDAR_NOT_UTF8 */
     size_t at;     /* the byte of the fault: the first at which no accepted text continues; `len` if something is missing at the end */
     size_t start;  /* the first of the bytes that it is about: those of a token, say; the last token's end if something is missing */
     size_t end;    /* the byte after the last of them */
-    size_t next;   /* the byte from which to search for the next fault */
-    size_t length; /* the length of the message in bytes, whether there was room for it or not */
+    size_t unclosed_start; /* the byte of the innermost bracket of the policy that it leaves open; 0 if there is none */
+    size_t unclosed_end;   /* the byte after that bracket; 0 if there is none */
+    size_t next;           /* the byte from which to search for the next fault */
+    size_t length;         /* the length of the message in bytes, whether there was room for it or not */
 };
 
 /*

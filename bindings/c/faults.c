@@ -1,6 +1,6 @@
 /*
  * Prints all faults of the policies of standard input, at most a hundred: a line LINE:COLUMN: MESSAGE for each, with columns in
- * characters. The status is 1 if there are any, or if the text can't be read.
+ * characters, and a second one for a bracket that it leaves open. The status is 1 if there are any, or if the text can't be read.
  */
 #include "cedar_formatter.h"
 
@@ -31,6 +31,10 @@ int main(void) {
         /* (what is missing at the end is missing after the last token) */
         cedar_place(text, len, fault.at < len ? fault.start : fault.end, &place);
         printf("%zu:%zu: %.*s\n", place.line, place.column, fault.length <= sizeof message ? (int)fault.length : 0, message);
+        if (fault.unclosed_end > 0) {
+            cedar_place(text, len, fault.unclosed_start, &place);
+            printf("%zu:%zu: this '%c' is not closed\n", place.line, place.column, text[fault.unclosed_start]);
+        }
         from = fault.next;
     }
     return count > 0;

@@ -1,5 +1,5 @@
 // Formats the policies of standard input: go run bindings/go/example.go < policy.cedar
-// Of a text that is refused it prints the faults, each as LINE:COLUMN: MESSAGE.
+// Of a text that is refused it prints the faults, each as LINE:COLUMN: MESSAGE, and the bracket that it leaves open.
 package main
 
 // #cgo CFLAGS: -I${SRCDIR}/../../include
@@ -39,10 +39,24 @@ func format(text []byte) ([]byte, uint32) {
 // most is how many faults are printed.
 const most = 100
 
+// printAt prints what is said of a byte, after its line and its column.
+func printAt(text []byte, at C.size_t, said string) {
+	var place C.struct_cedar_place_answer
+	C.cedar_place(start(text), C.size_t(len(text)), at, &place)
+	fmt.Fprintf(os.Stderr, "%d:%d: %s\n", place.line, place.column, said)
+}
+
+// unclosed is the bracket that a fault of a text leaves open; nil if there is none.
+func unclosed(text []byte, fault *C.struct_cedar_fault_answer) []byte {
+	if fault.unclosed_end == 0 {
+		return nil
+	}
+	return text[fault.unclosed_start:fault.unclosed_end]
+}
+
 // printFaults prints the faults of a text, and returns whether there are any.
 func printFaults(text []byte) bool {
 	var fault C.struct_cedar_fault_answer
-	var place C.struct_cedar_place_answer
 	message := make([]byte, 1000)
 	for count := 0; count < most; count++ {
 		C.cedar_next_fault(start(text), C.size_t(len(text)), fault.next, start(message), C.size_t(len(message)), &fault)
@@ -54,12 +68,14 @@ func printFaults(text []byte) bool {
 		if int(fault.at) == len(text) {
 			at = fault.end
 		}
-		C.cedar_place(start(text), C.size_t(len(text)), at, &place)
 		said := message
 		if int(fault.length) <= len(message) {
 			said = message[:fault.length]
 		}
-		fmt.Fprintf(os.Stderr, "%d:%d: %s\n", place.line, place.column, said)
+		printAt(text, at, string(said))
+		if bracket := unclosed(text, &fault); bracket != nil {
+			printAt(text, fault.unclosed_start, fmt.Sprintf("this '%s' is not closed", bracket))
+		}
 	}
 	return true
 }

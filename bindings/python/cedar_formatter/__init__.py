@@ -19,11 +19,11 @@ repository, bindings/out; else the one of a release, PREFIX/lib.
 import ctypes
 import enum
 import operator
-from typing import Iterator, NamedTuple, Tuple, Union, overload
+from typing import Iterator, NamedTuple, Optional, Tuple, Union, overload
 
 from ._library import RESULT, NO_ROOM, Answer, FaultAnswer, PlaceAnswer, load
 
-__all__ = ["Fault", "Kind", "NotUtf8", "Place", "Refused", "__version__", "faults", "format_text", "is_formatted", "place", "same_layout"]
+__all__ = ["Fault", "Kind", "NotUtf8", "Place", "Refused", "Span", "__version__", "faults", "format_text", "is_formatted", "place", "same_layout"]
 
 _LIBRARY = load()
 
@@ -70,6 +70,13 @@ class Place(NamedTuple):
     column: int
 
 
+class Span(NamedTuple):
+    """Bytes of a text, counted from 0 in its UTF-8: the first of them, and the one after the last."""
+
+    start: int
+    end: int
+
+
 class Fault(NamedTuple):
     """A fault of a text. Bytes are counted from 0 in the text's UTF-8."""
 
@@ -85,6 +92,9 @@ class Fault(NamedTuple):
     column: int
     #: What is wrong, for people: "expected an operand, found ')'".
     message: str
+    #: The innermost bracket of the policy that is still open, if the fault is the end of the text, a ";" or a closing bracket of
+    #: another kind; else None.
+    unclosed: Optional[Span]
 
 
 class _Refusal(ValueError):
@@ -241,4 +251,5 @@ def _faults(text: bytes, found: FaultAnswer) -> Iterator[Fault]:
             raise MemoryError("out of memory")
         where = found.start if found.at < len(text) else found.end
         message = out.raw[: found.length].decode()
-        yield Fault(Kind(found.kind), found.at, found.start, found.end, *_find(text, where), message)
+        unclosed = Span(found.unclosed_start, found.unclosed_end) if found.unclosed_end else None
+        yield Fault(Kind(found.kind), found.at, found.start, found.end, *_find(text, where), message, unclosed)

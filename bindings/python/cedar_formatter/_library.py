@@ -23,7 +23,8 @@ class PlaceAnswer(ctypes.Structure):
 
 
 class FaultAnswer(ctypes.Structure):
-    _fields_ = [("kind", ctypes.c_uint32), *((it, ctypes.c_size_t) for it in ("at", "start", "end", "next", "length"))]
+    _bytes = "at", "start", "end", "unclosed_start", "unclosed_end", "next", "length"
+    _fields_ = [("kind", ctypes.c_uint32), *((it, ctypes.c_size_t) for it in _bytes)]
 
 
 def load() -> ctypes.CDLL:

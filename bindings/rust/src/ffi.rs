@@ -21,6 +21,8 @@ struct FaultAnswer {
     at: usize,
     start: usize,
     end: usize,
+    unclosed_start: usize,
+    unclosed_end: usize,
     next: usize,
     length: usize,
 }
@@ -178,6 +180,7 @@ pub fn next_fault(text: &str, from: usize) -> Result<Option<(Fault, usize)>, Err
         error,
         start: found.start,
         end: found.end,
+        unclosed: (found.unclosed_end > 0).then_some(found.unclosed_start..found.unclosed_end),
         message: String::from_utf8(out).expect("a message is UTF-8"),
     };
     Ok(Some((fault, found.next)))

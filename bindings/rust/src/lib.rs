@@ -14,6 +14,7 @@
 #![warn(missing_docs)]
 
 use std::fmt;
+use std::ops::Range;
 
 mod ffi;
 
@@ -110,6 +111,9 @@ pub struct Fault {
     pub start: usize,
     /// The byte after the last of them.
     pub end: usize,
+    /// The innermost bracket of the policy that is still open, if the fault is the end of the text, a `;` or a closing bracket of
+    /// another kind.
+    pub unclosed: Option<Range<usize>>,
     /// What is wrong, for people: `expected an operand, found ')'`.
     pub message: String,
 }

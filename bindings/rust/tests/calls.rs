@@ -1,4 +1,6 @@
-use cedar_formatter::{faults, format, is_formatted, place, same_layout, version, Config, Error, Place};
+use cedar_formatter::{
+    faults, format, is_formatted, place, same_layout, version, Config, Error, Place,
+};
 
 const PACKED: &str = "permit(principal,action,resource);";
 const LAID_OUT: &str = "permit (principal, action, resource);\n";
@@ -72,8 +74,12 @@ fn tells_its_version() {
 #[test]
 fn tells_all_faults() {
     assert_eq!(faults(LAID_OUT).count(), 0);
-    let text = format!("{REFUSED}\npermt(principal, action, resource);\nforbid (principal, action, resource)");
-    let found: Vec<_> = faults(&text).map(|it| it.expect("there is memory")).collect();
+    let text = format!(
+        "{REFUSED}\npermt(principal, action, resource);\nforbid (principal, action, resource)"
+    );
+    let found: Vec<_> = faults(&text)
+        .map(|it| it.expect("there is memory"))
+        .collect();
     let marked: Vec<_> = found.iter().map(|it| &text[it.start..it.end]).collect();
     assert_eq!(marked, ["=", "permt", ")"]);
     let errors: Vec<_> = found.iter().map(|it| it.error).collect();
@@ -86,4 +92,24 @@ fn tells_all_faults() {
     assert_eq!(errors, wanted);
     assert!(found[0].message.ends_with("did you mean '=='?"));
     assert!(found[1].message.ends_with("did you mean 'permit'?"));
+}
+
+#[test]
+fn tells_which_bracket_is_open() {
+    let scope = "permit(principal,action,resource)";
+    let first = format!("{scope} when {{ (1 ;");
+    let text = format!("{first}\n{REFUSED}\n{scope} when {{ [1 }};");
+    let found: Vec<_> = faults(&text)
+        .map(|it| it.expect("there is memory"))
+        .collect();
+    let open: Vec<_> = found.iter().map(|it| it.unclosed.clone()).collect();
+    let third = first.len() + REFUSED.len() + 2;
+    let wanted = [
+        Some(first.len() - 4..first.len() - 3),
+        None,
+        Some(third + scope.len() + 8..third + scope.len() + 9),
+    ];
+    assert_eq!(open, wanted);
+    let brackets: Vec<_> = open.into_iter().flatten().map(|it| &text[it]).collect();
+    assert_eq!(brackets, ["(", "["]);
 }

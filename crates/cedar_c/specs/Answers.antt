@@ -1,6 +1,7 @@
 -- The answers to calls from C.
-use Rattle.std.specs.Prelude.{◌≡◌, ◌+◌, ◌<◌, ◌≤◌, ◌⊎◌, ◌++◌, ℕ, ℤ, List, [], ◌∷◌, length, drop, Result, Ok, Err}
+use Rattle.std.specs.Prelude.{◌≡◌, ◌+◌, ◌<◌, ◌≤◌, ◌⊎◌, ◌++◌, ℕ, ℤ, List, [], ◌∷◌, length, drop, Option, Some, None, Result, Ok, Err}
 use Rattle.std.specs.Str.{IsUtf8}
+use Rattle.cedar_tokens.specs.declared.token.Span.{Span}
 use Rattle.cedar_tree.specs.Refusals.{OutOfMemoryOr}
 use Rattle.cedar_tree.specs.declared.error.FormatError.{FormatError}
 use Rattle.cedar_tree.specs.declared.error.FormatError.TheVariants.{UnknownCharacter, UnfinishedString, NumberTooLarge, Grammar, TooDeep, NoDocument, Unsound, OutOfMemory}
@@ -8,8 +9,9 @@ use Rattle.cedar_written.specs.Lists.{HaveEqualLists}
 use Rattle.cedar_written.specs.Output.{IsOutputOf}
 use Rattle.cedar_written.specs.Refusals.{Refuses}
 use Rattle.cedar_written.specs.Texts.{Accepted}
+use Rattle.cedar_faults.specs.declared.brackets.Bracket.{Bracket}
 use Rattle.cedar_faults.specs.declared.fault.Fault.{Fault}
-use Rattle.cedar_faults.specs.Faults.{AreFaults, SearchFinds}
+use Rattle.cedar_faults.specs.Faults.{AreFaults, SearchFinds, moved_part}
 use Rattle.cedar_faults.specs.Words.{message}
 use Rattle.cedar_policy_formatter.specs.Places.{line_at, column_at}
 use Rattle.cedar_policy_formatter.specs.Refused.{RefusesOne}
@@ -92,7 +94,12 @@ TellsPlace text at p = (IsUtf8 text × (p ≡ record { kind = 0; line = line_at 
 
 -- the answer of this kind, without a fault
 abbrev pub no_fault : ℕ → FaultAnswer
-no_fault k = record { kind = k; at = 0; start = 0; end = 0; next = 0; length = 0 }
+no_fault k = record { kind = k; at = 0; start = 0; end = 0; unclosed_start = 0; unclosed_end = 0; next = 0; length = 0 }
+
+-- the bytes of the bracket that is left open, so many bytes later; from 0 to 0 if there is none
+abbrev pub unclosed_part : ℕ → Option Bracket → Span
+unclosed_part by None = record { start = 0; end = 0 }
+unclosed_part by (Some b) = moved_part by b.part
 
 -- the answer about a fault of what follows the byte `from`, after which reading continues n bytes later
 abbrev pub fault_answer : ℕ → ℕ → Fault → FaultAnswer
@@ -101,6 +108,8 @@ fault_answer from n f = record {
   at = from + f.expected.at;
   start = from + f.part.start;
   end = from + f.part.end;
+  unclosed_start = (unclosed_part from f.unclosed).start;
+  unclosed_end = (unclosed_part from f.unclosed).end;
   next = from + n;
   length = length (message f);
 }

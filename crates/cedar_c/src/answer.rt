@@ -50,6 +50,10 @@ pub struct FaultAnswer {
     pub start: usize,
     /// The byte after the last one of them.
     pub end: usize,
+    /// The byte of the innermost bracket of the policy that the fault leaves open; 0 if there is none.
+    pub unclosed_start: usize,
+    /// The byte after that bracket; 0 if there is none.
+    pub unclosed_end: usize,
     /// The byte from which to search for the next fault.
     pub next: usize,
     /// The length of its message in bytes, whether there was room for it or not.
@@ -84,6 +88,8 @@ pub fn no_fault(kind: u32) -> FaultAnswer
         at: 0,
         start: 0,
         end: 0,
+        unclosed_start: 0,
+        unclosed_end: 0,
         next: 0,
         length: 0,
     }

@@ -1,18 +1,21 @@
 //! The library's calls over bytes.
-ghost use Rattle.std.specs.Prelude.{◌≡◌, [], drop, IfOk, MatchOption, MatchResult};
+ghost use Rattle.std.specs.Prelude.{◌≡◌, [], drop, IfOk, IfSome, MatchOption, MatchResult};
 ghost use Rattle.std.specs.Str.{IsUtf8};
-ghost use Rattle.cedar_c.specs.Answers.{TellsFault, TellsFormat, TellsIsFormatted, TellsPlace, TellsPut, TellsSameLayout};
+ghost use Rattle.cedar_c.specs.Answers.{TellsFault, TellsFormat, TellsIsFormatted, TellsPlace, TellsPut, TellsSameLayout, unclosed_part};
 ghost use Rattle.cedar_c.specs.Inside.{IsNextFault};
 ghost use Rattle.cedar_faults.specs.Faults.{AreFaults};
+ghost use Rattle.cedar_faults.specs.Inside.Searches.{HasRoomAt};
 ghost use Rattle.cedar_c.specs.declared.answer.CallFault.TheVariants.{NotUtf8};
 
 use crate::answer::{
     CallFault, FaultAnswer, NOT_UTF8, OUT_OF_MEMORY, PlaceAnswer, RESULT, no_fault, refusal,
 };
 use crate::version::VERSION;
+use cedar_faults::brackets::Bracket;
 use cedar_faults::fault::Fault;
 use cedar_faults::reader::FaultReader;
 use cedar_policy_formatter::{Config, is_formatted, place, policies_str_to_pretty, same_layout};
+use cedar_tokens::token::Span;
 use std::alloc::{AllocError, Global};
 
 /// Writes the layout of the policies `bytes` to the start of `out`. Returns its length in bytes.
@@ -86,11 +89,14 @@ pub fn find_fault(alloc: Global, bytes: &[u8], from: usize, out: &mut [u8]) -> F
         Ok(Some(found)) => {
             let message = found.message.as_bytes();
             let _ = put(message, out);
+            let unclosed = unclosed_part(found.fault.unclosed, from);
             FaultAnswer {
                 kind: refusal(found.fault.error).kind,
                 at: from + found.fault.expected.at,
                 start: from + found.fault.part.start,
                 end: from + found.fault.part.end,
+                unclosed_start: unclosed.start,
+                unclosed_end: unclosed.end,
                 next: from + found.next,
                 length: message.len(),
             }
@@ -122,6 +128,20 @@ fn next_fault(alloc: Global, text: &str) -> Result<Option<NextFault<'_>>, AllocE
         message,
         next,
     }))
+}
+
+// The bytes of the bracket that is left open, so many bytes later; from 0 to 0 if there is none.
+fn unclosed_part(bracket: Option<Bracket>, by: usize) -> Span
+    requires { IfSome bracket (HasRoomAt by) }
+    ensures { result ≡ unclosed_part by bracket }
+{
+    match bracket {
+        Some(Bracket { part, .. }) => Span {
+            start: by + part.start,
+            end: by + part.end,
+        },
+        None => Span { start: 0, end: 0 },
+    }
 }
 
 // The text that the bytes encode in UTF-8.

@@ -22,7 +22,8 @@ returns-in-Ok-Some c =
     let is : bytes ≡ message found.fault = c.as_bytes-message.ensures.value ∙ f.said in
     let said : PutsIfRoom (message found.fault) c.args.out.now c.put.new.room =
     subst (λ z. PutsIfRoom z c.args.out.now c.put.new.room) is (puts bytes c.args.out.now c.put.new.room c.put.result c.put.ensures) in
-    rw (c.refusal.ensures, is) (fault found.next found.fault c.in-Ok.ensures.0 (rw c.in-Ok.ensures.1 at f.first) said)
+    rw (c.refusal.ensures, c.unclosed_part-unclosed.ensures, is)
+    (fault found.next found.fault c.in-Ok.ensures.0 (rw c.in-Ok.ensures.1 at f.first) said)
 
 pub returns-in-Err : goal.returns-in-Err
 returns-in-Err c = rw c.no_fault-in-Err.ensures (out_of_memory refl)
