@@ -1,3 +1,4 @@
+pub mod BesideLemmas
 pub mod CountLemmas
 pub mod ExcludeLemmas
 pub mod PathLemmas

@@ -1,4 +1,7 @@
+pub mod Beside
 pub mod Counts
+pub mod Entries
 pub mod Excludes
+pub mod Options
 pub mod Paths
 pub mod Places

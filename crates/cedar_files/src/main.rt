@@ -10,6 +10,7 @@ mod changes;
 mod counts;
 mod diff;
 mod disk;
+mod entries;
 mod excludes;
 mod fault;
 mod files;
