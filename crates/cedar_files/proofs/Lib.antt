@@ -1,4 +1,5 @@
 pub mod BesideLemmas
+pub mod ChangeLemmas
 pub mod CountLemmas
 pub mod ExcludeLemmas
 pub mod PathLemmas

@@ -1,4 +1,5 @@
 pub mod Beside
+pub mod Changes
 pub mod Counts
 pub mod Entries
 pub mod Excludes
