@@ -6,3 +6,4 @@ pub mod Excludes
 pub mod Options
 pub mod Paths
 pub mod Places
+pub mod Words
