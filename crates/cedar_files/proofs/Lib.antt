@@ -3,3 +3,4 @@ pub mod ChangeLemmas
 pub mod CountLemmas
 pub mod ExcludeLemmas
 pub mod PathLemmas
+pub mod WordLemmas

@@ -1,5 +1,5 @@
 -- The words of the command line.
-use Rattle.std.specs.Prelude.{◌≡◌, ◌≢◌, ◌++◌, ◌∷◌, [], ℕ, List, Bool, Option, Some, None, codes, filter, find, map, nat_eq, not, option_map, string_bytes, ◌&&◌, is_none}
+use Rattle.std.specs.Prelude.{◌≡◌, ◌≢◌, ◌++◌, ◌∷◌, [], ℕ, List, Bool, Option, Some, None, codes, find, map, nat_eq, not, option_map, string_bytes, ◌&&◌, is_none}
 use Rattle.std.specs.BTreeMap.{get_by_text}
 use Rattle.std.specs.List.{filter_map, starts_with, take_while}
 use Rattle.std.specs.Str.{IsUtf8, bytes_eq}
@@ -26,13 +26,17 @@ StandsFor w text (Text own) = (odd_bytes w text ≡ None) × (own.now ≡ text)
 StandsFor w text (Bytes bytes) = odd_bytes w text ≡ Some bytes.now
 
 -- the word `--`, after which there are no options
-abbrev pub ends_options : Words → List ℕ → Bool
-ends_options w text = is_none (odd_bytes w text) && bytes_eq text (codes "--")
+abbrev pub ends_options : (List ℕ → Option (List ℕ)) → List ℕ → Bool
+ends_options odd text = is_none (odd text) && bytes_eq text (codes "--")
 
--- the first word that isn't UTF-8 and begins with a dash, of those before a word `--`
+-- the first word that isn't UTF-8 and begins with a dash, of those before a word `--`; `odd` gives the bytes that a text stands for
+abbrev pub odd_option_of : (List ℕ → Option (List ℕ)) → List (List ℕ) → Option (List ℕ)
+odd_option_of odd texts = find (λ bytes. starts_with nat_eq bytes (codes "-"))
+    (filter_map odd (take_while (λ text. not (ends_options odd text)) texts))
+
+-- the same of all words
 abbrev pub first_odd_option : Words → Option (List ℕ)
-first_odd_option w = find (λ bytes. starts_with nat_eq bytes (codes "-"))
-    (filter_map (odd_bytes w) (take_while (λ text. not (ends_options w text)) (texts_of w)))
+first_odd_option w = odd_option_of (odd_bytes w) (texts_of w)
 
 -- a word is added: one that is UTF-8 as itself, and any other one by a text that stands for it from then on
 pub record AddsWord (old : Words) (bytes : List ℕ) (new : Words) : Type 0 where

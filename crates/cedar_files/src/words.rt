@@ -104,9 +104,16 @@ impl Words {
     {
         for text in &self.texts {
             match self.word_of(text.as_str()) {
-                Word::Text("--") => return None,
-                Word::Bytes(bytes) if bytes.starts_with(b"-") => return Some(bytes),
-                _ => {}
+                Word::Text(own) => {
+                    if own == "--" {
+                        return None;
+                    }
+                }
+                Word::Bytes(bytes) => {
+                    if bytes.starts_with(b"-") {
+                        return Some(bytes);
+                    }
+                }
             }
         }
         None
