@@ -38,11 +38,13 @@ odd_option_of odd texts = find (λ bytes. starts_with nat_eq bytes (codes "-"))
 abbrev pub first_odd_option : Words → Option (List ℕ)
 first_odd_option w = odd_option_of (odd_bytes w) (texts_of w)
 
--- a word is added: one that is UTF-8 as itself, and any other one by a text that stands for it from then on
+-- a word is added: one that is UTF-8 as itself, and any other one by a text that begins with a zero byte and stands for it from
+-- then on
 pub record AddsWord (old : Words) (bytes : List ℕ) (new : Words) : Type 0 where
   pub text : List ℕ
   pub texts : texts_of new ≡ texts_of old ++ (text ∷ [])
   pub itself : IsUtf8 bytes → text ≡ bytes
+  pub begins : ¬ (IsUtf8 bytes) → (rest : List ℕ) × (text ≡ 0 ∷ rest)
   pub stands_in : ¬ (IsUtf8 bytes) → odd_bytes new text ≡ Some bytes
   pub others : (other : List ℕ) → IsUtf8 bytes → odd_bytes new other ≡ odd_bytes old other
   pub odd_others : (other : List ℕ) → other ≢ text → odd_bytes new other ≡ odd_bytes old other

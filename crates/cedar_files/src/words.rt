@@ -65,7 +65,9 @@ impl Words {
             self.texts.push(String::from_str(alloc, text)?)?;
             return Ok(());
         }
-        let stand_in = format!(in alloc; "\0{}", ShownBytes(&bytes))?;
+        let shown = format!(in alloc; "{}", ShownBytes(&bytes))?;
+        let mut stand_in = String::from_str(alloc, "\0")?;
+        stand_in.push_str(shown.as_str())?;
         self.texts.push(stand_in.clone()?)?;
         let _ = self.odd.insert(stand_in, bytes)?;
         Ok(())
