@@ -2,5 +2,6 @@ pub mod BesideLemmas
 pub mod ChangeLemmas
 pub mod CountLemmas
 pub mod ExcludeLemmas
+pub mod HunkLemmas
 pub mod PathLemmas
 pub mod WordLemmas

@@ -3,6 +3,7 @@ pub mod Changes
 pub mod Counts
 pub mod Entries
 pub mod Excludes
+pub mod Hunks
 pub mod Options
 pub mod Paths
 pub mod Places
