@@ -1,14 +1,16 @@
 -- Hunks of changes.
 use Rattle.std.proofs.Common.{◌≡◌, ◌∙◌, ◌⊎◌, ◌++◌, ◌∷◌, ◌+◌, ◌-◌, ◌<◌, ◌≤◌, [], ℕ, List, Some, ap, arith, get_or, inl, inr, length, option_to_list, refl, subst, sym}
-use Rattle.std.specs.Prelude.{◌↔◌}
+use Rattle.std.specs.Prelude.{◌↔◌, min, slice_get}
 use Rattle.std.specs.List.{All, AllPairs, Any}
 use Rattle.std.proofs.lemmas.Bool.{cases_lt}
 use Rattle.std.proofs.lemmas.List.{get_or_append_left, get_or_default, length-append}
 use Rattle.std.proofs.lemmas.List.Elements.{All-pop, All-push, All-weaker}
 use Rattle.std.proofs.lemmas.List.Quantifiers.{Any-push, all_pairs_push}
 use Rattle.std.proofs.Math.Seq.{get_or-append_seam}
+use Rattle.cedar_files.specs.declared.changes.Change.{Change}
+use Rattle.cedar_files.specs.declared.changes.Change.TheVariants.{Keep}
 use Rattle.cedar_files.specs.declared.hunks.Hunk.{Hunk}
-use Rattle.cedar_files.specs.Hunks.{AreApart, AreBefore, AreInOrder, IsIn, IsShown}
+use Rattle.cedar_files.specs.Hunks.{AreBefore, AreHunksOf, AreInOrder, IsChangedAt, IsIn, IsNearChange, IsShown}
 
 module _ {X : Type 0} (xs : List X) (y : X) where
   longer : length (xs ++ y ∷ []) ≡ length xs + 1
@@ -46,12 +48,6 @@ pub far_order : (hunks : List Hunk) (more : Hunk) → All (λ hunk. hunk.end < m
 far_order hunks more far order full = record {
   apart = all_pairs_push (λ first next. first.end < next.start) hunks more order.apart far;
   some = All-push (λ hunk. hunk.start < hunk.end) hunks more order.some full;
-}
-
-pub far_before : (hunks : List Hunk) (more : Hunk) → AreBefore hunks more → AreBefore (hunks ++ more ∷ []) more
-far_before hunks more before = record {
-  starts = All-push (λ hunk. hunk.start ≤ more.start) hunks more before.starts (omega arith);
-  ends = All-push (λ hunk. hunk.end ≤ more.end) hunks more before.ends (omega arith);
 }
 
 module _ (front : List Hunk) (last more : Hunk) where
@@ -110,3 +106,79 @@ module _ (front : List Hunk) (last more : Hunk) where
       starts = All-push (λ hunk. hunk.start ≤ more.start) front joined starts.0 starts.1;
       ends = All-push (λ hunk. hunk.end ≤ more.end) front joined ends.0 (omega arith);
     }
+
+module _ (changes : List Change) where
+  -- one of the first n that doesn't keep a line is at most three from the k-th
+  abbrev pub IsNearBelow : ℕ → ℕ → Type 0
+  IsNearBelow n k = (m : ℕ) × (m < n) × IsChangedAt changes m × (m ≤ k + 3) × (k ≤ m + 3) × (k < length changes)
+
+  -- these are the hunks of the first n changes, with what is shown after them
+  pub record AreSoFar (n : ℕ) (hunks : List Hunk) : Type 0 where
+    pub near : (k : ℕ) → IsShown hunks k ↔ IsNearBelow n k
+    pub order : AreInOrder hunks
+    pub starts : All (λ hunk. hunk.start ≤ n - 3) hunks
+    pub ends : All (λ hunk. hunk.end ≤ n + 3) hunks
+    pub inside : All (λ hunk. hunk.end ≤ length changes) hunks
+
+  module _ (n : ℕ) (hunks : List Hunk) (so_far : AreSoFar n hunks) where
+    -- the next of the changes keeps a line
+    pub kept_next : ¬ (IsChangedAt changes n) → AreSoFar (n + 1) hunks
+    kept_next kept = record {
+      near = λ k. (
+        λ shown.
+            let (m, less, changed, low, high, inside) = (so_far.near k).0 shown in
+            (m, omega (arith, less), changed, low, high, inside),
+        λ (m, less, changed, low, high, inside). elim (cases_lt m n) [
+          | inl before ↦ (so_far.near k).1 (m, before, changed, low, high, inside)
+          | inr after ↦
+              let same : m ≡ n = omega (arith, less, after) in
+              absurd (kept (subst (λ i. IsChangedAt changes i) same changed))
+        ],
+      );
+      order = so_far.order;
+      starts = λ k d less. omega (arith, so_far.starts k d less);
+      ends = λ k d less. omega (arith, so_far.ends k d less);
+      inside = so_far.inside;
+    }
+
+    -- it doesn't, and a hunk is added around it
+    pub changed_next : (more : Hunk) (new : List Hunk) → IsChangedAt changes n → more.start ≡ n - 3
+        → more.end ≡ min (n + 4) (length changes)
+        → ((k : ℕ) → IsShown new k ↔ (IsShown hunks k ⊎ IsIn k more)) → AreInOrder new → AreBefore new more → AreSoFar (n + 1) new
+    changed_next more new changed start end shown order before = record {
+      near = λ k. (
+        λ h. elim ((shown k).0 h) [
+          | inl old ↦
+              let (m, less, there, low, high, inside) = (so_far.near k).0 old in
+              (m, omega (arith, less), there, low, high, inside)
+          | inr (from, to) ↦ (
+              n,
+              omega arith,
+              changed,
+              omega (arith, from, start),
+              omega (arith, to, end),
+              omega (arith, to, end),
+            )
+        ],
+        λ (m, less, there, low, high, inside). elim (cases_lt m n) [
+          | inl below ↦ (shown k).1 (inl ((so_far.near k).1 (m, below, there, low, high, inside)))
+          | inr after ↦ (shown k).1 (inr (omega (arith, less, after, low, start), omega (arith, less, after, high, inside, end)))
+        ],
+      );
+      order = order;
+      starts = λ k d less. omega (arith, before.starts k d less, start);
+      ends = λ k d less. omega (arith, before.ends k d less, end);
+      inside = λ k d less. omega (arith, before.ends k d less, end);
+    }
+
+  -- all changes
+  pub all_so_far : (hunks : List Hunk) → AreSoFar (length changes) hunks → AreHunksOf changes hunks
+  all_so_far hunks so_far = record {
+    shown = λ k inside. (
+      λ shown. let (m, less, changed, low, high, rest) = (so_far.near k).0 shown in (m, changed, low, high),
+      λ (m, changed, low, high). (so_far.near k).1 (m, changed.0, changed, low, high, inside),
+    );
+    apart = so_far.order.apart;
+    some = so_far.order.some;
+    inside = so_far.inside;
+  }

@@ -7,7 +7,7 @@ use Rattle.cedar_files.specs.declared.hunks.Hunk.{Hunk}
 
 -- the m-th of the changes doesn't keep a line
 abbrev pub IsChangedAt : List Change → ℕ → Type 0
-IsChangedAt changes m = (change : Change) × (slice_get changes m ≡ Some change) × (change ≢ Keep)
+IsChangedAt changes m = (m < length changes) × (slice_get changes m ≢ Some Keep)
 
 -- one that doesn't keep a line is at most three from the n-th
 abbrev pub IsNearChange : List Change → ℕ → Type 0
