@@ -1,9 +1,11 @@
 -- Which parts of the changes a diff shows.
-use Rattle.std.specs.Prelude.{◌≡◌, ◌≢◌, ◌↔◌, ◌≤◌, ◌<◌, ◌+◌, ℕ, List, Some, length, slice_get}
+use Rattle.std.specs.Prelude.{◌≡◌, ◌≢◌, ◌↔◌, ◌≤◌, ◌<◌, ◌+◌, ◌-◌, ℕ, List, Bool, true, false, Some, count_by, length, slice_get, take}
 use Rattle.std.specs.List.{All, AllPairs, Any}
 use Rattle.cedar_files.specs.declared.changes.Change.{Change}
-use Rattle.cedar_files.specs.declared.changes.Change.TheVariants.{Keep}
+use Rattle.cedar_files.specs.declared.changes.Change.TheVariants.{Keep, Remove, Add}
 use Rattle.cedar_files.specs.declared.hunks.Hunk.{Hunk}
+use Rattle.cedar_files.specs.declared.hunks.Lines.{Lines}
+use Rattle.cedar_files.specs.declared.hunks.Passed.{Passed}
 
 -- the m-th of the changes doesn't keep a line
 abbrev pub IsChangedAt : List Change → ℕ → Type 0
@@ -41,3 +43,26 @@ pub record AreInOrder (hunks : List Hunk) : Type 0 where
 pub record AreBefore (hunks : List Hunk) (more : Hunk) : Type 0 where
   pub starts : All (λ hunk. hunk.start ≤ more.start) hunks
   pub ends : All (λ hunk. hunk.end ≤ more.end) hunks
+
+-- the line is one of the first text
+abbrev pub is_old : Change → Bool
+is_old Add = false
+is_old change = true
+
+-- the line is one of the second text
+abbrev pub is_new : Change → Bool
+is_new Remove = false
+is_new change = true
+
+-- these are the numbers of what is passed: some of the changes, and the lines that these are about
+pub record Passes (changes : List Change) (passed : Passed) : Type 0 where
+  pub within : passed.changes ≤ length changes
+  pub old : passed.old_lines ≡ count_by is_old (take passed.changes changes)
+  pub new : passed.new_lines ≡ count_by is_new (take passed.changes changes)
+
+-- the numbers of the lines between two places, as a diff has them: how many there are, and the first one, counted from 1, or,
+-- where there is none, the one before
+pub record IsNumberedBy (start end : ℕ) (lines : Lines) : Type 0 where
+  pub count : lines.count ≡ end - start
+  pub first : start < end → lines.first ≡ start + 1
+  pub none : end ≤ start → lines.first ≡ start

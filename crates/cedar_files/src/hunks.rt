@@ -1,6 +1,7 @@
 //! Which parts of the changes a diff shows.
-ghost use Rattle.std.specs.Prelude.{◌↔◌, ◌⊎◌, ◌<◌, ℕ, IfOk, OnOk};
-ghost use Rattle.cedar_files.specs.Hunks.{AreBefore, AreHunksOf, AreInOrder, IsIn, IsShown};
+ghost use Rattle.std.specs.Prelude.{◌≡◌, ◌↔◌, ◌⊎◌, ◌+◌, ◌<◌, ◌≤◌, ◌^◌, ℕ, IfOk, List, OnOk, Some, length, slice_get};
+ghost use Rattle.cedar_files.specs.declared.changes.Change.{Change};
+ghost use Rattle.cedar_files.specs.Hunks.{AreBefore, AreHunksOf, AreInOrder, IsIn, IsNumberedBy, IsShown, Passes};
 
 use crate::changes::Change;
 use std::alloc::{AllocError, Global};
@@ -52,4 +53,74 @@ fn add_hunk(hunks: &mut Vec<Hunk>, more: Hunk) -> Result<(), AllocError>
         hunks.push(more)?;
     }
     Ok(())
+}
+
+/// How many changes are passed, and how many lines of both texts.
+#[derive(Clone, Copy)]
+pub struct Passed {
+    pub changes: usize,
+    pub old_lines: usize,
+    pub new_lines: usize,
+}
+
+impl Passed {
+    /// None is passed yet.
+    pub fn new() -> Passed
+        ensures { (changes : List Change) → Passes changes result }
+    {
+        Passed {
+            changes: 0,
+            old_lines: 0,
+            new_lines: 0,
+        }
+    }
+
+    /// Passes the next change.
+    pub fn pass(&mut self, change: Change)
+        ensures { (changes : List Change) → length changes < 2 ^ 64 → Passes changes self.old
+            → slice_get changes self.old.changes ≡ Some change → Passes changes self.new × (self.new.changes ≡ self.old.changes + 1) }
+    {
+        self.changes = self.changes.saturating_add(1);
+        if change != Change::Add {
+            self.old_lines = self.old_lines.saturating_add(1);
+        }
+        if change != Change::Remove {
+            self.new_lines = self.new_lines.saturating_add(1);
+        }
+    }
+
+    /// What is passed once the changes before this one are.
+    pub fn up_to(self, changes: &[Change], end: usize) -> Passed
+        ensures { Passes changes.now self → self.changes ≤ end → end ≤ length changes.now
+            → Passes changes.now result × (result.changes ≡ end) }
+    {
+        let mut passed = self;
+        for i in self.changes..end.min(changes.len()) {
+            passed.pass(changes[i]);
+        }
+        passed
+    }
+}
+
+/// Which lines of a text a hunk is about: the number of the first one, or, where there is none, of the line before; and how many
+/// there are.
+#[derive(Clone, Copy)]
+pub struct Lines {
+    pub first: usize,
+    pub count: usize,
+}
+
+impl Lines {
+    /// The lines between two places, each given by how many lines come before it.
+    pub fn between(start: usize, end: usize) -> Lines
+        ensures { IsNumberedBy start end result }
+    {
+        let count = end.saturating_sub(start);
+        let first = if count == 0 {
+            start
+        } else {
+            start.saturating_add(1)
+        };
+        Lines { first, count }
+    }
 }

@@ -14,6 +14,7 @@ mod entries;
 mod excludes;
 mod fault;
 mod files;
+mod hunks;
 mod layouts;
 mod names;
 mod options;
