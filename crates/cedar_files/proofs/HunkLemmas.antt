@@ -1,16 +1,19 @@
 -- Hunks of changes.
-use Rattle.std.proofs.Common.{◌≡◌, ◌∙◌, ◌⊎◌, ◌++◌, ◌∷◌, ◌+◌, ◌-◌, ◌<◌, ◌≤◌, [], ℕ, List, Some, ap, arith, get_or, inl, inr, length, option_to_list, refl, subst, sym}
+use Rattle.std.proofs.Common.{◌≡◌, ◌∙◌, ◌⊎◌, ◌++◌, ◌∷◌, ◌+◌, ◌-◌, ◌<◌, ◌≤◌, ◌^◌, [], ℕ, List, Bool, true, false, Some, add-zero, ap, arith, cond, count_by, get_or, inl, inr, length, length-take-le, refl, subst, sym, take}
 use Rattle.std.specs.Prelude.{◌↔◌, min, slice_get}
 use Rattle.std.specs.List.{All, AllPairs, Any}
 use Rattle.std.proofs.lemmas.Bool.{cases_lt}
 use Rattle.std.proofs.lemmas.List.{get_or_append_left, get_or_default, length-append}
 use Rattle.std.proofs.lemmas.List.Elements.{All-pop, All-push, All-weaker}
 use Rattle.std.proofs.lemmas.List.Quantifiers.{Any-push, all_pairs_push}
+use Rattle.std.proofs.lemmas.List.Sums.{count_by-le-length, count_by_more_no, count_by_more_yes}
+use Rattle.std.proofs.lemmas.Option.{get_or_from_slice_get, slice_get_within}
 use Rattle.std.proofs.Math.Seq.{get_or-append_seam}
 use Rattle.cedar_files.specs.declared.changes.Change.{Change}
 use Rattle.cedar_files.specs.declared.changes.Change.TheVariants.{Keep}
 use Rattle.cedar_files.specs.declared.hunks.Hunk.{Hunk}
-use Rattle.cedar_files.specs.Hunks.{AreBefore, AreHunksOf, AreInOrder, IsChangedAt, IsIn, IsNearChange, IsShown}
+use Rattle.cedar_files.specs.declared.hunks.Passed.{Passed}
+use Rattle.cedar_files.specs.Hunks.{Passes, is_new, is_old, AreBefore, AreHunksOf, AreInOrder, IsChangedAt, IsIn, IsNearChange, IsShown}
 
 module _ {X : Type 0} (xs : List X) (y : X) where
   longer : length (xs ++ y ∷ []) ≡ length xs + 1
@@ -182,3 +185,40 @@ module _ (changes : List Change) where
     some = so_far.order.some;
     inside = so_far.inside;
   }
+
+-- one more is counted at the next element, if it passes
+counted_next : (test : Change → Bool) (changes : List Change) (n : ℕ) (change : Change) → slice_get changes n ≡ Some change
+    → count_by test (take (n + 1) changes) ≡ count_by test (take n changes) + cond (test change) 1 0
+counted_next test changes n change is = by_answer (test change) refl
+  where
+    inside : n < length changes
+    inside = slice_get_within changes n change is
+    there : get_or changes n change ≡ change
+    there = get_or_from_slice_get changes n change change is
+    by_answer : (b : Bool) → test change ≡ b → count_by test (take (n + 1) changes) ≡ count_by test (take n changes) + cond b 1 0
+    by_answer true yes' = count_by_more_yes test changes n change inside (ap test there ∙ yes')
+    by_answer false no' = count_by_more_no test changes n change inside (ap test there ∙ no')
+        ∙ sym (add-zero (count_by test (take n changes)))
+
+-- the numbers after one more of the changes
+pub passes_next : (changes : List Change) (passed new : Passed) (change : Change) → length changes < 2 ^ 64 → Passes changes passed
+    → slice_get changes passed.changes ≡ Some change → new.changes ≡ min (passed.changes + 1) (2 ^ 64 - 1)
+    → new.old_lines ≡ min (passed.old_lines + cond (is_old change) 1 0) (2 ^ 64 - 1)
+    → new.new_lines ≡ min (passed.new_lines + cond (is_new change) 1 0) (2 ^ 64 - 1)
+    → Passes changes new × (new.changes ≡ passed.changes + 1)
+passes_next changes passed new change small passes is one old fresh =
+    let n = passed.changes in
+    let inside = slice_get_within changes n change is in
+    let next : new.changes ≡ n + 1 = omega (arith, one, inside, small) in
+    let old_next = counted_next is_old changes n change is in
+    let new_next = counted_next is_new changes n change is in
+    let old_most = count_by-le-length is_old (take (n + 1) changes) in
+    let new_most = count_by-le-length is_new (take (n + 1) changes) in
+    let most = length-take-le (n + 1) changes (omega (arith, inside)) in (
+      record {
+        within = omega (arith, next, inside);
+        old = rw next (omega (arith, old, passes.old, old_next, old_most, most, inside, small));
+        new = rw next (omega (arith, fresh, passes.new, new_next, new_most, most, inside, small));
+      },
+      next,
+    )

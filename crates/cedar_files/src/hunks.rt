@@ -81,11 +81,13 @@ impl Passed {
             → slice_get changes self.old.changes ≡ Some change → Passes changes self.new × (self.new.changes ≡ self.old.changes + 1) }
     {
         self.changes = self.changes.saturating_add(1);
-        if change != Change::Add {
-            self.old_lines = self.old_lines.saturating_add(1);
-        }
-        if change != Change::Remove {
-            self.new_lines = self.new_lines.saturating_add(1);
+        match change {
+            Change::Keep => {
+                self.old_lines = self.old_lines.saturating_add(1);
+                self.new_lines = self.new_lines.saturating_add(1);
+            }
+            Change::Remove => self.old_lines = self.old_lines.saturating_add(1),
+            Change::Add => self.new_lines = self.new_lines.saturating_add(1),
         }
     }
 
