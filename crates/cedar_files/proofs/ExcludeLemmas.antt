@@ -100,7 +100,7 @@ module _ (path below folder : List ℕ) (first : List Rule) where
           let same : k ≡ i = omega (arith, less, after) in
           let there : get_or (set rules i z) k e ≡ z = ap (λ n. get_or (set rules i z) n e) same ∙ get_or-set_same rules i z e inside in
           let old : get_or rules i d ≡ get_or first k e =
-              get_or_default rules i d e inside ∙ rest i e (omega arith) ∙ ap (λ n. get_or first n e) (sym same) in
+          get_or_default rules i d e inside ∙ rest i e (omega arith) ∙ ap (λ n. get_or first n e) (sym same) in
           subst (λ r. IsMetAt path below folder (get_or first k e) r) (sym there)
           (subst (λ r. IsMetAt path below folder r z) old here)
     ],

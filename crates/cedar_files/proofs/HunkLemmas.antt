@@ -3,17 +3,16 @@ use Rattle.std.proofs.Common.{◌≡◌, ◌∙◌, ◌⊎◌, ◌++◌, ◌∷�
 use Rattle.std.specs.Prelude.{◌↔◌, min, slice_get}
 use Rattle.std.specs.List.{All, AllPairs, Any}
 use Rattle.std.proofs.lemmas.Bool.{cases_lt}
-use Rattle.std.proofs.lemmas.List.{get_or_append_left, get_or_default, length-append}
+use Rattle.std.proofs.lemmas.List.{get_or_append_left, length-append}
 use Rattle.std.proofs.lemmas.List.Elements.{All-pop, All-push, All-weaker}
 use Rattle.std.proofs.lemmas.List.Quantifiers.{Any-push, all_pairs_push}
 use Rattle.std.proofs.lemmas.List.Sums.{count_by-le-length, count_by_more_no, count_by_more_yes}
 use Rattle.std.proofs.lemmas.Option.{get_or_from_slice_get, slice_get_within}
 use Rattle.std.proofs.Math.Seq.{get_or-append_seam}
 use Rattle.cedar_files.specs.declared.changes.Change.{Change}
-use Rattle.cedar_files.specs.declared.changes.Change.TheVariants.{Keep}
 use Rattle.cedar_files.specs.declared.hunks.Hunk.{Hunk}
 use Rattle.cedar_files.specs.declared.hunks.Passed.{Passed}
-use Rattle.cedar_files.specs.Hunks.{Passes, is_new, is_old, AreBefore, AreHunksOf, AreInOrder, IsChangedAt, IsIn, IsNearChange, IsShown}
+use Rattle.cedar_files.specs.Hunks.{Passes, is_new, is_old, AreBefore, AreHunksOf, AreInOrder, IsChangedAt, IsIn, IsShown}
 
 module _ {X : Type 0} (xs : List X) (y : X) where
   longer : length (xs ++ y ∷ []) ≡ length xs + 1
@@ -82,15 +81,15 @@ module _ (front : List Hunk) (last more : Hunk) where
           λ shown. elim (new.0 shown) [
             | inl h ↦ inl (old.1 (inl h))
             | inr (from, to) ↦ elim (cases_lt n last.end) [
-                | inl inside ↦ inl (old.1 (inr (from, inside)))
-                | inr after ↦ inr (omega (arith, reaches, after), to)
-              ]
+              | inl inside ↦ inl (old.1 (inr (from, inside)))
+              | inr after ↦ inr (omega (arith, reaches, after), to)
+            ]
           ],
           elim [
             | inl shown ↦ elim (old.0 shown) [
-                | inl h ↦ new.1 (inl h)
-                | inr (from, to) ↦ new.1 (inr (from, omega (arith, to, ends.1)))
-              ]
+              | inl h ↦ new.1 (inl h)
+              | inr (from, to) ↦ new.1 (inr (from, omega (arith, to, ends.1)))
+            ]
             | inr (from, to) ↦ new.1 (inr (omega (arith, from, starts.1), to))
           ],
         )
@@ -99,8 +98,8 @@ module _ (front : List Hunk) (last more : Hunk) where
     grown_order order =
         let whole = All-pop (λ hunk. hunk.start < hunk.end) (front ++ last ∷ []) front (Some last) refl order.some in record {
           apart = all_pairs_push (λ first next. first.end < next.start) front joined
-            (pairs_before front last (λ first next. first.end < next.start) order.apart)
-            (pairs_last front last (λ first next. first.end < next.start) order.apart);
+              (pairs_before front last (λ first next. first.end < next.start) order.apart)
+              (pairs_last front last (λ first next. first.end < next.start) order.apart);
           some = All-push (λ hunk. hunk.start < hunk.end) front joined whole.0 (omega (arith, whole.1, ends.1));
         }
 
@@ -155,13 +154,13 @@ module _ (changes : List Change) where
               let (m, less, there, low, high, inside) = (so_far.near k).0 old in
               (m, omega (arith, less), there, low, high, inside)
           | inr (from, to) ↦ (
-              n,
-              omega arith,
-              changed,
-              omega (arith, from, start),
-              omega (arith, to, end),
-              omega (arith, to, end),
-            )
+            n,
+            omega arith,
+            changed,
+            omega (arith, from, start),
+            omega (arith, to, end),
+            omega (arith, to, end),
+          )
         ],
         λ (m, less, there, low, high, inside). elim (cases_lt m n) [
           | inl below ↦ (shown k).1 (inl ((so_far.near k).1 (m, below, there, low, high, inside)))
@@ -193,8 +192,10 @@ counted_next test changes n change is = by_answer (test change) refl
   where
     inside : n < length changes
     inside = slice_get_within changes n change is
+
     there : get_or changes n change ≡ change
     there = get_or_from_slice_get changes n change change is
+
     by_answer : (b : Bool) → test change ≡ b → count_by test (take (n + 1) changes) ≡ count_by test (take n changes) + cond b 1 0
     by_answer true yes' = count_by_more_yes test changes n change inside (ap test there ∙ yes')
     by_answer false no' = count_by_more_no test changes n change inside (ap test there ∙ no')

@@ -24,11 +24,7 @@ struct Rule<'a> {
 
 impl<'a> Excludes<'a> {
     /// What these words leave alone. The working folder is given by its absolute path, without a slash at the end.
-    pub fn new(
-        alloc: Global,
-        words: &[&'a str],
-        folder: &'a str,
-    ) -> Result<Excludes<'a>, GlobError>
+    pub fn new(alloc: Global, words: &[&'a str], folder: &'a str) -> Result<Excludes<'a>, GlobError>
         ensures folder { IfOk result (λ excludes. working_folder excludes ≡ folder.now) }
         ensures unmet { IfOk result (λ excludes. unmet_words excludes ≡ map (λ x. x.now) words.now) }
     {

@@ -1,9 +1,8 @@
-use Rattle.std.proofs.Common.{◌≡◌, ◌∙◌, ◌++◌, ◌∷◌, ℕ, List, Some, None, MatchOption, ap, arith, codes, false, rules, subst, sym, tests, true}
+use Rattle.std.proofs.Common.{◌≡◌, ◌∙◌, ◌++◌, ◌∷◌, ℕ, Some, None, MatchOption, ap, arith, codes, false, rules, subst, sym, tests, true}
 use Rattle.std.proofs.lemmas.Iterator.Adapters.{YieldsList-from_bytes}
 use Rattle.std.proofs.lemmas.Iterator.Search.{all_from_yields_List}
 use Rattle.std.proofs.lemmas.Str.Pattern.{split_parts}
 use Rattle.std.specs.Char.{is_ascii_hexdigit}
-use Rattle.std.specs.List.{list_all}
 use Rattle.cedar_files.specs.Beside.{IsNewName}
 use Rattle.cedar_files.proofs.BesideLemmas.{read_number, read_parts}
 use Rattle.cedar_files.proofs.beside.maker_of.Goals as goal

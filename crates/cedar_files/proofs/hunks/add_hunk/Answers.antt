@@ -1,4 +1,4 @@
-use Rattle.std.proofs.Common.{◌≡◌, ◌∙◌, ◌⊎◌, ◌++◌, ◌∷◌, [], List, ap, subst, sym}
+use Rattle.std.proofs.Common.{◌∙◌, ◌⊎◌, ◌++◌, ◌∷◌, [], ap, subst, sym}
 use Rattle.std.specs.Prelude.{◌↔◌}
 use Rattle.cedar_files.specs.Hunks.{AreBefore, AreInOrder, IsIn, IsShown}
 use Rattle.cedar_files.proofs.HunkLemmas.{all_far, any_last, far_order, grown_before, grown_order, grown_shown, joined}

@@ -23,8 +23,8 @@ loop-rule-preserved c =
     let more = any_more (IsFor c.args.path.now c.args.below.now c.args.self.now.folder.now) (map asked first) i (asked rule) within is in
     let found = c.in_ok-matches.ensures in
     let met_here = λ (z : Rule).
-        met_more c.args.path.now c.args.below.now c.args.self.now.folder.now first items c.if-branch.rule-items i c.rule-item.result z
-        (omega (arith, many, inside)) c.loop-rule.invariant.2 in
+    met_more c.args.path.now c.args.below.now c.args.self.now.folder.now first items c.if-branch.rule-items i c.rule-item.result z
+    (omega (arith, many, inside)) c.loop-rule.invariant.2 in
     elim c.if-branch.branch [
       | then-branch w ↦ (
         ap (λ xs. map asked xs) w.rule-items-is ∙ map_stays asked items i c.rule-item.result _ (omega (arith, many, inside)) refl ∙ same,
@@ -82,5 +82,5 @@ returns-clause-met c =
     record {
       rules = ap (λ xs. length xs) whole ∙ many;
       each = λ k d less. subst (λ xs. IsMetAt path below folder (get_or rules.items k d) (get_or xs k d)) (sym whole)
-        (met.0 k d (omega (arith, less, many, c.loop-rule-test.false)));
+          (met.0 k d (omega (arith, less, many, c.loop-rule-test.false)));
     }

@@ -1,4 +1,4 @@
-use Rattle.std.proofs.Common.{◌≡◌, ◌∙◌, Some, ap, arith, length-take-le, take}
+use Rattle.std.proofs.Common.{◌∙◌, Some, ap, arith, length-take-le, take}
 use Rattle.std.proofs.lemmas.List.Sums.{count_by-le-length}
 use Rattle.cedar_files.specs.declared.changes.Change.TheVariants.{Keep, Remove, Add}
 use Rattle.cedar_files.specs.Hunks.{is_new, is_old}

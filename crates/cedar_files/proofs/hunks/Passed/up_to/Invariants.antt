@@ -1,4 +1,4 @@
-use Rattle.std.proofs.Common.{◌≡◌, ◌≤◌, length}
+use Rattle.std.proofs.Common.{◌≡◌}
 use Rattle.cedar_files.specs.Hunks.{Passes}
 use Rattle.cedar_files.proofs.hunks.Passed.up_to.Given as goal
 

@@ -1,8 +1,7 @@
-use Rattle.std.proofs.Common.{◌≡◌, ◌∙◌, ◌++◌, ◌∷◌, [], Some, ap, arith, map, option_map, string_bytes, subst, sym}
+use Rattle.std.proofs.Common.{◌∙◌, ◌++◌, ◌∷◌, [], ap, arith, map, option_map, string_bytes, subst}
 use Rattle.std.proofs.lemmas.List.{map-append}
 use Rattle.std.proofs.lemmas.Map.Text.{text_keys}
 use Rattle.std.specs.Str.{IsUtf8}
-use Rattle.cedar_files.specs.Words.{AddsWord, odd_bytes, texts_of}
 use Rattle.cedar_files.proofs.words.Words.add.Goals as goal
 
 pub returns : goal.returns
@@ -13,12 +12,12 @@ returns c =
     record {
       text = text;
       texts = ap (λ xs. map string_bytes xs) c.in_ok-push-2.ensures.items ∙ map-append string_bytes items (c.in_ok-clone.field-0 ∷ [])
-        ∙ ap (λ t. map string_bytes items ++ (t ∷ [])) c.in_ok-clone.ensures.cases;
+          ∙ ap (λ t. map string_bytes items ++ (t ∷ [])) c.in_ok-clone.ensures.cases;
       itself = λ is_text. absurd (not_text is_text);
       begins = λ _. (
         string_bytes c.in_ok-shown.shown,
         c.in_ok-push_str.ensures.bytes ∙ ap (λ z. z ++ c.as_str.result.now) c.in_ok-stand_in.ensures.ok
-        ∙ ap (λ z. 0 ∷ z) c.as_str.ensures.value,
+            ∙ ap (λ z. 0 ∷ z) c.as_str.ensures.value,
       );
       stands_in = λ _. ap (λ o. option_map (λ v. v.items) o) c.in_ok-insert.ensures.updates.1;
       others = λ other is_text. absurd (not_text is_text);

@@ -1,6 +1,6 @@
-use Rattle.std.proofs.Common.{◌≡◌, ◌∙◌, ◌∷◌, ◌+◌, ◌<◌, ap, codes, drop, get_or, length, map, string_bytes, subst, sym}
+use Rattle.std.proofs.Common.{◌≡◌, ◌∙◌, ◌+◌, ◌<◌, ap, codes, drop, get_or, length, map, string_bytes, subst, sym}
 use Rattle.std.specs.Str.{bytes_eq}
-use Rattle.cedar_files.specs.Words.{first_odd_option, odd_bytes, odd_option_of}
+use Rattle.cedar_files.specs.Words.{odd_bytes, odd_option_of}
 use Rattle.cedar_files.proofs.WordLemmas.{found_bytes, next_text, passed_bytes, passed_text}
 use Rattle.cedar_files.proofs.words.Words.odd_option.Goals as goal
 use Rattle.cedar_files.proofs.words.Words.odd_option.Goals.{in-Text+else-eq, in-Bytes+else-starts_with}
