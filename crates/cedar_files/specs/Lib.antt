@@ -4,6 +4,7 @@ pub mod Counts
 pub mod Entries
 pub mod Excludes
 pub mod Hunks
+pub mod Numbers
 pub mod Options
 pub mod Paths
 pub mod Places

@@ -2,8 +2,8 @@
 use crate::changes::{Change, changes};
 use crate::hunks::{Lines, Passed, hunks_of};
 use crate::names::{Escaped, is_quoted};
+use crate::numbers::Numbers;
 use std::alloc::{AllocError, Global};
-use std::collections::HashMap;
 use std::io::Write;
 use std::{fmt, io};
 
@@ -41,39 +41,6 @@ pub fn write_diff<W: Write>(
 // The lines of a text, each with its line feed.
 fn lines_of(alloc: Global, text: &str) -> Result<Vec<&str>, AllocError> {
     text.split_inclusive('\n').collect(alloc)
-}
-
-// Numbers of lines: the same for equal ones.
-#[derive(Drop)]
-struct Numbers<'a> {
-    known: HashMap<&'a str, u32>,
-}
-
-impl<'a> Numbers<'a> {
-    fn new(alloc: Global) -> Numbers<'a> {
-        Numbers {
-            known: HashMap::new(alloc),
-        }
-    }
-
-    fn all(&mut self, alloc: Global, lines: &[&'a str]) -> io::Result<Vec<u32>> {
-        let mut numbers = Vec::new(alloc);
-        for line in lines {
-            numbers.push(self.of(line)?)?;
-        }
-        Ok(numbers)
-    }
-
-    fn of(&mut self, line: &'a str) -> io::Result<u32> {
-        if let Some(number) = self.known.get(&line) {
-            return Ok(*number);
-        }
-        let Ok(number) = u32::try_from(self.known.len()) else {
-            return Err(io::Error::from(io::ErrorKind::OutOfMemory));
-        };
-        let _ = self.known.insert(line, number)?;
-        Ok(number)
-    }
 }
 
 // Writes which lines a hunk is about, by what is passed before and after it.

@@ -17,6 +17,7 @@ mod files;
 mod hunks;
 mod layouts;
 mod names;
+mod numbers;
 mod options;
 mod paths;
 mod places;
