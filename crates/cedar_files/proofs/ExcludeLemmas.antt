@@ -1,15 +1,16 @@
 -- Paths that are seen from a folder.
-use Rattle.std.proofs.Common.{◌≡◌, ◌∙◌, ◌⊎◌, ◌++◌, ◌∷◌, ◌+◌, ◌<◌, [], ℕ, List, Bool, true, false, Result, Ok, Err, sym, ap, inl, inr, subst, drop, get_or, get_or-take, length, map, set, take, arith}
+use Rattle.std.proofs.Common.{◌≡◌, ◌∙◌, ◌⊎◌, ◌++◌, ◌∷◌, ◌+◌, ◌<◌, ◌≤◌, ◌≢◌, [], ℕ, List, Bool, true, false, Result, Ok, Err, sym, ap, inl, inr, subst, drop, get_or, get_or-take, length, map, set, take, arith}
 use Rattle.std.specs.Prelude.{◌↔◌, IfOk, IsTrue}
 use Rattle.std.specs.List.{Any}
 use Rattle.std.proofs.lemmas.Bool.{cases_lt}
-use Rattle.std.proofs.lemmas.List.{get_or-map, get_or_default, length-append, length-take, length-take-le, map-set, set-get_or, take-append-drop}
+use Rattle.std.proofs.lemmas.List.{get_or-map, get_or-set_other, get_or-set_same, get_or_default, length-append, length-take, length-take-le, map-set, set-get_or, take-append-drop}
 use Rattle.std.specs.declared.alloc.AllocError.{AllocError}
 use Rattle.std.proofs.lemmas.List.{append_cancel_left}
 use Rattle.cedar_settings.specs.Settings.{matches}
 use Rattle.cedar_settings.specs.declared.globs.Glob.{Glob}
 use Rattle.cedar_files.specs.declared.excludes.Excludes.{Excludes}
-use Rattle.cedar_files.specs.Excludes.{AsksTheSame, IsFor, IsMeant, IsMeantFrom, LeavesAbove, LeavesAlone, LeavesNamed, globs, working_folder}
+use Rattle.cedar_files.specs.declared.excludes.Rule.{Rule}
+use Rattle.cedar_files.specs.Excludes.{AsksTheSame, IsFor, IsMeant, IsMeantFrom, IsMetAt, LeavesAbove, LeavesAlone, LeavesNamed, globs, working_folder}
 
 slash_first : (xs : List ℕ) → get_or xs 0 0 ≡ 47 → (rest : List ℕ) × (xs ≡ 47 ∷ rest)
 slash_first [] e = absurd (omega (arith, e))
@@ -80,6 +81,33 @@ pub map_stays : {X Y : Type 0} (f : X → Y) (xs : List X) (i : ℕ) (d z : X) �
 map_stays f xs i d z inside same = map-set f xs i z
     ∙ ap (λ y. set (map f xs) i y) (same ∙ sym (get_or-map f xs i d (f d) inside))
     ∙ set-get_or (map f xs) i (f d)
+
+module _ (path below folder : List ℕ) (first : List Rule) where
+  -- a path was met at the first i rules, and the others are as they were
+  abbrev pub MetBelow : ℕ → List Rule → Type 0
+  MetBelow i rules = ((k : ℕ) (d : Rule) → k < i → IsMetAt path below folder (get_or first k d) (get_or rules k d))
+      × ((k : ℕ) (d : Rule) → i ≤ k → get_or rules k d ≡ get_or first k d)
+
+  -- and at one more
+  pub met_more : (rules new : List Rule) (i : ℕ) (d z : Rule) → i < length rules → MetBelow i rules
+      → IsMetAt path below folder (get_or rules i d) z → new ≡ set rules i z → MetBelow (i + 1) new
+  met_more rules new i d z inside (each, rest) here is = subst (λ xs. MetBelow (i + 1) xs) (sym is) (
+    λ k e less. elim (cases_lt k i) [
+      | inl before ↦
+          let other : k ≢ i = omega (arith, before) in
+          subst (λ r. IsMetAt path below folder (get_or first k e) r) (sym (get_or-set_other rules i k z e other)) (each k e before)
+      | inr after ↦
+          let same : k ≡ i = omega (arith, less, after) in
+          let there : get_or (set rules i z) k e ≡ z = ap (λ n. get_or (set rules i z) n e) same ∙ get_or-set_same rules i z e inside in
+          let old : get_or rules i d ≡ get_or first k e =
+          get_or_default rules i d e inside ∙ rest i e (omega arith) ∙ ap (λ n. get_or first n e) (sym same) in
+          subst (λ r. IsMetAt path below folder (get_or first k e) r) (sym there)
+          (subst (λ r. IsMetAt path below folder r z) old here)
+    ],
+    λ k e after.
+        let other : k ≢ i = omega (arith, after) in
+        get_or-set_other rules i k z e other ∙ rest k e (omega (arith, after)),
+  )
 
 -- what is asked for stays the same from step to step
 pub same_again : (first second third : Excludes) → AsksTheSame first second → AsksTheSame second third → AsksTheSame first third

@@ -1,5 +1,5 @@
 -- Which paths are left alone.
-use Rattle.std.specs.Prelude.{◌≡◌, ◌⊎◌, ◌++◌, ◌∷◌, ℕ, List, Bool, true, false, IsTrue, map, take}
+use Rattle.std.specs.Prelude.{◌≡◌, ◌↔◌, ◌<◌, ◌⊎◌, ◌++◌, ◌∷◌, ℕ, List, Bool, true, false, IsTrue, filter, length, map, not, slice_index_or, take}
 use Rattle.std.specs.List.{Any}
 use Rattle.cedar_settings.specs.Settings.{matches}
 use Rattle.cedar_settings.specs.declared.globs.Glob.{Glob}
@@ -47,3 +47,26 @@ LeavesAbove e path n = (rest : List ℕ) × (path ≡ take n path ++ (47 ∷ res
 -- the path, or a folder that it is in, is left alone as it is seen from the working folder
 abbrev pub LeavesNamed : Excludes → List ℕ → Type 0
 LeavesNamed e path = ((n : ℕ) × LeavesAbove e path n) ⊎ LeavesAlone e path (working_folder e)
+
+-- the word of a rule
+abbrev pub word_of : Rule → List ℕ
+word_of rule = rule.word.now
+
+-- the words of the rules for which nothing was met, in order
+abbrev pub words_unmet : List Rule → List (List ℕ)
+words_unmet rules = map word_of (filter (λ rule. not rule.is_met) rules)
+
+-- the words for which nothing was met, in order
+abbrev pub unmet_words : Excludes → List (List ℕ)
+unmet_words e = words_unmet e.rules.items
+
+-- something was met for a rule: there was before, or its glob is for this path
+pub record IsMetAt (path below folder : List ℕ) (old new : Rule) : Type 0 where
+  pub word : word_of new ≡ word_of old
+  pub met : IsTrue new.is_met ↔ (IsTrue old.is_met ⊎ IsFor path below folder (asked old))
+
+-- this path was met, as it is seen from a folder and from the working folder
+pub record Meets (old : Excludes) (path below : List ℕ) (new : Excludes) : Type 0 where
+  pub rules : length new.rules.items ≡ length old.rules.items
+  pub each : (k : ℕ) (d : Rule) → k < length old.rules.items
+      → IsMetAt path below (working_folder old) (slice_index_or old.rules.items k d) (slice_index_or new.rules.items k d)

@@ -1,4 +1,11 @@
+pub mod Beside
+pub mod Changes
 pub mod Counts
+pub mod Entries
 pub mod Excludes
+pub mod Hunks
+pub mod Numbers
+pub mod Options
 pub mod Paths
 pub mod Places
+pub mod Words

@@ -1,5 +1,5 @@
 -- Paths as texts.
-use Rattle.std.specs.Prelude.{◌==◌, ◌||◌, ◌++◌, ◌∷◌, [], ◌-◌, ℕ, List, Bool, codes, if◌then◌else◌, flat_map, length, nat_eq, take}
+use Rattle.std.specs.Prelude.{◌≡◌, ◌==◌, ◌||◌, ◌++◌, ◌∷◌, [], ◌-◌, ℕ, List, Bool, codes, if◌then◌else◌, flat_map, length, nat_eq, take}
 use Rattle.std.specs.List.{fold, slice_split, starts_with}
 use Rattle.std.specs.Str.{bytes_eq}
 
@@ -26,3 +26,7 @@ absolute parts = flat_map (λ part. 47 ∷ part) parts
 -- the absolute path of a file, by its name: an absolute one, or one from a folder
 abbrev pub path_of : List ℕ → List ℕ → List ℕ
 path_of folder name = absolute (led (if starts_with nat_eq name (codes "/") then [] else led [] folder) name)
+
+-- the path goes on below a folder, by a slash
+abbrev pub IsBelow : List ℕ → List ℕ → Type 0
+IsBelow path folder = (rest : List ℕ) × (path ≡ folder ++ (47 ∷ rest))

@@ -1,4 +1,7 @@
 //! The names of new files, before they take the place of others.
+ghost use Rattle.std.specs.Prelude.{ℕ, MatchOption};
+ghost use Rattle.cedar_files.specs.Beside.{IsNewName};
+
 use std::alloc::{AllocError, Global};
 use std::{fs, process};
 
@@ -22,18 +25,25 @@ pub fn name_beside(
 
 /// Whether a name in a folder is that of a new file that an ended run has left.
 pub fn is_left(rt: &HostRuntime, alloc: Global, name: &str) -> Result<bool, AllocError> {
-    let Some(rest) = name.strip_prefix(PREFIX) else {
-        return Ok(false);
-    };
-    let Some((number, bits)) = rest.split_once('.') else {
-        return Ok(false);
-    };
-    if !bits.bytes().all(|byte| byte.is_ascii_hexdigit()) {
-        return Ok(false);
-    }
-    let Ok(number) = number.parse::<u32>() else {
+    let Some(number) = maker_of(name) else {
         return Ok(false);
     };
     let process = format!(in alloc; "/proc/{number}")?;
     Ok(!fs::exists(rt, process.as_str()).unwrap_or(false))
+}
+
+// The number of the process that gave a new file this name, if it is such a name.
+fn maker_of(name: &str) -> Option<u32>
+    ensures { MatchOption result ((number : ℕ) → ¬ (IsNewName name.now number)) (λ number. IsNewName name.now number) }
+{
+    let Some(rest) = name.strip_prefix(PREFIX) else {
+        return None;
+    };
+    let Some((number, bits)) = rest.split_once('.') else {
+        return None;
+    };
+    if !bits.bytes().all(|byte| byte.is_ascii_hexdigit()) {
+        return None;
+    }
+    number.parse().ok()
 }

@@ -1,14 +1,11 @@
 //! The difference between a file and its output, as a unified diff.
 use crate::changes::{Change, changes};
+use crate::hunks::{Lines, Passed, hunks_of};
 use crate::names::{Escaped, is_quoted};
+use crate::numbers::Numbers;
 use std::alloc::{AllocError, Global};
-use std::collections::HashMap;
 use std::io::Write;
-use std::ops::Range;
 use std::{fmt, io};
-
-// How many lines are shown before and after a change.
-const CONTEXT: usize = 3;
 
 /// Writes the difference between a file of this name and its output, so that `git apply` or `patch -p1` makes it where the
 /// run was started.
@@ -29,15 +26,14 @@ pub fn write_diff<W: Write>(
     let hunks = hunks_of(alloc, &changes)?;
     write!(out, "--- {}\n", Label("a", name))?;
     write!(out, "+++ {}\n", Label("b", name))?;
-    let mut place = Place {
-        old: 0,
-        new: 0,
-        at: 0,
-    };
+    let mut passed = Passed::new();
     for hunk in &hunks {
-        place.skip_to(&changes, hunk.start);
-        write_header(out, place, changes.get(hunk.start..hunk.end).unwrap_or(&[]))?;
-        place.write_to(out, &changes, hunk.end, &old, &new)?;
+        passed = passed.up_to(&changes, hunk.start);
+        write_header(out, passed, passed.up_to(&changes, hunk.end))?;
+        for change in changes.get(hunk.start..hunk.end).unwrap_or(&[]) {
+            write_line(out, passed, *change, &old, &new)?;
+            passed.pass(*change);
+        }
     }
     Ok(())
 }
@@ -47,131 +43,38 @@ fn lines_of(alloc: Global, text: &str) -> Result<Vec<&str>, AllocError> {
     text.split_inclusive('\n').collect(alloc)
 }
 
-// Numbers of lines: the same for equal ones.
-#[derive(Drop)]
-struct Numbers<'a> {
-    known: HashMap<&'a str, u32>,
+// Writes which lines a hunk is about, by what is passed before and after it.
+fn write_header<W: Write>(out: &mut W, start: Passed, end: Passed) -> io::Result<()> {
+    let old = Lines::between(start.old_lines, end.old_lines);
+    let new = Lines::between(start.new_lines, end.new_lines);
+    write!(
+        out,
+        "@@ -{},{} +{},{} @@\n",
+        old.first, old.count, new.first, new.count
+    )
 }
 
-impl<'a> Numbers<'a> {
-    fn new(alloc: Global) -> Numbers<'a> {
-        Numbers {
-            known: HashMap::new(alloc),
-        }
-    }
-
-    fn all(&mut self, alloc: Global, lines: &[&'a str]) -> io::Result<Vec<u32>> {
-        let mut numbers = Vec::new(alloc);
-        for line in lines {
-            numbers.push(self.of(line)?)?;
-        }
-        Ok(numbers)
-    }
-
-    fn of(&mut self, line: &'a str) -> io::Result<u32> {
-        if let Some(number) = self.known.get(&line) {
-            return Ok(*number);
-        }
-        let Ok(number) = u32::try_from(self.known.len()) else {
-            return Err(io::Error::from(io::ErrorKind::OutOfMemory));
-        };
-        let _ = self.known.insert(line, number)?;
-        Ok(number)
-    }
-}
-
-// A place in the changes, and how many lines of both texts come before it.
-#[derive(Clone, Copy)]
-struct Place {
-    old: usize,
-    new: usize,
-    at: usize,
-}
-
-impl Place {
-    fn pass(&mut self, change: Change) {
-        self.at = self.at.saturating_add(1);
-        if change != Change::Add {
-            self.old = self.old.saturating_add(1);
-        }
-        if change != Change::Remove {
-            self.new = self.new.saturating_add(1);
-        }
-    }
-
-    fn skip_to(&mut self, changes: &[Change], end: usize) {
-        for change in changes.get(self.at..end).unwrap_or(&[]) {
-            self.pass(*change);
-        }
-    }
-
-    // Writes the lines of the changes from here on.
-    fn write_to<W: Write>(
-        &mut self,
-        out: &mut W,
-        changes: &[Change],
-        end: usize,
-        old: &[&str],
-        new: &[&str],
-    ) -> io::Result<()> {
-        for change in changes.get(self.at..end).unwrap_or(&[]) {
-            let (sign, line) = match change {
-                Change::Keep => (' ', old.get(self.old)),
-                Change::Remove => ('-', old.get(self.old)),
-                Change::Add => ('+', new.get(self.new)),
-            };
-            self.pass(*change);
-            let Some(line) = line else {
-                continue;
-            };
-            write!(out, "{sign}{line}")?;
-            if !line.ends_with('\n') {
-                out.write_all(b"\n\\ No newline at end of file\n")?;
-            }
-        }
-        Ok(())
-    }
-}
-
-// Writes which lines a hunk is about.
-fn write_header<W: Write>(out: &mut W, place: Place, changes: &[Change]) -> io::Result<()> {
-    let mut end = place;
-    for change in changes {
-        end.pass(*change);
-    }
-    write!(out, "@@ -")?;
-    write_range(out, place.old, end.old)?;
-    write!(out, " +")?;
-    write_range(out, place.new, end.new)?;
-    write!(out, " @@\n")
-}
-
-// Writes the first line and how many there are. Where there is none it is the line before.
-fn write_range<W: Write>(out: &mut W, start: usize, end: usize) -> io::Result<()> {
-    let count = end.saturating_sub(start);
-    let first = if count == 0 {
-        start
-    } else {
-        start.saturating_add(1)
+// Writes the line of a change, before which this is passed.
+fn write_line<W: Write>(
+    out: &mut W,
+    passed: Passed,
+    change: Change,
+    old: &[&str],
+    new: &[&str],
+) -> io::Result<()> {
+    let (sign, line) = match change {
+        Change::Keep => (' ', old.get(passed.old_lines)),
+        Change::Remove => ('-', old.get(passed.old_lines)),
+        Change::Add => ('+', new.get(passed.new_lines)),
     };
-    write!(out, "{first},{count}")
-}
-
-// The parts that are shown: changes with some lines before and after them.
-fn hunks_of(alloc: Global, changes: &[Change]) -> Result<Vec<Range<usize>>, AllocError> {
-    let mut hunks: Vec<Range<usize>> = Vec::new(alloc);
-    for (n, change) in changes.iter().enumerate() {
-        if *change == Change::Keep {
-            continue;
-        }
-        let start = n.saturating_sub(CONTEXT);
-        let end = n.saturating_add(CONTEXT + 1).min(changes.len());
-        match hunks.last_mut() {
-            Some(last) if start <= last.end => last.end = end,
-            _ => hunks.push(start..end)?,
-        }
+    let Some(line) = line else {
+        return Ok(());
+    };
+    write!(out, "{sign}{line}")?;
+    if !line.ends_with('\n') {
+        out.write_all(b"\n\\ No newline at end of file\n")?;
     }
-    Ok(hunks)
+    Ok(())
 }
 
 // A name in a diff, as `git apply` reads it: below a folder, in quotes if need be, and before a tab if it has a space.

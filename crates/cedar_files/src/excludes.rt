@@ -1,6 +1,6 @@
 //! Which files and folders are left alone.
-ghost use Rattle.std.specs.Prelude.{◌↔◌, IfOk, IsTrue};
-ghost use Rattle.cedar_files.specs.Excludes.{AsksTheSame, IsMeant, IsMeantFrom, LeavesAbove, LeavesAlone, LeavesNamed};
+ghost use Rattle.std.specs.Prelude.{◌≡◌, ◌↔◌, IfOk, IsTrue, false, map};
+ghost use Rattle.cedar_files.specs.Excludes.{AsksTheSame, IsMeant, IsMeantFrom, LeavesAbove, LeavesAlone, LeavesNamed, Meets, unmet_words, working_folder};
 
 use cedar_settings::{Glob, GlobError};
 use std::alloc::{AllocError, Global};
@@ -24,11 +24,10 @@ struct Rule<'a> {
 
 impl<'a> Excludes<'a> {
     /// What these words leave alone. The working folder is given by its absolute path, without a slash at the end.
-    pub fn new(
-        alloc: Global,
-        words: &[&'a str],
-        folder: &'a str,
-    ) -> Result<Excludes<'a>, GlobError> {
+    pub fn new(alloc: Global, words: &[&'a str], folder: &'a str) -> Result<Excludes<'a>, GlobError>
+        ensures folder { IfOk result (λ excludes. working_folder excludes ≡ folder.now) }
+        ensures unmet { IfOk result (λ excludes. unmet_words excludes ≡ map (λ x. x.now) words.now) }
+    {
         let mut rules = Vec::new(alloc);
         for word in words {
             let rule = Rule::new(alloc, word)?;
@@ -43,6 +42,7 @@ impl<'a> Excludes<'a> {
     pub fn leaves(&mut self, alloc: Global, path: &str, below: &str) -> Result<bool, AllocError>
         ensures left { IfOk result (λ is_left. IsTrue is_left ↔ LeavesAlone self.old path.now below.now) }
         ensures same { AsksTheSame self.old self.new }
+        ensures met { IfOk result (λ _. Meets self.old path.now below.now self.new) }
     {
         let mut is_left = false;
         for rule in self.rules.iter_mut() {
@@ -84,7 +84,9 @@ impl<'a> Excludes<'a> {
     }
 
     /// The words that nothing was met for.
-    pub fn unmet(&self, alloc: Global) -> Result<Vec<&'a str>, AllocError> {
+    pub fn unmet(&self, alloc: Global) -> Result<Vec<&'a str>, AllocError>
+        ensures { IfOk result (λ words. map (λ x. x.now) words.items ≡ unmet_words self.now) }
+    {
         let mut words = Vec::new(alloc);
         for rule in &self.rules {
             if !rule.is_met {
@@ -96,7 +98,10 @@ impl<'a> Excludes<'a> {
 }
 
 impl<'a> Rule<'a> {
-    fn new(alloc: Global, word: &'a str) -> Result<Rule<'a>, GlobError> {
+    fn new(alloc: Global, word: &'a str) -> Result<Rule<'a>, GlobError>
+        ensures word { IfOk result (λ rule. rule.word.now ≡ word.now) }
+        ensures unmet { IfOk result (λ rule. rule.is_met ≡ false) }
+    {
         let glob = word.trim_start_matches("./").trim_end_matches('/');
         Ok(Rule {
             word,

@@ -94,7 +94,8 @@ impl fmt::Display for JsonText<'_> {
     }
 }
 
-/// A text in a workflow command of GitHub: its message, or one of its properties.
+/// A text in a workflow command of GitHub: its message, or one of its properties. Other control characters than the ends of
+/// lines, which GitHub has escapes for, are written as in a name.
 #[derive(Clone, Copy)]
 pub enum CommandText<'a> {
     Message(&'a str),
@@ -114,6 +115,8 @@ impl fmt::Display for CommandText<'_> {
                 '\n' => f.write_str("%0A")?,
                 ':' if is_property => f.write_str("%3A")?,
                 ',' if is_property => f.write_str("%2C")?,
+                '\t' => f.write_str("\\t")?,
+                _ if character.is_control() => write_octal(character, f)?,
                 _ => f.write_char(character)?,
             }
         }

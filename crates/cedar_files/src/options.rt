@@ -1,5 +1,6 @@
 //! The words of the command line.
-ghost use Rattle.std.specs.Prelude.{◌≢◌, ◌↔◌, IsTrue};
+ghost use Rattle.std.specs.Prelude.{◌≡◌, ◌≢◌, ◌↔◌, IsTrue};
+ghost use Rattle.cedar_files.specs.Options.{mode_of};
 
 use crate::words::{Word, Words};
 use cedar_program_words::VERSION;
@@ -18,6 +19,19 @@ pub enum Mode {
 }
 
 impl Mode {
+    /// The mode of a run with or without `--check` and `--diff`.
+    fn of(checks: bool, diffs: bool) -> Mode
+        ensures { result ≡ mode_of checks diffs }
+    {
+        if checks {
+            Mode::Check
+        } else if diffs {
+            Mode::Diff
+        } else {
+            Mode::Write
+        }
+    }
+
     /// Whether nothing is changed.
     pub fn only_checks(self) -> bool
         ensures { IsTrue result ↔ (self ≢ Mode.Write) }
@@ -201,7 +215,7 @@ pub fn read_options<'a>(
         paths.push(words.word_of(path))?;
     }
     Ok(Options {
-        mode: mode_of(&matches),
+        mode: Mode::of(matches.get_flag("check"), matches.get_flag("diff")),
         format: match matches.get_str("format") {
             Some("github") => Format::Github,
             Some("json") => Format::Json,
@@ -218,16 +232,6 @@ pub fn read_options<'a>(
         excludes_named: matches.get_flag("force-exclude"),
         paths,
     })
-}
-
-fn mode_of(matches: &ArgMatches<'_>) -> Mode {
-    if matches.get_flag("check") {
-        Mode::Check
-    } else if matches.get_flag("diff") {
-        Mode::Diff
-    } else {
-        Mode::Write
-    }
 }
 
 // All values of an argument.

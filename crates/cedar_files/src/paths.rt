@@ -1,6 +1,6 @@
 //! Paths as texts.
-ghost use Rattle.std.specs.Prelude.{◌≡◌, IfOk, [], map, string_bytes};
-ghost use Rattle.cedar_files.specs.Paths.{absolute, led, next, path_of};
+ghost use Rattle.std.specs.Prelude.{◌≡◌, ◌↔◌, IfOk, IsTrue, [], map, string_bytes};
+ghost use Rattle.cedar_files.specs.Paths.{IsBelow, absolute, led, next, path_of};
 
 use std::alloc::{AllocError, Global};
 use std::env;
@@ -61,4 +61,14 @@ fn joined(alloc: Global, parts: &[&str]) -> Result<String, AllocError>
         path.push_str(part)?;
     }
     Ok(path)
+}
+
+/// Whether an absolute path leads to something in a folder, or in one below it. The folder's path has no slash at the end.
+pub fn is_below(path: &str, folder: &str) -> bool
+    ensures { IsTrue result ↔ IsBelow path.now folder.now }
+{
+    match path.strip_prefix(folder) {
+        Some(rest) => rest.starts_with('/'),
+        None => false,
+    }
 }

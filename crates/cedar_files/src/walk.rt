@@ -1,9 +1,10 @@
 //! The files that the words name.
 use crate::beside::is_left;
+use crate::entries::{is_hidden, is_taken};
 use crate::excludes::Excludes;
 use crate::names::ShownBytes;
 use crate::options::Options;
-use crate::paths::resolved;
+use crate::paths::{is_below, resolved};
 use crate::reports::{Kind, Remark, Reports};
 use crate::words::Word;
 use std::collections::BTreeSet;
@@ -150,7 +151,7 @@ impl<'a, 'e, 'r> Walk<'a, 'e, 'r> {
     fn enter(&mut self, folder: &str, name: &str) -> io::Result<()> {
         let alloc = self.rt.alloc();
         let path = format!(in alloc; "{folder}/{name}")?;
-        if name.starts_with('.') {
+        if is_hidden(name.as_bytes()) {
             if is_left(self.rt, alloc, name)? {
                 self.note(
                     path.as_str(),
@@ -171,8 +172,10 @@ impl<'a, 'e, 'r> Walk<'a, 'e, 'r> {
         }
         match fs::symlink_metadata(self.rt, path.as_str()) {
             Ok(found) if found.is_dir() => self.folders.push(path)?,
-            Ok(found) if !name.ends_with(".cedar") || !(found.is_file() || found.is_symlink()) => {}
-            Ok(found) => self.take_file(path, found.is_symlink())?,
+            Ok(found) if is_taken(name, found.is_file(), found.is_symlink()) => {
+                self.take_file(path, found.is_symlink())?;
+            }
+            Ok(_) => {}
             Err(error) if error.kind() == ErrorKind::NotFound => {
                 self.note(path.as_str(), "vanished in the meantime");
             }
@@ -206,13 +209,8 @@ impl<'a, 'e, 'r> Walk<'a, 'e, 'r> {
         let (Some(target), Some(folder)) = (real_path(self.rt, path)?, &self.real) else {
             return Ok(false);
         };
-        match target
-            .as_str()
-            .strip_prefix(folder.as_str().trim_end_matches('/'))
-        {
-            Some(rest) => Ok(!rest.starts_with('/')),
-            None => Ok(true),
-        }
+        let folder = folder.as_str().trim_end_matches('/');
+        Ok(!is_below(target.as_str(), folder))
     }
 
     fn note(&mut self, path: &str, message: &str) {
@@ -237,7 +235,7 @@ impl<'a, 'e, 'r> Walk<'a, 'e, 'r> {
 
     // Reports a name in a folder that isn't UTF-8, unless it is hidden.
     fn leave_name(&mut self, folder: &str, name: &[u8]) -> io::Result<()> {
-        if name.starts_with(b".") {
+        if is_hidden(name) {
             return Ok(());
         }
         let message = format!(in self.rt.alloc();

@@ -1,4 +1,7 @@
 //! The words of the command line, which need not be UTF-8.
+ghost use Rattle.std.specs.Prelude.{◌≡◌, ◌↔◌, IsTrue, OnOk, map, option_map, string_bytes};
+ghost use Rattle.cedar_files.specs.Words.{AddsWord, IsText, StandsFor, first_odd_option, odd_bytes, texts_of};
+
 use crate::names::ShownBytes;
 use std::alloc::{AllocError, Global};
 use std::collections::BTreeMap;
@@ -16,7 +19,9 @@ pub enum Word<'a> {
 
 impl Word<'_> {
     /// Whether it is this text.
-    pub fn is(self, text: &str) -> bool {
+    pub fn is(self, text: &str) -> bool
+        ensures { IsTrue result ↔ IsText self.entry text.now }
+    {
         match self {
             Word::Text(own) => own == text,
             Word::Bytes(_) => false,
@@ -53,24 +58,32 @@ impl Words {
     }
 
     // Adds a word.
-    fn add(&mut self, alloc: Global, bytes: Vec<u8>) -> Result<(), AllocError> {
+    fn add(&mut self, alloc: Global, bytes: Vec<u8>) -> Result<(), AllocError>
+        ensures { OnOk result (AddsWord self.old bytes.items self.new) }
+    {
         if let Ok(text) = str::from_utf8(&bytes) {
             self.texts.push(String::from_str(alloc, text)?)?;
             return Ok(());
         }
-        let stand_in = format!(in alloc; "\0{}", ShownBytes(&bytes))?;
+        let shown = format!(in alloc; "{}", ShownBytes(&bytes))?;
+        let mut stand_in = String::from_str(alloc, "\0")?;
+        stand_in.push_str(shown.as_str())?;
         self.texts.push(stand_in.clone()?)?;
         let _ = self.odd.insert(stand_in, bytes)?;
         Ok(())
     }
 
     /// The words as texts.
-    pub fn texts(&self) -> &[String] {
+    pub fn texts(&self) -> &[String]
+        ensures { map string_bytes result.now ≡ texts_of self.now }
+    {
         &self.texts
     }
 
     /// The word that this text is, or stands for.
-    pub fn word_of<'a>(&'a self, text: &'a str) -> Word<'a> {
+    pub fn word_of<'a>(&'a self, text: &'a str) -> Word<'a>
+        ensures { StandsFor self.now text.now result }
+    {
         match self.odd_word(text) {
             Some(bytes) => Word::Bytes(bytes),
             None => Word::Text(text),
@@ -78,17 +91,31 @@ impl Words {
     }
 
     /// The word that this text stands for, if it is a stand-in.
-    pub fn odd_word(&self, text: &str) -> Option<&[u8]> {
-        Some(self.odd.get(text)?)
+    pub fn odd_word(&self, text: &str) -> Option<&[u8]>
+        ensures { option_map (λ bytes. bytes.now) result ≡ odd_bytes self.now text.now }
+    {
+        match self.odd.get(text) {
+            Some(bytes) => Some(bytes.as_slice()),
+            None => None,
+        }
     }
 
     /// The first option that isn't UTF-8: a word that begins with `-`, with no word `--` before it.
-    pub fn odd_option(&self) -> Option<&[u8]> {
+    pub fn odd_option(&self) -> Option<&[u8]>
+        ensures { option_map (λ bytes. bytes.now) result ≡ first_odd_option self.now }
+    {
         for text in &self.texts {
             match self.word_of(text.as_str()) {
-                Word::Text("--") => return None,
-                Word::Bytes(bytes) if bytes.starts_with(b"-") => return Some(bytes),
-                _ => {}
+                Word::Text(own) => {
+                    if own == "--" {
+                        return None;
+                    }
+                }
+                Word::Bytes(bytes) => {
+                    if bytes.starts_with(b"-") {
+                        return Some(bytes);
+                    }
+                }
             }
         }
         None
