@@ -17,5 +17,6 @@ greatest_indentation i = columns_of i + suc greatest_depth * suc (3 * columns_of
 abbrev pub growth : ℤ → ℕ
 growth i = 3 + greatest_indentation i
 
+-- an output has no more bytes than that for each byte of its text, and one line feed
 abbrev pub OutputsAreBounded : Type 0
 OutputsAreBounded = (w : ℕ) (i : ℤ) (x y : List ℕ) → IsUtf8 x → IsOutputOf w i x y → length y ≤ length x * growth i + 1
