@@ -23,7 +23,8 @@ pub struct Completions {
 }
 
 /// What could come at a position, in place of the word before it: exactly the kinds of tokens with a fixed text with which some
-/// accepted text continues there. In a string, in a comment and after a fault of the same policy there are none.
+/// accepted text continues there. In a string, in a comment, after a fault of the same
+/// policy and after a hundred faults there are none.
 pub fn complete(
     alloc: Global,
     text: &str,

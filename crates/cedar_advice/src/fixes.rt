@@ -22,7 +22,7 @@ pub struct Fix {
     pub kind: Kind,
 }
 
-/// The fixes for the faults that a range touches, in order. There is one for each fault whose tip names a token, if the text
+/// The fixes for those of the first hundred faults that a range touches, in order. There is one for each fault whose tip names a token, if the text
 /// with this edit has no more faults through this token than it had before the fault.
 pub fn find_fixes(
     alloc: Global,

@@ -1,8 +1,7 @@
-//! Sheets: documents written as one flat list of marks, and the layout of a sheet.
+//! Sheets: documents written as one flat list of marks.
 #![tactic(auto)]
 
 pub mod comments;
 pub mod document;
 pub mod laws;
-pub mod layout;
 pub mod sheet;

@@ -3,7 +3,6 @@ ghost use Rattle.std.specs.Prelude.{◌≡◌, List, [], OnErr, OnOk};
 ghost use Rattle.cedar_sheet.specs.Marks.{Sign, text_mark, line_mark, line_or_nil_mark, hard_mark, nest_mark, group_mark, end_mark, then_mark};
 ghost use Rattle.cedar_sheet.specs.Signs.{sign_of, signs_of};
 
-use crate::layout::Place;
 use std::alloc::{AllocError, Global};
 use std::marker::Model;
 
@@ -23,8 +22,6 @@ pub(crate) enum Mark<'src> {
 #[derive(Drop)]
 pub struct Sheet<'src> {
     pub(crate) marks: Vec<Mark<'src>>,
-    /// The state of laying out. Between two calls it only holds memory for reuse.
-    pub(crate) place: Place,
 }
 
 impl<'src> Model for Sheet<'src> {
@@ -40,20 +37,12 @@ impl<'src> Sheet<'src> {
     {
         Sheet {
             marks: Vec::new(alloc),
-            place: Place::new(alloc),
         }
     }
 
     /// The sheet's allocator.
     pub fn allocator(&self) -> Global {
         *self.marks.allocator()
-    }
-
-    /// Removes all marks, and keeps the memory for the next document.
-    pub fn clear(&mut self)
-        ensures { self.new ≡ [] }
-    {
-        self.marks.clear();
     }
 
     /// A text, which is never broken.

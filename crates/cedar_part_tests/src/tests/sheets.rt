@@ -1,7 +1,6 @@
-//! Documents as flat lists of marks: a sheet's layout, and that of the document which it stands for.
+//! Documents as flat lists of marks: the layout of the document that a sheet stands for.
 use cedar_policy_formatter::layout::render;
 use cedar_sheet::document::to_document;
-use cedar_sheet::layout::lay_out;
 use cedar_sheet::sheet::Sheet;
 use std::alloc::{AllocError, Global};
 use std::process::Abort;
@@ -146,24 +145,20 @@ static ROWS: [Row; 9] = [
     },
 ];
 
-fn expect_row(rt: &impl Abort, sheet: &mut Sheet<'static>, row: &Row, alloc: Global) {
-    sheet.clear();
-    write(sheet, row.steps).expect(rt, row.name);
-    let doc = to_document(alloc, sheet).expect(rt, row.name);
+fn expect_row(rt: &impl Abort, row: &Row, alloc: Global) {
+    let mut sheet = Sheet::new(alloc);
+    write(&mut sheet, row.steps).expect(rt, row.name);
+    let doc = to_document(alloc, &sheet).expect(rt, row.name);
     for (width, want) in row.layouts {
         let mut got = String::new(alloc);
-        lay_out(sheet, *width, &mut got).expect(rt, row.name);
+        render(alloc, &doc, *width, &mut got).expect(rt, row.name);
         expect_layout(rt, got.as_str(), want, row.name, *width);
-        let mut rendered = String::new(alloc);
-        render(alloc, &doc, *width, &mut rendered).expect(rt, row.name);
-        expect_layout(rt, rendered.as_str(), want, row.name, *width);
     }
 }
 
 #[test]
 fn rows(rt: HostRuntime) {
-    let mut sheet = Sheet::new(rt.alloc());
     for row in &ROWS {
-        expect_row(&rt, &mut sheet, row, rt.alloc());
+        expect_row(&rt, row, rt.alloc());
     }
 }
