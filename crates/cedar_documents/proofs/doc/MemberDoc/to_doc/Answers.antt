@@ -5,7 +5,7 @@ use Rattle.cedar_document_rows.specs.Found.{has_its_tokens}
 use Rattle.cedar_documents.proofs.Answered.{Called, kept_after, none_after, order_after, shown_row}
 use Rattle.cedar_documents.proofs.doc.MemberDoc.to_doc.Goals as goal
 
-called : (c : goal.After-drop-sheet-inside-4) → Called c.write_member-wrote.result c.answer.result
+called : (c : goal.After-drop-sheet-inside) → Called c.write_member-wrote.result c.answer.result
     (member_parts c.args.self.now) (λ P. has_its_tokens P (member_parts c.args.self.now))
     c.args.context.now.tokens.len c.new-sheet.result c.write_member-wrote.new.sheet
     c.args.context.now.tokens.items c.as_mut_slice.result.now c.write_member-wrote.new.tokens

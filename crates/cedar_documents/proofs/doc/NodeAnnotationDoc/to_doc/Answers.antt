@@ -7,7 +7,7 @@ use Rattle.cedar_documents.proofs.Answered.{Called, kept_after, none_after, orde
 use Rattle.cedar_documents.proofs.OwnTokens.{signed_part}
 use Rattle.cedar_documents.proofs.doc.NodeAnnotationDoc.to_doc.Goals as goal
 
-called : (c : goal.After-drop-sheet-inside-4)
+called : (c : goal.After-drop-sheet-inside)
     → Called c.write_annotation-wrote.result c.answer.result
     (node Label.annotation c.args.self.now.span (annotation_parts c.args.self.now.inner) none)
     (λ P. has_its_tokens P (annotation_parts c.args.self.now.inner)) c.args.context.now.tokens.len

@@ -8,7 +8,7 @@ use Rattle.cedar_documents.proofs.Answered.{Called, kept_after, none_after, orde
 use Rattle.cedar_documents.proofs.OwnTokens.{signed_tree}
 use Rattle.cedar_documents.proofs.doc.NodeExprDoc.to_doc.Goals as goal
 
-called : (c : goal.After-drop-sheet-inside-4) → Called c.write_expr-wrote.result c.answer.result
+called : (c : goal.After-drop-sheet-inside) → Called c.write_expr-wrote.result c.answer.result
     (node Label.expr c.args.self.now.span (expr_parts c.args.self.now.inner) none)
     (λ P. has_its_tokens P (expr_parts c.args.self.now.inner)) c.args.context.now.tokens.len
     c.new-sheet.result c.write_expr-wrote.new.sheet c.args.context.now.tokens.items

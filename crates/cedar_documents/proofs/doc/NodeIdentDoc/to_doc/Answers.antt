@@ -6,7 +6,7 @@ use Rattle.cedar_document_rows.specs.Found.{starts}
 use Rattle.cedar_documents.proofs.Answered.{Called, kept_after, none_after, order_after, shown_leaf}
 use Rattle.cedar_documents.proofs.doc.NodeIdentDoc.to_doc.Goals as goal
 
-called : (c : goal.After-drop-sheet-inside-4) → Called c.write_leaf-wrote.result c.answer.result
+called : (c : goal.After-drop-sheet-inside) → Called c.write_leaf-wrote.result c.answer.result
     (ident_tree c.args.self.now none) (starts c.args.self.now.span.start)
     c.args.context.now.tokens.len c.new-sheet.result c.write_leaf-wrote.new.sheet
     c.args.context.now.tokens.items c.as_mut_slice.result.now c.write_leaf-wrote.new.tokens

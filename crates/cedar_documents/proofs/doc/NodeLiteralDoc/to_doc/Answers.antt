@@ -5,7 +5,7 @@ use Rattle.cedar_document_rows.specs.Found.{places, starts}
 use Rattle.cedar_documents.proofs.Answered.{Called, kept_after, literal_found, none_after, order_after, shown_leaf}
 use Rattle.cedar_documents.proofs.doc.NodeLiteralDoc.to_doc.Goals as goal
 
-called : (c : goal.After-drop-sheet-inside-4) → Called c.write_leaf-wrote.result c.answer.result
+called : (c : goal.After-drop-sheet-inside) → Called c.write_leaf-wrote.result c.answer.result
     (node (variant_label c.args.self.now.inner) c.args.self.now.span
     (leaf (literal_text c.args.self.now.inner) none) none) (starts c.args.self.now.span.start)
     c.args.context.now.tokens.len c.new-sheet.result c.write_leaf-wrote.new.sheet

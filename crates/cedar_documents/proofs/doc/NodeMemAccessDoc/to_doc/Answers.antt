@@ -7,7 +7,7 @@ use Rattle.cedar_document_rows.specs.Found.{has_its_tokens}
 use Rattle.cedar_documents.proofs.Answered.{Called, kept_after, none_after, order_after, shown_row}
 use Rattle.cedar_documents.proofs.doc.NodeMemAccessDoc.to_doc.Goals as goal
 
-called : (c : goal.After-drop-sheet-inside-4) → Called c.write_access-wrote.result c.answer.result
+called : (c : goal.After-drop-sheet-inside) → Called c.write_access-wrote.result c.answer.result
     (node Label.access c.args.self.now.span (access_parts c.args.self.now.inner) none)
     (λ P. has_its_tokens P (access_parts c.args.self.now.inner)) c.args.context.now.tokens.len
     c.new-sheet.result c.write_access-wrote.new.sheet c.args.context.now.tokens.items

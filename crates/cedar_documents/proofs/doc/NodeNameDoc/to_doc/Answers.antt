@@ -7,7 +7,7 @@ use Rattle.cedar_documents.proofs.Answered.{Called, kept_after, none_after, orde
 use Rattle.cedar_documents.proofs.OwnTokens.{signed_tree}
 use Rattle.cedar_documents.proofs.doc.NodeNameDoc.to_doc.Goals as goal
 
-called : (c : goal.After-drop-sheet-inside-4)
+called : (c : goal.After-drop-sheet-inside)
     → Called c.write_name-wrote.result c.answer.result (name_tree c.args.self.now none)
     (λ P. has_its_tokens P (path_parts c.args.self.now.inner.path.items c.args.self.now.inner.name))
     c.args.context.now.tokens.len c.new-sheet.result c.write_name-wrote.new.sheet

@@ -8,7 +8,7 @@ use Rattle.cedar_documents.proofs.Answered.{Called, kept_after, none_after, orde
 use Rattle.cedar_documents.proofs.OwnTokens.{signed_tree}
 use Rattle.cedar_documents.proofs.doc.NodeOrDoc.to_doc.Goals as goal
 
-called : (c : goal.After-drop-sheet-inside-4)
+called : (c : goal.After-drop-sheet-inside)
     → Called c.write_or-wrote.result c.answer.result (node Label.or c.args.self.now.span
     (or_parts c.args.self.now.inner) none) (λ P. has_its_tokens P (or_parts c.args.self.now.inner))
     c.args.context.now.tokens.len c.new-sheet.result c.write_or-wrote.new.sheet

@@ -8,7 +8,7 @@ use Rattle.cedar_documents.proofs.Answered.{Called, kept_after, none_after, orde
 use Rattle.cedar_documents.proofs.OwnTokens.{signed_part}
 use Rattle.cedar_documents.proofs.doc.NodePolicyDoc.to_doc.Goals as goal
 
-called : (c : goal.After-drop-sheet-inside-4) → Called c.write_policy-wrote.result c.answer.result
+called : (c : goal.After-drop-sheet-inside) → Called c.write_policy-wrote.result c.answer.result
     (node Label.policy c.args.self.now.span (policy_parts c.args.self.now.inner) none)
     (λ P. has_its_tokens P (policy_parts c.args.self.now.inner)) c.args.context.now.tokens.len
     c.new-sheet.result c.write_policy-wrote.new.sheet c.args.context.now.tokens.items

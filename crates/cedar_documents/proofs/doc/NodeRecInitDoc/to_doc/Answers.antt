@@ -9,7 +9,7 @@ use Rattle.cedar_documents.proofs.Answered.{Called, kept_after, none_after, orde
 use Rattle.cedar_documents.proofs.OwnTokens.{signed_tree}
 use Rattle.cedar_documents.proofs.doc.NodeRecInitDoc.to_doc.Goals as goal
 
-called : (c : goal.After-drop-sheet-inside-4) → Called c.write_init-wrote.result c.answer.result
+called : (c : goal.After-drop-sheet-inside) → Called c.write_init-wrote.result c.answer.result
     (node Label.rec_init c.args.self.now.span (init_parts c.args.self.now.inner) none)
     (λ P. has_its_tokens P (init_parts c.args.self.now.inner)) c.args.context.now.tokens.len
     c.new-sheet.result c.write_init-wrote.new.sheet c.args.context.now.tokens.items

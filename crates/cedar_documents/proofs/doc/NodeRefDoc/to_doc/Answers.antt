@@ -7,7 +7,7 @@ use Rattle.cedar_documents.proofs.Answered.{Called, kept_after, none_after, orde
 use Rattle.cedar_documents.proofs.OwnTokens.{signed_tree}
 use Rattle.cedar_documents.proofs.doc.NodeRefDoc.to_doc.Goals as goal
 
-called : (c : goal.After-drop-sheet-inside-4) → Called c.write_ref-wrote.result c.answer.result
+called : (c : goal.After-drop-sheet-inside) → Called c.write_ref-wrote.result c.answer.result
     (ref_tree c.args.self.now none) (λ P. has_its_tokens P (name_tree c.args.self.now.inner.path
     (leaf (codes "::") (str_tree c.args.self.now.inner.eid none)))) c.args.context.now.tokens.len
     c.new-sheet.result c.write_ref-wrote.new.sheet c.args.context.now.tokens.items

@@ -6,7 +6,7 @@ use Rattle.cedar_document_rows.specs.Found.{starts}
 use Rattle.cedar_documents.proofs.Answered.{Called, kept_after, none_after, order_after, shown_leaf}
 use Rattle.cedar_documents.proofs.doc.NodeSlotDoc.to_doc.Goals as goal
 
-called : (c : goal.After-drop-sheet-inside-4)
+called : (c : goal.After-drop-sheet-inside)
     → Called c.write_leaf-wrote.result c.answer.result (node Label.slot c.args.self.now.span
     (leaf (slot_text c.args.self.now.inner) none) none) (starts c.args.self.now.span.start)
     c.args.context.now.tokens.len c.new-sheet.result c.write_leaf-wrote.new.sheet

@@ -9,7 +9,7 @@ use Rattle.cedar_documents.proofs.Answered.{Called, kept_after, none_after, orde
 use Rattle.cedar_documents.proofs.OwnTokens.{signed_tree, unary_signed}
 use Rattle.cedar_documents.proofs.doc.NodeUnaryDoc.to_doc.Goals as goal
 
-called : (c : goal.After-drop-sheet-inside-4) → Called c.write_unary-wrote.result c.answer.result
+called : (c : goal.After-drop-sheet-inside) → Called c.write_unary-wrote.result c.answer.result
     (node Label.unary c.args.self.now.span (unary_parts c.args.self.now.inner) none)
     (λ P. has_own P Label.unary (Some c.args.self.now.span) (unary_parts c.args.self.now.inner)
     && has_its_tokens P (unary_parts c.args.self.now.inner)) c.args.context.now.tokens.len
