@@ -9,7 +9,7 @@ abbrev pub columns_of : ℤ → ℕ
 columns_of (pos n) = n
 columns_of (negsuc n) = 0
 
--- no line of an output is indented by more columns
+-- no break of a layout is indented by more columns (a string with line feeds keeps its lines)
 abbrev pub greatest_indentation : ℤ → ℕ
 greatest_indentation i = columns_of i + suc greatest_depth * suc (3 * columns_of i)
 
