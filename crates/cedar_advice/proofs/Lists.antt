@@ -9,7 +9,7 @@ use Rattle.cedar_advice.specs.declared.fixes.Fix.{Fix}
 use Rattle.cedar_advice.specs.Diagnoses.{TellAll, Tells}
 use Rattle.cedar_advice.specs.Fixes.{AreFixesIn, IsOffered}
 
--- one more fault is told
+-- one more fault is reported
 pub tell_more : (e : Encoding) (text : List ℕ) (fs : List Fault) (f : Fault) (ds : List Diagnosis) (d : Diagnosis)
     → TellAll e text fs ds → Tells e text f d → TellAll e text (fs ++ f ∷ []) (ds ++ d ∷ [])
 tell_more e text [] f ds d all one = (d, [], ap (λ z. z ++ d ∷ []) all, one, refl)

@@ -1,4 +1,4 @@
--- What is told of the faults of a text.
+-- What is reported of the faults of a text.
 use Rattle.std.specs.Prelude.{◌≡◌, ◌⊎◌, ◌≤◌, ℕ, List, [], ◌∷◌, ◌++◌, length, Option, Some, None, codes, string_bytes, ⊤}
 use Rattle.cedar_tokens.specs.declared.token.Span.{Span}
 use Rattle.cedar_tree.specs.declared.error.FormatError.{FormatError}
@@ -29,7 +29,7 @@ pub record IsRangeOf (e : Encoding) (text : List ℕ) (part : Span) (range : Ran
   pub start : IsPositionAt e text part.start range.start
   pub end : IsPositionAt e text part.end range.end
 
--- what is told of a bracket that isn't closed: its part, and what is said of it; and nothing without one
+-- what is reported of a bracket that isn't closed: its part, and what is said of it; and nothing without one
 pub record RelatesTo (e : Encoding) (text : List ℕ) (b : Bracket) (r : Related) : Type 0 where
   pub range : IsRangeOf e text b.part r.range
   pub message : string_bytes r.message ≡ told_open b
@@ -39,34 +39,34 @@ Relates e text None None = ⊤
 Relates e text (Some b) (Some r) = RelatesTo e text b r
 Relates e text b r = ⊥
 
--- what is told of a fault: the part that it is about, its reason, what is said of it, and the bracket that it leaves open
+-- what is reported of a fault: the part that it is about, its reason, what is said of it, and the bracket that it leaves open
 pub record Tells (e : Encoding) (text : List ℕ) (f : Fault) (d : Diagnosis) : Type 0 where
   pub range : IsRangeOf e text f.part d.range
   pub code : d.code ≡ code_of f.error
   pub message : string_bytes d.message ≡ message f
   pub related : Relates e text f.unclosed d.related
 
--- what is told at the first fault that is left out: that there are more
+-- what is reported at the first fault that is left out: that there are more
 pub record TellsMore (e : Encoding) (text : List ℕ) (f : Fault) (d : Diagnosis) : Type 0 where
   pub range : IsRangeOf e text f.part d.range
   pub code : d.code ≡ code.More
   pub message : string_bytes d.message ≡ codes "more faults, which are left out"
   pub related : d.related ≡ None
 
--- these are told of these faults, in order
+-- these are reported of these faults, in order
 abbrev pub TellAll : Encoding → List ℕ → List Fault → List Diagnosis → Type 0
 TellAll e text [] ds = ds ≡ []
 TellAll e text (f ∷ fs) ds = (d : Diagnosis) × (more : List Diagnosis) × (ds ≡ d ∷ more) × Tells e text f d × TellAll e text fs more
 
--- of how many faults of a text is told at most
+-- how many faults of a text are reported at most
 abbrev pub most : ℕ
 most = 100
 
--- what is told of the faults of a text that has no more than so many
+-- what is reported of the faults of a text that has no more than so many
 abbrev pub TellsEach : Encoding → List ℕ → List Diagnosis → Type 0
 TellsEach e text ds = (fs : List Fault) × AreFaults text fs × (length fs ≤ most) × TellAll e text fs ds
 
--- what is told of the faults of a text that has more: of the first ones, and at the next one that there are more
+-- what is reported of the faults of a text that has more: of the first ones, and at the next one that there are more
 pub record TellsFirst (e : Encoding) (text : List ℕ) (ds : List Diagnosis) : Type 0 where
   pub first : List Fault
   pub next : Fault
@@ -79,6 +79,6 @@ pub record TellsFirst (e : Encoding) (text : List ℕ) (ds : List Diagnosis) : T
   pub more : TellsMore e text next last
   pub in_order : ds ≡ told ++ last ∷ []
 
--- what is told of the faults of a text
+-- what is reported of the faults of a text
 abbrev pub AreDiagnoses : Encoding → List ℕ → List Diagnosis → Type 0
 AreDiagnoses e text ds = TellsEach e text ds ⊎ TellsFirst e text ds

@@ -1,4 +1,4 @@
--- Laws of what an editor is told.
+-- Laws of what is reported to an editor.
 use Rattle.std.specs.Prelude.{◌≡◌, ◌↔◌, ℕ, List, []}
 use Rattle.cedar_grammar.specs.Texts.{Accepted}
 use Rattle.cedar_positions.specs.declared.positions.Encoding.{Encoding}

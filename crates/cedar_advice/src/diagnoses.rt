@@ -49,10 +49,10 @@ pub struct Diagnosis {
     pub related: Option<Related>,
 }
 
-/// Of how many faults of a text is told at most, before it is said that there are more.
+/// How many faults of a text are reported at most, before it is said that there are more.
 pub const MOST: usize = 100;
 
-/// What is told of a fault of the text.
+/// What is reported of a fault of the text.
 pub fn tell(
     alloc: Global,
     text: &str,
@@ -71,7 +71,7 @@ pub fn tell(
     })
 }
 
-/// What is told at the first fault of the text that is left out.
+/// What is reported at the first fault of the text that is left out.
 pub fn tell_more(
     alloc: Global,
     text: &str,
@@ -89,7 +89,7 @@ pub fn tell_more(
     })
 }
 
-// What is told of a bracket that isn't closed, if there is one.
+// What is reported of a bracket that isn't closed, if there is one.
 fn relate(
     alloc: Global,
     text: &str,

@@ -1,4 +1,4 @@
-//! Laws of what an editor is told. They are about the definitions alone, so their bodies compute nothing.
+//! Laws of what is reported to an editor. They are about the definitions alone, so their bodies compute nothing.
 ghost use Rattle.cedar_advice.specs.Laws.{NoneIfAccepted};
 
 /// An accepted text has no diagnoses, and any other has some.

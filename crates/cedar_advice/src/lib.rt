@@ -1,4 +1,4 @@
-//! What an editor is told of the faults of a text, at the positions that it counts in: diagnoses, fixes, and what could come at
+//! What is reported to an editor of the faults of a text, at the positions that it counts in: diagnoses, fixes, and what could come at
 //! the cursor.
 #![tactic(auto)]
 

@@ -34,7 +34,7 @@ none_starts p [] h = refl
 none_starts p (t ∷ ts) h = ap (λ b. b || list_any (starts_at p) ts) (h 0 t (omega arith))
     ∙ none_starts p ts (λ k d n. h (suc k) d (omega (arith, n)))
 
--- a lookup finds a comment exactly if a token starts there
+-- a lookup finds a comment if and only if a token starts there
 pub found_at_start : {X : Type 0} (p : ℕ) (old : List WrappedToken) (new : List Shown)
     (answer : X → Parts) (r : Option X) → MatchOption r (Unmatched (starts_at p)
     (map shown old) new) (λ c. HandedOut (starts_at p) (map shown old) new (answer c))

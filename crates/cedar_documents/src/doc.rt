@@ -52,7 +52,7 @@ pub trait Doc<'src> {
     /// entry. Afterwards these tokens have no comments, and every other token is unchanged. This holds for a part whose own
     /// tokens are consecutive among the context's (`is_shown`), as those of any part of a text are.
     ///
-    /// Returns `None` exactly if no token starts where an identifier, a string, a literal or a slot in it does, or if
+    /// Returns `None` if and only if no token starts where an identifier, a string, a literal or a slot in it does, or if
     /// the number of tokens between the start of signs and their member isn't the number of these signs. This never
     /// happens if the part's own tokens are consecutive. After `None` or a refusal, tokens and spans are unchanged, the
     /// leading lines and trailing text of each token are unchanged or taken, and the context is of no further use.

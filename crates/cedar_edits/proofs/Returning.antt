@@ -13,7 +13,7 @@ use Rattle.cedar_edits.specs.Returns.{lacks_return, returned_after, with_returns
 
 -- ---- the line feeds so far
 
--- each line feed before the place follows a carriage return, and there is one exactly if this is true
+-- each line feed before the place follows a carriage return, and there is one if and only if this is true
 pub record HasReturnsSoFar (text : List ℕ) (i : ℕ) (some : Bool) : Type 0 where
   pub all : (k : ℕ) → k < i → get_or text k 0 ≡ 10 → (0 < k) × (get_or text (k - 1) 0 ≡ 13)
   pub found : some ≡ true → (k : ℕ) × (get_or text k 0 ≡ 10)

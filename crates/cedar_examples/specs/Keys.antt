@@ -9,7 +9,7 @@ use Rattle.cedar_written.specs.Texts.{Accepted}
 abbrev pub IsKeyOf : List ℕ → List ℕ → Type 0
 IsKeyOf text key = IsOutputOf 80 (pos 2) text key
 
--- two texts have equal keys exactly if their decorated lists without trailing commas are equal by value
+-- two texts have equal keys if and only if their decorated lists without trailing commas are equal by value
 abbrev pub KeysTellLists : Type 0
 KeysTellLists = (a b j k : List ℕ) → IsUtf8 a → IsUtf8 b → IsKeyOf a j → IsKeyOf b k → (j ≡ k) ↔ HaveEqualLists a b
 

@@ -20,7 +20,7 @@ pub fn key(alloc: Global, text: &str) -> Result<String, FormatError>
     policies_str_to_pretty(alloc, text, &Config::default())
 }
 
-/// Two texts have equal keys exactly if their decorated lists without trailing commas are equal by value. A law: its body
+/// Two texts have equal keys if and only if their decorated lists without trailing commas are equal by value. A law: its body
 /// does nothing.
 pub fn keys_tell_lists()
     ensures { KeysTellLists }

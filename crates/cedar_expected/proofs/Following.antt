@@ -42,7 +42,7 @@ module _ (units : List (List ℕ)) where
     ordered = filter_ordered (follows units);
   }
 
--- what is true exactly if a list begins this way is `follows`
+-- what is true if and only if a list begins this way is `follows`
 pub is_follows : (units : List (List ℕ)) (k : Kind) (b : Bool)
     → (IsTrue b ↔ Begins greatest_depth (only_tokens units ++ sample k ∷ [])) → b ≡ follows units k
 is_follows units k b h = same_from_decides b (follows units k) h (follows_begins units k)

@@ -67,7 +67,7 @@ pub accepted_begins : (text : List ℕ) → HasTokens text → Accepted text →
 accepted_begins text h a =
     (h.units, h.split, list_begins (only_tokens h.units) (accepted_list text h.units h.split a))
 
--- a refused text is not accepted, and its tokens begin a list exactly if its place is its end
+-- a refused text is not accepted, and its tokens begin a list if and only if its place is its end
 not_accepted : AcceptedIsNotRefused → (text : List ℕ) → HasTokens text → (e : FormatError)
     → Refuses text e → HasTree text → ⊥
 not_accepted law text h e r t = law text e (has_accepted text h t) r

@@ -85,7 +85,7 @@ module _ (front : List (List ℕ)) (tokens : AreTokens (λ t. t) (front ++ (code
             (All-append IsToken all ts tokens a)).1 q.1,
       )
 
--- the same can follow both lists of tokens, and one is a list exactly if the other is
+-- the same can follow both lists of tokens, and one is a list if and only if the other is
 pub record GoOnAlike (front rest : List (List ℕ)) : Type 0 where
   pub begins : (ts : List (List ℕ))
       → Begins greatest_depth (front ++ ts) ↔ Begins greatest_depth (rest ++ ts)

@@ -17,7 +17,7 @@ pub struct Layouts<'a> {
     // The working folder, without a slash at the end.
     folder: &'a str,
     project: Project,
-    // What was told about files `.editorconfig`.
+    // What was reported about files `.editorconfig`.
     told: BTreeSet<String>,
 }
 

@@ -64,7 +64,7 @@ pub struct Options<'a> {
     pub line_width: Option<u16>,
     /// Whether files `.editorconfig` are read.
     pub reads_config: bool,
-    /// Whether the layout of each file is told.
+    /// Whether the layout of each file is printed.
     pub tells_layouts: bool,
     /// The name of the file that standard input stands for.
     pub input_name: Option<&'a str>,

@@ -7,7 +7,7 @@ use Rattle.cedar_tokens.specs.Bytes as byte
 -- ---- documents
 
 -- A document is a list of things to lay out in order. What is nested or grouped is a document of its own.
--- So two documents are equal exactly if they differ only in `Nil` and in how sequences are nested.
+-- So two documents are equal if and only if they differ only in `Nil` and in how sequences are nested.
 pub data Doc : Type 0 where
   nil : Doc
   text_then : List ℕ → Doc → Doc
@@ -174,7 +174,7 @@ has_hard (_ ∷ xs) = has_hard xs
 abbrev pub Fits : ℕ → Place → Type 0
 Fits w p = IsFalse (has_hard p.content) × (p.column + flat_columns p.content + columns_of_all (tail p.after) ≤ w)
 
--- a group is flat exactly if it is inside a flat one or fits
+-- a group is flat if and only if it is inside a flat one or fits
 abbrev pub FollowsRule : ℕ → Place → Type 0
 FollowsRule w p = IsTrue p.is_flat ↔ (IsTrue p.inside_flat ⊎ Fits w p)
 

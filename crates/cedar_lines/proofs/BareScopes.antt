@@ -1,4 +1,4 @@
--- The variables of a scope are five tokens exactly if they begin as three bare variables do, with
+-- The variables of a scope are five tokens if and only if they begin as three bare variables do, with
 -- what follows them.
 use Rattle.std.proofs.Common.{◌≡◌, ℕ, ℤ, pos, ◌≤◌, Bool, true, false, ◌||◌, ◌&&◌, List, [], ◌∷◌, ◌++◌, length, length-append, refl, ap, sym, ◌∙◌, subst, inl, inr, ◌⊎◌, arith}
 use Rattle.std.specs.Prelude.{codes}

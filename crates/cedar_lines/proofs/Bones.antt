@@ -354,7 +354,7 @@ left_tokens p v w t ts us ms ns r q e = step (p (kind_of t.text)) (show_gives t 
     step true (inr (o, g)) f = sym (same_tokens (sym g ∙ f))
     step false g f = absurd cc
 
--- a token, and what is told by the next one
+-- a token, and what the next one decides
 fork_does : (p q q' : Kind → Bool) (m n : List Mark) (P P' : State → State) (Q Q' : Reader (List ℕ))
     → IsSteady P → IsSteady P'
     → ((k : Kind) → q k ≡ q' k) → Does P Q → Does P' Q'

@@ -307,7 +307,7 @@ peek_complete q P Q X Y c d n h g x y ts w us m r (inr (e, k)) s =
     (Q (going (ts ++ us) m (length w + r)))) (looks_no_more q n ts us h (g ts w k) e)
     ∙ y ts w us m r k (stop_right c d us s)
 
--- ---- a token, and what is told by the next one
+-- ---- a token, and what the next one decides
 takes : (p : KindSet) (v w : List Mark) (t : Decorated) (l : List Decorated) (m : List Mark) (r : ℕ)
     → p (kind_of_decorated t) ≡ true
     → take p v w (going (t ∷ l) m (length (marks_of t v w) + r)) ≡ going l (m ++ marks_of t v w) r

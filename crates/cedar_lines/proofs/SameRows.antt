@@ -81,7 +81,7 @@ token_same P p ms next h f g = record {
   );
 }
 
--- a token has this text exactly if it has this kind
+-- a token has this text if and only if it has this kind
 pub kind_is : (s : String) (k : Kind) → has_text k (codes s) ≡ true → (t : List ℕ) → t ≡ codes s
     → IsTrue (is k (kind_of t))
 kind_is s k h t e = text_agrees k (codes s) h t ∙ (bytes_eq-Decides (codes s) t).1 (sym e)

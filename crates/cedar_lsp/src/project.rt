@@ -10,7 +10,7 @@ use std::io::Write;
 #[derive(Drop)]
 pub struct Projects<'a> {
     rt: &'a HostRuntime,
-    // What was told of their lines so far.
+    // What was reported of their lines so far.
     told: Vec<String>,
 }
 
@@ -24,7 +24,7 @@ impl<'a> Projects<'a> {
     }
 
     /// The layout that the project of the message's document asks for. A document that is no file has no project. A line that
-    /// can't be read is told once, on standard error.
+    /// can't be read is reported once, on standard error.
     pub fn wishes_for(&mut self, message: &ClientMessage) -> io::Result<Wishes> {
         let path = match message {
             ClientMessage::Request {

@@ -124,7 +124,7 @@ not_above most n h = grind (arith, nat_tests)
 above : (most n : ℕ) → ¬ (n < most + 1) → true ≡ nat_lt most n
 above most n h = grind (arith, nat_tests)
 
--- parsing a number fails exactly if it is above the limit
+-- parsing a number fails if and only if it is above the limit
 pub parse_limit : {E : Type 0} (u : List ℕ) (r : Result ℕ E) → ParsesUnsigned 64 10 u r
     → is_number u ≡ true → is_err r ≡ is_too_large u
 parse_limit u (Ok x) h n =

@@ -37,7 +37,7 @@ line_counted (u ∷ us) h =
     let p = or_parts (is_token u) (list_any is_token us) h in
     omega (arith, marked u (no_semicolon u p.0), line_counted us p.1)
 
--- a piece has one `;` exactly if none comes before its last token
+-- a piece has one `;` if and only if none comes before its last token
 counted : {text : List ℕ} {n : ℕ} (p : IsPiece text n)
     → semicolons (units_of p) ≡ semicolons p.before + 1
 counted p = let a = semicolons_append p.before (codes ";" ∷ p.line) in

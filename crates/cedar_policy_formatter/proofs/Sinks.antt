@@ -35,7 +35,7 @@ passed l p (Some x) h y = (
       ((bytes_eq-Decides (take (length p) l) p).0 h.0) ∙ ap (λ z. p ++ z) (sym h.1 ∙ f)),
 )
 
--- all of the text is passed exactly if the output is the text
+-- all of the text is passed if and only if the output is the text
 pub used_up : (text out : List ℕ) (first rest : Option (List ℕ)) (t : Bool) → first ≡ Some text
     → ((y : List ℕ) → (first ≡ Some (out ++ y)) ↔ (rest ≡ Some y)) → IsTrue t ↔ (rest ≡ Some [])
     → IsTrue t ↔ (out ≡ text)

@@ -10,7 +10,7 @@ use std::alloc::{AllocError, Global};
 /// The version: the number of the Rust crate that this is a port of, the project's own (the file `VERSION`), and the kit that
 /// proves it (the file `KIT`). `tools/version` checks it against both files.
 pub const VERSION: &str =
-    "4.14.1 (noblesilk 1.0.0, proved with rattle-kit-13b logic dac8208d650f15bf)";
+    "4.14.1 (noblesilk 1.0.0, proved with rattle-kit-13f logic dac8208d650f15bf)";
 
 /// The texts of the help that name a default.
 #[derive(Drop)]

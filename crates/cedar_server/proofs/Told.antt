@@ -1,4 +1,4 @@
--- Faults that are told while a text is searched.
+-- Faults that are reported while a text is searched.
 use Rattle.std.proofs.Common.{◌≡◌, ◌≤◌, ◌+◌, ℕ, List, [], ◌∷◌, ◌++◌, length, drop, ap, sym, subst, arith, inl, inr, append-nil}
 use Rattle.cedar_grammar.specs.Texts.{Accepted}
 use Rattle.cedar_faults.specs.declared.fault.Fault.{Fault}
@@ -10,7 +10,7 @@ use Rattle.cedar_advice.specs.declared.diagnoses.Diagnosis.{Diagnosis}
 use Rattle.cedar_advice.specs.Diagnoses.{AreDiagnoses, TellAll, Tells, TellsMore, most}
 use Rattle.cedar_advice.proofs.Lists.{tell_more}
 
--- the faults that are told, up to the byte `at`
+-- the faults that are reported, up to the byte `at`
 abbrev pub Told : Encoding → List ℕ → ℕ → List Diagnosis → Type 0
 Told e text at ds = (fs : List Fault) × SearchFinds text 0 fs at × TellAll e text fs ds
 
@@ -30,19 +30,19 @@ told_policy e text at n to ds (fs, s, t) p h = (
   t,
 )
 
--- one more fault is told
+-- one more fault is reported
 pub told_fault : (e : Encoding) (text : List ℕ) (at to : ℕ) (ds : List Diagnosis) (f : Fault) (d : Diagnosis)
     → Told e text at ds → SearchFinds text at (f ∷ []) to → Tells e text f d → Told e text to (ds ++ d ∷ [])
 told_fault e text at to ds f d (fs, s, t) h one =
     (fs ++ f ∷ [], finds_on text 0 at to fs (f ∷ []) s h, tell_more e text fs f ds d t one)
 
--- all are told
+-- all are reported
 pub told_all : (e : Encoding) (text : List ℕ) (at : ℕ) (ds : List Diagnosis) → Told e text at ds
     → length ds ≤ most → Accepted (drop at text) → AreDiagnoses e text ds
 told_all e text at ds (fs, s, t) l a =
     inl (fs, (at, s, a), omega (arith, l, told_length e text fs ds t), t)
 
--- or as many as are told of at most, and that there are more
+-- or as many as are reported at most, and that there are more
 pub told_most : (e : Encoding) (text : List ℕ) (at to : ℕ) (ds new : List Diagnosis) (f : Fault) (d : Diagnosis)
     → Told e text at ds → length ds ≡ most → SearchFinds text at (f ∷ []) to → TellsMore e text f d
     → new ≡ ds ++ d ∷ [] → AreDiagnoses e text new

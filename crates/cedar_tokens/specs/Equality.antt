@@ -27,7 +27,7 @@ SameComment a b = (leading_lines a ≡ leading_lines b) × (trailing_text a ≡ 
 abbrev pub SameWrapped : WrappedToken → WrappedToken → Type 0
 SameWrapped a b = SameToken a.token b.token × SameComment a.comment b.comment × (a.span ≡ b.span)
 
--- `a == b` is true exactly if all parts of `a` are those of `b`
+-- `a == b` is true if and only if all parts of `a` are those of `b`
 abbrev pub TokenEqualityIsByParts : Type 0
 TokenEqualityIsByParts = (a b : Token) → IsTrue ((token_equality.ghosts).eq a b) ↔ SameToken a b
 

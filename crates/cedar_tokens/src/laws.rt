@@ -36,7 +36,7 @@ pub fn plain_list_is_plain()
     ensures { PlainListIsPlain }
 {}
 
-/// Two `Token`s are equal exactly if they are of one kind and hold the same text, two `Comment`s if their leading lines and
+/// Two `Token`s are equal if and only if they are of one kind and hold the same text, two `Comment`s if their leading lines and
 /// their trailing texts are the same, and two `WrappedToken`s if their tokens, comments and spans are.
 pub fn equality_is_by_parts()
     ensures tokens { TokenEqualityIsByParts }

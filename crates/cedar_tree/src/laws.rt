@@ -49,7 +49,7 @@ pub fn nodes_have_the_plain_texts()
     split_is_unique();
 }
 
-/// Policies have equal trees without spans exactly if they are equal by `==`, which compares all fields except spans.
+/// Policies have equal trees without spans if and only if they are equal by `==`, which compares all fields except spans.
 pub fn same_tree_is_by_fields()
     ensures { (a b : Policies) → SameTree a b ↔ IsTrue (⟦<Policies<'static> as PartialEq>⟧.eq a b) }
 {}

@@ -1,4 +1,4 @@
--- A text with one `;`: its tokens are a list of the grammar exactly if they are a policy.
+-- A text with one `;`: its tokens are a list of the grammar if and only if they are a policy.
 use Rattle.std.proofs.Common.{◌≡◌, ◌≤◌, ◌+◌, ℕ, ℤ, pos, Bool, true, false, List, [], ◌∷◌, ◌++◌, length, map, refl, ap, arith, sym, ◌∙◌, subst, append-nil}
 use Rattle.std.specs.Prelude.{codes, if◌then◌else◌}
 use Rattle.std.specs.List.{list_any}
@@ -208,7 +208,7 @@ module _ (text : List ℕ) (l : Listing) (s : IsListing text l) where
         ap semicolons (listed (units_of q) whole ∙ piece_tokens text (length text) q)
         ∙ omega (arith, last, none)
 
-    -- so it is accepted exactly if they are a policy
+    -- so it is accepted if and only if they are a policy
     pub accepted_by : (i : ℤ) (d : Doc) (ls : List Lexeme) → AreLexemes text ls
         → Policy i greatest_depth l.tokens d → Accepted text
     accepted_by i d ls x y = record {

@@ -38,7 +38,7 @@ use Rattle.cedar_written.proofs.ReadPolicies as read
 abbrev text_of : Decorated → List ℕ
 text_of t = t.text
 
--- ---- a list has documents exactly if its texts have a tree
+-- ---- a list has documents if and only if its texts have a tree
 
 module _ (i : ℤ) (n : ℕ) where
   some_documents : (f : Forest Label (List ℕ)) (ts : List Decorated) → Many (Gr.Policy text n) f

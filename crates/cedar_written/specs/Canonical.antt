@@ -18,7 +18,7 @@ abbrev pub OutputHasTheList : Type 0
 OutputHasTheList = (w : ℕ) (i : ℤ) (x y : List ℕ) (m : Listing) → IsUtf8 x → (o : IsOutputOf w i x y) → IsListing y m
     → EqualByValue m (plain_listing o.list) × (plain_listing m ≡ m)
 
--- two texts have equal outputs exactly if their plain lists are equal by value
+-- two texts have equal outputs if and only if their plain lists are equal by value
 abbrev pub OutputsTellLists : Type 0
 OutputsTellLists = (w : ℕ) (i : ℤ) (x1 x2 y1 y2 : List ℕ) → IsUtf8 x1 → IsUtf8 x2
     → (a : IsOutputOf w i x1 y1) (b : IsOutputOf w i x2 y2)

@@ -20,12 +20,12 @@ use Rattle.cedar_written.specs.Output.{IsOutputOf}
 
 -- ---- lists of tokens, at each depth and indentation
 
--- a list has documents exactly if it has a tree, with trailing commas or without
+-- a list has documents if and only if it has a tree, with trailing commas or without
 abbrev pub ListsAgree : Type 0
 ListsAgree = (i : ℤ) (n : ℕ) (ts : List Decorated)
     → ((ds : List Doc) × PolicySet i n ts ds) ↔ ((f : Forest Label Decorated) × IsSyntaxTree (λ t. t.text) n f ts)
 
--- texts of tokens are a list of the written grammar exactly if they have a tree
+-- texts of tokens are a list of the written grammar if and only if they have a tree
 abbrev pub GrammarsAgree : Type 0
 GrammarsAgree = (n : ℕ) (ts : List (List ℕ))
     → InGrammar n ts ↔ ((f : Forest Label (List ℕ)) × IsSyntaxTree (λ t. t) n f ts)
@@ -54,7 +54,7 @@ LayoutsAgree = (w : ℕ) (d : Doc) (t : List ℕ) → IsTheLayoutAt w d t ↔ (t
 
 -- ---- texts
 
--- a text is accepted exactly if its tokens have a tree, it splits and its numbers fit
+-- a text is accepted if and only if its tokens have a tree, it splits and its numbers fit
 abbrev pub AcceptedAgree : Type 0
 AcceptedAgree = (x : List ℕ) → AcceptedByTree x ↔ Accepted x
 

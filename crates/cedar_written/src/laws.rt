@@ -51,7 +51,7 @@ pub fn outputs_keep_lists()
 {}
 
 /// An accepted text has an output, which is accepted, has the text's plain list by value, and is its own output. Two texts
-/// have equal outputs exactly if their plain lists are equal by value.
+/// have equal outputs if and only if their plain lists are equal by value.
 pub fn outputs_are_canonical()
     ensures some { AcceptedHasOutput }
     ensures accepted { OutputIsAccepted }

@@ -77,7 +77,7 @@ front_kept [] rest h = refl
 front_kept (t ∷ ts) rest h = ap (λ z. z ∷ each as_token (ts ++ rest)) (token_kept t h.0)
     ∙ ap (λ z. t ∷ z) (front_kept ts rest h.1)
 
--- tokens begin a list of the grammar over texts exactly if they begin one of the grammar over kinds
+-- tokens begin a list of the grammar over texts if and only if they begin one of the grammar over kinds
 pub beginnings_agree : (d : ℕ) (front : List (List ℕ)) → AreTokens (λ t. t) front
     → Begins d front ↔ BeginsByKinds kind_of d front
 beginnings_agree d front h = (

@@ -140,7 +140,7 @@ static FORMATS: [Call; 11] = [
     Call {
         name: "version",
         words: &["cedar", "--version"],
-        output: r#"cedar 4.14.1 (noblesilk 1.0.0, proved with rattle-kit-13b logic dac8208d650f15bf)
+        output: r#"cedar 4.14.1 (noblesilk 1.0.0, proved with rattle-kit-13f logic dac8208d650f15bf)
 "#,
         ..CALL
     },

@@ -5,7 +5,7 @@ use Rattle.cedar_server.proofs.Told.{Told}
 use Rattle.cedar_server.specs.Inside.Standing.{StandsAt}
 use Rattle.cedar_server.proofs.last_text.LastText.read.Given as goal
 
--- a search has found the faults that are told
+-- a search has found the faults that are reported
 abbrev pub invariant-steps : goal.invariant-steps
 invariant-steps l = record {
   of_text : l.reader.text ≡ l.fn.text;
