@@ -1,6 +1,6 @@
 -- Which paths are left alone.
-use Rattle.std.specs.Prelude.{◌≡◌, ◌↔◌, ◌<◌, ◌⊎◌, ◌++◌, ◌∷◌, ℕ, List, Bool, true, false, IsTrue, filter, length, map, not, slice_index_or, take}
-use Rattle.std.specs.List.{Any}
+use Rattle.std.specs.Prelude.{◌≡◌, ◌↔◌, ◌<◌, ◌⊎◌, ◌++◌, ◌∷◌, ℕ, List, Bool, true, false, IsTrue, codes, filter, length, map, nat_eq, not, slice_index_or, take}
+use Rattle.std.specs.List.{Any, starts_with}
 use Rattle.cedar_settings.specs.Settings.{matches}
 use Rattle.cedar_settings.specs.declared.globs.Glob.{Glob}
 use Rattle.cedar_files.specs.declared.excludes.Excludes.{Excludes}
@@ -10,7 +10,7 @@ use Rattle.cedar_files.specs.declared.excludes.Rule.{Rule}
 abbrev pub IsMeantFrom : Glob → List ℕ → List ℕ → Type 0
 IsMeantFrom glob path folder = (rest : List ℕ) × (path ≡ folder ++ (47 ∷ rest)) × IsTrue (matches glob (47 ∷ rest))
 
--- a glob that begins with a slash matches the path; any other one matches it from one of two folders on
+-- an absolute glob matches the path; any other one matches it from one of two folders on
 abbrev pub IsMeant : Glob → Bool → List ℕ → List ℕ → List ℕ → Type 0
 IsMeant glob true path below folder = IsTrue (matches glob path)
 IsMeant glob false path below folder = IsMeantFrom glob path below ⊎ IsMeantFrom glob path folder
@@ -59,6 +59,18 @@ words_unmet rules = map word_of (filter (λ rule. not rule.is_met) rules)
 -- the words for which nothing was met, in order
 abbrev pub unmet_words : Excludes → List (List ℕ)
 unmet_words e = words_unmet e.rules.items
+
+-- the word begins with a slash
+abbrev pub begins_with_slash : List ℕ → Bool
+begins_with_slash word = starts_with nat_eq word (codes "/")
+
+-- whether each rule is absolute, in order
+abbrev pub are_absolute : List Rule → List Bool
+are_absolute rules = map (λ rule. rule.is_absolute) rules
+
+-- whether each glob is absolute, in order
+abbrev pub absolutes : Excludes → List Bool
+absolutes e = are_absolute e.rules.items
 
 -- something was met for a rule: there was before, or its glob is for this path
 pub record IsMetAt (path below folder : List ℕ) (old new : Rule) : Type 0 where

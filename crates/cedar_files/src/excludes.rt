@@ -1,6 +1,6 @@
 //! Which files and folders are left alone.
 ghost use Rattle.std.specs.Prelude.{◌≡◌, ◌↔◌, IfOk, IsTrue, false, map};
-ghost use Rattle.cedar_files.specs.Excludes.{AsksTheSame, IsMeant, IsMeantFrom, LeavesAbove, LeavesAlone, LeavesNamed, Meets, unmet_words, working_folder};
+ghost use Rattle.cedar_files.specs.Excludes.{AsksTheSame, IsMeant, IsMeantFrom, LeavesAbove, LeavesAlone, LeavesNamed, Meets, absolutes, begins_with_slash, unmet_words, working_folder};
 
 use cedar_settings::{Glob, GlobError};
 use std::alloc::{AllocError, Global};
@@ -27,6 +27,7 @@ impl<'a> Excludes<'a> {
     pub fn new(alloc: Global, words: &[&'a str], folder: &'a str) -> Result<Excludes<'a>, GlobError>
         ensures folder { IfOk result (λ excludes. working_folder excludes ≡ folder.now) }
         ensures unmet { IfOk result (λ excludes. unmet_words excludes ≡ map (λ x. x.now) words.now) }
+        ensures absolute { IfOk result (λ excludes. absolutes excludes ≡ map (λ x. begins_with_slash x.now) words.now) }
     {
         let mut rules = Vec::new(alloc);
         for word in words {
@@ -101,12 +102,13 @@ impl<'a> Rule<'a> {
     fn new(alloc: Global, word: &'a str) -> Result<Rule<'a>, GlobError>
         ensures word { IfOk result (λ rule. rule.word.now ≡ word.now) }
         ensures unmet { IfOk result (λ rule. rule.is_met ≡ false) }
+        ensures absolute { IfOk result (λ rule. rule.is_absolute ≡ begins_with_slash word.now) }
     {
         let glob = word.trim_start_matches("./").trim_end_matches('/');
         Ok(Rule {
             word,
             glob: Glob::new(alloc, glob)?,
-            is_absolute: glob.starts_with('/'),
+            is_absolute: word.starts_with('/'),
             is_met: false,
         })
     }
