@@ -1,6 +1,6 @@
 -- Paths as texts.
 use Rattle.std.specs.Prelude.{◌≡◌, ◌==◌, ◌||◌, ◌++◌, ◌∷◌, [], ◌-◌, ℕ, List, Bool, codes, if◌then◌else◌, flat_map, length, nat_eq, take}
-use Rattle.std.specs.List.{fold, slice_split, starts_with}
+use Rattle.std.specs.List.{fold, slice_split, starts_with, suffix_len}
 use Rattle.std.specs.Str.{bytes_eq}
 
 -- a slash
@@ -30,3 +30,11 @@ path_of folder name = absolute (led (if starts_with nat_eq name (codes "/") then
 -- the path goes on below a folder, by a slash
 abbrev pub IsBelow : List ℕ → List ℕ → Type 0
 IsBelow path folder = (rest : List ℕ) × (path ≡ folder ++ (47 ∷ rest))
+
+-- a path without the slashes at its end
+abbrev pub without_last_slashes : List ℕ → List ℕ
+without_last_slashes path = take (length path - suffix_len is_slash path) path
+
+-- the path isn't below a folder, whose own path may end in slashes
+abbrev pub LeadsOut : List ℕ → List ℕ → Type 0
+LeadsOut path folder = ¬ (IsBelow path (without_last_slashes folder))

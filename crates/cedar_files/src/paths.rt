@@ -1,6 +1,6 @@
 //! Paths as texts.
 ghost use Rattle.std.specs.Prelude.{◌≡◌, ◌↔◌, IfOk, IsTrue, [], map, string_bytes};
-ghost use Rattle.cedar_files.specs.Paths.{IsBelow, absolute, led, next, path_of};
+ghost use Rattle.cedar_files.specs.Paths.{IsBelow, LeadsOut, absolute, led, next, path_of};
 
 use std::alloc::{AllocError, Global};
 use std::env;
@@ -63,8 +63,15 @@ fn joined(alloc: Global, parts: &[&str]) -> Result<String, AllocError>
     Ok(path)
 }
 
-/// Whether an absolute path leads to something in a folder, or in one below it. The folder's path has no slash at the end.
-pub fn is_below(path: &str, folder: &str) -> bool
+/// Whether an absolute path leads to nothing in a folder, nor in one below it. The folder's path may end in slashes.
+pub fn leads_out(path: &str, folder: &str) -> bool
+    ensures { IsTrue result ↔ LeadsOut path.now folder.now }
+{
+    !is_below(path, folder.trim_end_matches('/'))
+}
+
+// Whether an absolute path leads to something in a folder, or in one below it. The folder's path has no slash at the end.
+fn is_below(path: &str, folder: &str) -> bool
     ensures { IsTrue result ↔ IsBelow path.now folder.now }
 {
     match path.strip_prefix(folder) {

@@ -4,7 +4,7 @@ use crate::entries::{is_hidden, is_taken};
 use crate::excludes::Excludes;
 use crate::names::ShownBytes;
 use crate::options::Options;
-use crate::paths::{is_below, resolved};
+use crate::paths::{leads_out, resolved};
 use crate::reports::{Kind, Remark, Reports};
 use crate::words::Word;
 use std::collections::BTreeSet;
@@ -209,8 +209,7 @@ impl<'a, 'e, 'r> Walk<'a, 'e, 'r> {
         let (Some(target), Some(folder)) = (real_path(self.rt, path)?, &self.real) else {
             return Ok(false);
         };
-        let folder = folder.as_str().trim_end_matches('/');
-        Ok(!is_below(target.as_str(), folder))
+        Ok(leads_out(target.as_str(), folder.as_str()))
     }
 
     fn note(&mut self, path: &str, message: &str) {
