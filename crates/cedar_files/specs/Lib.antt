@@ -3,6 +3,7 @@ pub mod Changes
 pub mod Counts
 pub mod Entries
 pub mod Excludes
+pub mod Faults
 pub mod Hunks
 pub mod Numbers
 pub mod Options

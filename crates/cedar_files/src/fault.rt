@@ -1,4 +1,7 @@
 //! How a fault of a text is shown.
+ghost use Rattle.std.specs.Prelude.{◌≡◌, IfOk, string_bytes};
+ghost use Rattle.cedar_files.specs.Faults.{IsCutAt, IsMarkedLine, IsPlaceAt, IsShownBracket, byte_of, end_shown, marked, on_one_line, start_shown};
+
 use crate::places::{Place, first_line, last_line, place_after};
 use cedar_faults::fault::Fault;
 use std::alloc::{AllocError, Global};
@@ -31,7 +34,9 @@ pub struct ShownFault<'a, 'src> {
 
 impl ShownFault<'_, '_> {
     /// Where it is: at what can't be there, or after the last token of a text that ends too early.
-    pub fn place(&self) -> Place {
+    pub fn place(&self) -> Place
+        ensures { IsPlaceAt self.now.text.now (byte_of self.now.fault.now) result }
+    {
         let (before, _) = self.halves(self.byte());
         place_after(before.as_bytes())
     }
@@ -45,13 +50,17 @@ impl ShownFault<'_, '_> {
     }
 
     /// The line of the place, and below it a mark under the place.
-    pub fn marked_line(&self, alloc: Global) -> Result<String, AllocError> {
+    pub fn marked_line(&self, alloc: Global) -> Result<String, AllocError>
+        ensures { IfOk result (λ shown. IsMarkedLine self.now.text.now (byte_of self.now.fault.now) (string_bytes shown)) }
+    {
         let (before, after) = self.halves(self.byte());
         line_with_mark(alloc, last_line(before), first_line(after))
     }
 
     /// The bracket that it leaves open.
-    pub fn bracket(&self, alloc: Global) -> Result<Option<ShownBracket>, AllocError> {
+    pub fn bracket(&self, alloc: Global) -> Result<Option<ShownBracket>, AllocError>
+        ensures { IfOk result (IsShownBracket self.now.text.now self.now.fault.now.unclosed) }
+    {
         let Some(bracket) = self.fault.unclosed else {
             return Ok(None);
         };
@@ -64,7 +73,9 @@ impl ShownFault<'_, '_> {
     }
 
     // The byte of the place.
-    fn byte(&self) -> usize {
+    fn byte(&self) -> usize
+        ensures { result ≡ byte_of self.now.fault.now }
+    {
         match self.fault.expected.found {
             Some(_) => self.fault.part.start,
             None => self.fault.part.end,
@@ -72,32 +83,42 @@ impl ShownFault<'_, '_> {
     }
 
     // The text before a byte, and from it on.
-    fn halves(&self, byte: usize) -> (&str, &str) {
+    fn halves(&self, byte: usize) -> (&str, &str)
+        ensures { IsCutAt self.now.text.now byte result.0.now result.1.now }
+    {
         self.text.split_at(self.text.floor_char_boundary(byte))
     }
 }
 
 // A line that has `left` before a place and `right` from it on, and below it a mark under the place.
-fn line_with_mark(alloc: Global, left: &str, right: &str) -> Result<String, AllocError> {
-    let mut shown = String::new(alloc);
-    let hidden = left.chars().count().saturating_sub(SHOWN);
-    for character in left.chars().skip(hidden) {
-        shown.push(on_one_line(character))?;
-    }
-    let columns = shown.as_str().width();
-    for character in right.chars().take(SHOWN) {
-        shown.push(on_one_line(character))?;
-    }
-    shown.push('\n')?;
-    for _ in 0..columns {
-        shown.push(' ')?;
-    }
-    shown.push('^')?;
-    Ok(shown)
+fn line_with_mark(alloc: Global, left: &str, right: &str) -> Result<String, AllocError>
+    ensures { IfOk result (λ shown. string_bytes shown ≡ marked left.now right.now) }
+{
+    let left = end_shown(alloc, left)?;
+    let right = start_shown(alloc, right)?;
+    let blanks = " ".repeat(alloc, left.as_str().width())?;
+    format!(in alloc; "{left}{right}\n{blanks}^")
+}
+
+// The last characters of a text, as they are shown.
+fn end_shown(alloc: Global, text: &str) -> Result<String, AllocError>
+    ensures { IfOk result (λ shown. string_bytes shown ≡ end_shown text.now) }
+{
+    let hidden = text.chars().count().saturating_sub(SHOWN);
+    text.chars().skip(hidden).map(on_one_line).collect(alloc)
+}
+
+// The first characters of a text, as they are shown.
+fn start_shown(alloc: Global, text: &str) -> Result<String, AllocError>
+    ensures { IfOk result (λ shown. string_bytes shown ≡ start_shown text.now) }
+{
+    text.chars().take(SHOWN).map(on_one_line).collect(alloc)
 }
 
 // A character as it is shown: a space for one that would move the cursor.
-fn on_one_line(character: char) -> char {
+fn on_one_line(character: char) -> char
+    ensures { result ≡ on_one_line character }
+{
     if character.is_control() {
         ' '
     } else {
