@@ -5,4 +5,5 @@ pub mod ExcludeLemmas
 pub mod HunkLemmas
 pub mod NumberLemmas
 pub mod PathLemmas
+pub mod TaskLemmas
 pub mod WordLemmas

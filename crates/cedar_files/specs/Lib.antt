@@ -9,4 +9,5 @@ pub mod Numbers
 pub mod Options
 pub mod Paths
 pub mod Places
+pub mod Tasks
 pub mod Words

@@ -23,6 +23,7 @@ mod paths;
 mod places;
 mod reports;
 mod room;
+mod task;
 mod text;
 mod walk;
 mod words;
@@ -30,19 +31,16 @@ mod words;
 use clap::Error;
 use clap::error::ErrorKind;
 use counts::FAILED;
-use names::ShownBytes;
-use options::{Mode, Options, read_options};
+use options::read_options;
 use reports::{Why, status_of};
 use std::io;
 use std::io::Write;
 use std::process::ExitCode;
+use task::{Task, task_of};
 use words::Words;
 
 // A usage error.
 const MISUSED: u8 = 2;
-
-// The path that stands for standard input.
-const STANDARD_INPUT: &str = "-";
 
 fn main(rt: HostRuntime) -> ExitCode {
     let status = match run(&rt) {
@@ -67,49 +65,13 @@ fn run(rt: &HostRuntime) -> io::Result<u8> {
         Ok(options) => options,
         Err(error) => return Ok(answer(rt, &error)),
     };
-    if let Some(word) = odd_word(&words, &options) {
-        let word = ShownBytes(word);
-        let _ = write!(
-            rt.stderr(),
-            "cedar-files: a word of the command line is not UTF-8: {word}\n"
-        );
-        return Ok(MISUSED);
-    }
-    let reads_input = options.paths.iter().any(|path| path.is(STANDARD_INPUT));
-    if let Some(message) = misuse_of(&options, reads_input) {
-        let _ = write!(rt.stderr(), "cedar-files: {message}\n");
-        return Ok(MISUSED);
-    }
-    if reads_input {
-        text::format_text(rt, &options)
-    } else {
-        files::run_files(rt, &options)
-    }
-}
-
-// An option, or the value of one, that isn't UTF-8.
-fn odd_word<'w>(words: &'w Words, options: &Options<'_>) -> Option<&'w [u8]> {
-    if let Some(word) = words.odd_option() {
-        return Some(word);
-    }
-    for value in options.excluded.iter().chain(&options.input_name) {
-        if let Some(word) = words.odd_word(value) {
-            return Some(word);
+    match task_of(&words, &options) {
+        Ok(Task::Input) => text::format_text(rt, &options),
+        Ok(Task::Files) => files::run_files(rt, &options),
+        Err(misuse) => {
+            let _ = write!(rt.stderr(), "cedar-files: {misuse}\n");
+            Ok(MISUSED)
         }
-    }
-    None
-}
-
-// What is wrong with options that can't stand together.
-fn misuse_of(options: &Options<'_>, reads_input: bool) -> Option<&'static str> {
-    if reads_input && options.paths.len() > 1 {
-        Some("- can't be combined with other paths")
-    } else if reads_input && options.mode == Mode::Diff {
-        Some("- can't be combined with --diff")
-    } else if !reads_input && options.input_name.is_some() {
-        Some("--stdin-filename needs the path -")
-    } else {
-        None
     }
 }
 
