@@ -4,6 +4,7 @@ use Rattle.std.specs.Char.{is_control}
 use Rattle.std.specs.List.{after_last, before_first, repeat}
 use Rattle.std.specs.Str.{IsCharBoundary, encode_utf8_all}
 use Rattle.unicode_width.specs.Width.{str_width}
+use Rattle.cedar_faults.specs.Brackets.{told_open}
 use Rattle.cedar_faults.specs.declared.brackets.Bracket.{Bracket}
 use Rattle.cedar_faults.specs.declared.fault.Fault.{Fault}
 use Rattle.cedar_policy_formatter.specs.Places.{is_line_feed}
@@ -53,9 +54,10 @@ abbrev pub IsMarkedLine : List ℕ → ℕ → List ℕ → Type 0
 IsMarkedLine text byte shown = (before after : List ℕ) × IsCutAt text byte before after
     × (shown ≡ marked (after_last is_line_feed before) (before_first is_line_feed after))
 
--- a bracket is shown where its part starts; none if there is none
+-- a bracket is shown where its part starts, and what is said of it is that it isn't closed; none if there is none
 abbrev pub IsShownBracket : List ℕ → Option Bracket → Option ShownBracket → Type 0
 IsShownBracket text (Some bracket) (Some shown) = IsPlaceAt text bracket.part.start shown.place
+    × (string_bytes shown.message ≡ told_open bracket)
     × IsMarkedLine text bracket.part.start (string_bytes shown.marked_line)
 IsShownBracket text None None = ⊤
 IsShownBracket text unclosed shown = ⊥

@@ -1,4 +1,4 @@
-use Rattle.std.proofs.Common.{◌≡◌, ◌∙◌, ◌∷◌, ◌++◌, [], ap, codes, false, string_bytes, subst}
+use Rattle.std.proofs.Common.{◌≡◌, ◌∙◌, ◌∷◌, ◌++◌, ap, codes, false, string_bytes, subst}
 use Rattle.std.specs.Prelude.{IfOk, chars}
 use Rattle.std.specs.List.{repeat}
 use Rattle.unicode_width.specs.Width.{str_width}
