@@ -18,7 +18,7 @@ use Rattle.cedar_expected.specs.Expectations.{KindDecides}
 use Rattle.cedar_tokens.proofs.Lists.{All-append, All-parts}
 
 -- no tokens are left
-abbrev at_end : {A : Type 0} → Answer A → Bool
+abbrev pub at_end : {A : Type 0} → Answer A → Bool
 at_end (done f []) = true
 at_end (done f (a ∷ r)) = false
 at_end (stuck b []) = true
@@ -58,7 +58,7 @@ at_end_kept (done f (a ∷ r)) = refl
 at_end_kept (stuck b []) = refl
 at_end_kept (stuck b (a ∷ r)) = refl
 
-by_kinds : (d : ℕ) (ts : List (List ℕ))
+pub by_kinds : (d : ℕ) (ts : List (List ℕ))
     → can_begin d ts ≡ at_end (set_to (λ k. k) d (each kind_of ts))
 unfolding can_begin
 by_kinds d ts = sym (at_end_kept (set_to kind_of d ts))

@@ -12,3 +12,11 @@ pub mod Rests
 pub mod Probed
 pub mod FirstUnits
 pub mod RightAfter
+mod Branches
+mod Tables
+mod RuleReading
+mod ReadBy
+mod Parts
+mod Pendings
+mod Weights
+mod Afters

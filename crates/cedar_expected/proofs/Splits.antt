@@ -1,4 +1,4 @@
--- Texts that split, cut after some units, and one more token after them.
+-- Texts that split, cut after some units.
 use Rattle.std.specs.Prelude.{◌≡◌, ◌≤◌, ◌||◌, ℕ, false, List, [], ◌∷◌, ◌++◌, length, take, drop}
 use Rattle.std.specs.List.{concat, list_any, sum_by}
 use Rattle.std.specs.Str.{IsUtf8, IsCharBoundary}
@@ -61,38 +61,6 @@ pub no_units : (us : List (List ℕ)) (text : List ℕ) → SplitsInto text us �
 no_units [] text s e = refl
 no_units (u ∷ us) text s e =
     absurd (omega (arith, unit_nonempty u s.0.kind, begins_fits text u s.0.begins, e))
-
--- a token alone splits into itself
-one_token : (t : List ℕ) → IsToken t → SplitsInto t (t ∷ [])
-one_token t h = (
-  record {
-    kind = U.token h;
-    begins = ([], sym (append-nil t));
-    longest = λ v k g. begins_fits t v g;
-  },
-  drop_all (length t) t (omega arith),
-)
-
--- a text followed by a line feed and a token
-abbrev pub more_units : List (List ℕ) → List ℕ → List (List ℕ)
-more_units us t = us ++ ((line_feed ∷ []) ∷ (t ∷ []))
-
-pub more_split : (text t : List ℕ) (us : List (List ℕ)) → SplitsInto text us → IsToken t
-    → SplitsInto (text ++ (line_feed ∷ t)) (more_units us t)
-more_split text t us s h = splits_join us (t ∷ []) text t s (one_token t h)
-
-last_tokens : (t : List ℕ) → IsToken t → only_tokens ((line_feed ∷ []) ∷ (t ∷ [])) ≡ t ∷ []
-last_tokens t h = rw (feed_no_token, h) refl
-
-pub more_tokens : (us : List (List ℕ)) (t : List ℕ) → IsToken t
-    → only_tokens (more_units us t) ≡ only_tokens us ++ t ∷ []
-more_tokens us t h = filter-append is_token us ((line_feed ∷ []) ∷ (t ∷ []))
-    ∙ ap (λ z. only_tokens us ++ z) (last_tokens t h)
-
-pub more_fit : (us : List (List ℕ)) (t : List ℕ) → list_any is_too_large us ≡ false
-    → is_too_large t ≡ false → list_any is_too_large (more_units us t) ≡ false
-more_fit us t f h = list_any-append is_too_large us ((line_feed ∷ []) ∷ (t ∷ []))
-    ∙ ap (λ z. z || (is_too_large t || false)) f ∙ or_from (is_too_large t) false h refl
 
 -- the numbers of the first units fit if all do
 pub front_fit : (us vs : List (List ℕ)) → list_any is_too_large (us ++ vs) ≡ false

@@ -3,3 +3,7 @@ pub mod Separators
 pub mod Beginnings
 pub mod Firsts
 pub mod Leaving
+pub mod Turns
+pub mod PartRules
+pub mod Reaching
+pub mod Pendings

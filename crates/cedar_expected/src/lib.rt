@@ -7,5 +7,7 @@ pub mod explain;
 pub mod kinds;
 pub mod laws;
 pub mod message;
+mod part;
+mod pending;
 pub mod probe;
 pub mod samples;

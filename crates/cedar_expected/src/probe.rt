@@ -1,15 +1,17 @@
 //! Which tokens can follow those of a text.
-ghost use Rattle.std.specs.Prelude.{◌≡◌, ◌↔◌, ◌++◌, ◌∷◌, [], IsTrue, IfOk, false};
-ghost use Rattle.cedar_tokens.specs.Units.{IsToken};
-ghost use Rattle.cedar_grammar.specs.Numbers.{is_too_large};
+ghost use Rattle.std.specs.Prelude.{◌↔◌, IsTrue, IfOk, MatchOption, map};
+ghost use Rattle.cedar_tokens.specs.TokenKinds.{kind_of};
 ghost use Rattle.cedar_parser_steps.specs.Tokens.{HasTokens};
-ghost use Rattle.cedar_expected.specs.Inside.Beginnings.{IsPlaceOf, KindsFollow, HasTree, TokensBegin, TokensBeginWith};
+ghost use Rattle.cedar_expected.specs.Inside.Beginnings.{IsPlaceOf, KindsFollow, HasTree, OfTokens};
+ghost use Rattle.cedar_expected.specs.Inside.Pendings.{IsAfter, NeverRead};
 
 use crate::kinds::Kinds;
-use crate::samples::{all_kinds, sample};
-use cedar_cst::cst::parse_policies;
+use crate::pending::Pending;
+use crate::samples::all_kinds;
+use cedar_tokens::kind::kind_of;
+use cedar_tokens::lexer::UnitKind;
+use cedar_tokens::units::Units;
 use cedar_tree::error::FormatError;
-use cedar_tree::laws::{accepted_is_not_refused, tree_is_of_accepted};
 use std::alloc::{AllocError, Global};
 
 /// The kinds of the tokens that can follow those of `text`.
@@ -18,8 +20,11 @@ pub fn kinds_after(alloc: Global, text: &str) -> Result<Kinds, AllocError>
     ensures { IfOk result (λ kinds. KindsFollow text.now kinds.items.items) }
 {
     let mut items = Vec::new(alloc);
+    let Some(pending) = read_tokens(alloc, text)? else {
+        return Ok(Kinds { items });
+    };
     for kind in all_kinds() {
-        if begins_with(alloc, text, sample(kind))? {
+        if pending.can_read(alloc, kind)? {
             items.push(kind)?;
         }
     }
@@ -31,41 +36,27 @@ pub fn is_accepted(alloc: Global, text: &str) -> Result<bool, AllocError>
     requires { HasTokens text.now }
     ensures { IfOk result (λ accepted. IsTrue accepted ↔ HasTree text.now) }
 {
-    accepted_is_not_refused();
-    tree_is_of_accepted();
-    match parse_policies(alloc, text) {
-        Ok(_) => Ok(true),
-        Err(error) => {
-            let _ = place_of(error)?;
-            Ok(false)
+    match read_tokens(alloc, text)? {
+        Some(pending) => Ok(pending.can_end()),
+        None => Ok(false),
+    }
+}
+
+// What is still to be read after the tokens of `text`; `None` if one of them can't come.
+fn read_tokens(alloc: Global, text: &str) -> Result<Option<Pending>, AllocError>
+    requires { HasTokens text.now }
+    ensures { IfOk result (λ pending. OfTokens text.now (λ front. MatchOption pending (NeverRead (map kind_of front)) (IsAfter (map kind_of front)))) }
+{
+    let mut pending = Pending::new(alloc)?;
+    for unit in Units::new(text) {
+        if unit.kind != UnitKind::Token {
+            continue;
+        }
+        if !pending.read(kind_of(unit.text))? {
+            return Ok(None);
         }
     }
-}
-
-// Whether some accepted list begins with the tokens of `text` and then this token.
-fn begins_with(alloc: Global, text: &str, token: &str) -> Result<bool, AllocError>
-    requires tokens { HasTokens text.now }
-    requires one { IsToken token.now }
-    requires fits { is_too_large token.now ≡ false }
-    ensures { IfOk result (λ begins. IsTrue begins ↔ TokensBeginWith text.now (token.now ∷ [])) }
-{
-    let longer = format!(in alloc; "{text}\n{token}")?;
-    begins(alloc, &longer)
-}
-
-// Whether some accepted list begins with the tokens of `text`: if a token is missing, it leaves the grammar at its end.
-fn begins(alloc: Global, text: &str) -> Result<bool, AllocError>
-    requires { HasTokens text.now }
-    ensures { IfOk result (λ begins. IsTrue begins ↔ TokensBegin text.now) }
-{
-    tree_is_of_accepted();
-    match parse_policies(alloc, text) {
-        Ok(_) => Ok(true),
-        Err(error) => match place_of(error)? {
-            Some(at) => Ok(at == text.len()),
-            None => Ok(false),
-        },
-    }
+    Ok(Some(pending))
 }
 
 /// Where a refused text leaves the grammar, if it does.

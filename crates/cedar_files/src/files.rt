@@ -77,7 +77,7 @@ fn format_all<'a>(
     Ok(disk.counts())
 }
 
-// The files with their layouts.
+// The files with their layouts. All are found before the first file is changed, so all go by the same settings.
 fn tasks_of(
     rt: &HostRuntime,
     options: &Options<'_>,

@@ -147,7 +147,7 @@ fn is_memory(e: FormatError) -> bool
     matches!(e, FormatError::OutOfMemory)
 }
 
-// Why a text that isn't accepted is refused.
+// Why a text that isn't accepted is refused, as the parser says: the writer doesn't know of a fault of the lexis further on.
 fn refusal(alloc: Global, text: &str) -> FormatError
     requires { ¬ (AcceptedByTree text.now) }
     ensures { OutOfMemoryOr (RefusesByTrees text.now) result }

@@ -16,10 +16,6 @@ OfTokens text P = (units : List (List ℕ)) × SplitsInto text units × P (only_
 abbrev pub TokensBegin : List ℕ → Type 0
 TokensBegin text = OfTokens text (Begins greatest_depth)
 
--- some accepted list begins with the text's tokens and these
-abbrev pub TokensBeginWith : List ℕ → List (List ℕ) → Type 0
-TokensBeginWith text more = OfTokens text (λ front. Begins greatest_depth (front ++ more))
-
 -- the text's tokens are an accepted list
 abbrev pub HasTree : List ℕ → Type 0
 HasTree text = OfTokens text IsList
