@@ -6,7 +6,7 @@ ghost use Rattle.cedar_expected.specs.Expectations.{IsExpected, NeverLeaves};
 
 use crate::expectation::Expected;
 use crate::kinds::names_of;
-use crate::probe::{is_accepted, kinds_after, place_of};
+use crate::probe::{continuation, place_of};
 use cedar_cst::cst::PolicyReader;
 use cedar_tokens::units::Units;
 use cedar_tree::laws::{accepted_is_not_refused, refusal_is_unique};
@@ -22,15 +22,14 @@ pub fn expected<'src>(alloc: Global, text: &'src str) -> Result<Option<Expected<
     };
     let from = text.len() - leaving.rest.len();
     let (before, after) = leaving.rest.split_at(leaving.at - from);
-    let kinds = kinds_after(alloc, before)?;
-    let names = names_of(alloc, &kinds)?;
-    let end = is_accepted(alloc, before)?;
+    let next = continuation(alloc, before)?;
+    let names = names_of(alloc, &next.kinds)?;
     Ok(Some(Expected {
         at: leaving.at,
         found: first_unit(after),
-        kinds,
+        kinds: next.kinds,
         names,
-        end,
+        end: next.end,
     }))
 }
 

@@ -14,32 +14,37 @@ use cedar_tokens::units::Units;
 use cedar_tree::error::FormatError;
 use std::alloc::{AllocError, Global};
 
-/// The kinds of the tokens that can follow those of `text`.
-pub fn kinds_after(alloc: Global, text: &str) -> Result<Kinds, AllocError>
+/// What can follow the tokens of a text.
+#[derive(Drop)]
+pub struct Continuation {
+    /// The kinds of the tokens that can come next.
+    pub kinds: Kinds,
+    /// Whether the text may end there: its tokens are an accepted list.
+    pub end: bool,
+}
+
+/// What can follow the tokens of `text`, which are read once.
+pub fn continuation(alloc: Global, text: &str) -> Result<Continuation, AllocError>
     requires { HasTokens text.now }
-    ensures { IfOk result (λ kinds. KindsFollow text.now kinds.items.items) }
+    ensures kinds { IfOk result (λ next. KindsFollow text.now next.kinds.items.items) }
+    ensures end { IfOk result (λ next. IsTrue next.end ↔ HasTree text.now) }
 {
     let mut items = Vec::new(alloc);
     let Some(pending) = read_tokens(alloc, text)? else {
-        return Ok(Kinds { items });
+        return Ok(Continuation {
+            kinds: Kinds { items },
+            end: false,
+        });
     };
     for kind in all_kinds() {
         if pending.can_read(alloc, kind)? {
             items.push(kind)?;
         }
     }
-    Ok(Kinds { items })
-}
-
-/// Whether the tokens of `text` are an accepted list.
-pub fn is_accepted(alloc: Global, text: &str) -> Result<bool, AllocError>
-    requires { HasTokens text.now }
-    ensures { IfOk result (λ accepted. IsTrue accepted ↔ HasTree text.now) }
-{
-    match read_tokens(alloc, text)? {
-        Some(pending) => Ok(pending.can_end()),
-        None => Ok(false),
-    }
+    Ok(Continuation {
+        kinds: Kinds { items },
+        end: pending.can_end(),
+    })
 }
 
 // What is still to be read after the tokens of `text`; `None` if one of them can't come.

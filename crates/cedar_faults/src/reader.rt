@@ -12,7 +12,7 @@ use crate::moves::{moved, place};
 use crate::recovery::resume;
 use cedar_expected::expectation::Expected;
 use cedar_expected::kinds::names_of;
-use cedar_expected::probe::{is_accepted, kinds_after};
+use cedar_expected::probe::continuation;
 use cedar_parser_steps::lexeme::Lexeme;
 use cedar_tree::error::FormatError;
 use std::alloc::{AllocError, Global};
@@ -182,9 +182,8 @@ fn describe<'src>(
     let part = marked(text, error);
     let at = place(error);
     let before = &text[..at];
-    let kinds = kinds_after(alloc, before)?;
-    let names = names_of(alloc, &kinds)?;
-    let end = is_accepted(alloc, before)?;
+    let next = continuation(alloc, before)?;
+    let names = names_of(alloc, &next.kinds)?;
     let found = if at < text.len() {
         Some(&text[part.start..part.end])
     } else {
@@ -197,9 +196,9 @@ fn describe<'src>(
         expected: Expected {
             at,
             found,
-            kinds,
+            kinds: next.kinds,
             names,
-            end,
+            end: next.end,
         },
         unclosed,
     })

@@ -1,4 +1,4 @@
--- How many nodes documents have, and the documents that are still to be processed.
+-- How many nodes documents have.
 use Rattle.std.proofs.Common.{◌≡◌, ℕ, ℤ, ◌+◌, ◌-◌, ◌<◌, ◌≤◌, List, [], ◌∷◌, ◌++◌, map, sum, length, take, get_or, sym, ap, subst, ◌∙◌, arith}
 use Rattle.std.proofs.lemmas.List.{take_more, map-append}
 use Rattle.std.proofs.lemmas.List.Sums.{sum_by_push}
@@ -10,11 +10,7 @@ use Rattle.cedar_layout.specs.declared.layout.Document.{Document}
 use Rattle.cedar_layout.specs.declared.layout.Document.TheOpen.{Document-F, Nil, Text, Line, LineOrNil, Hard, Seq, Nest, Group}
 use Rattle.cedar_layout.specs.declared.layout.Document.TheViews.{out-Document, roll-Document}
 use Rattle.cedar_layout.specs.declared.layout.Document.TheFolds.{fold-roll-Document, fold_out-Document, map-Document}
-use Rattle.cedar_layout.specs.declared.layout.print.Pending as printed
-use Rattle.cedar_layout.specs.declared.layout.measure.Pending as measured
-use Rattle.cedar_layout.specs.Nodes.{nodes, nodes_step}
-use Rattle.cedar_layout.specs.Inside.Measuring.{nodes_of_all, nodes_of_item, nodes_to_take, turns_of_item, turns}
-use Rattle.cedar_layout.specs.Inside.Printing.{nodes_to_print}
+use Rattle.cedar_layout.specs.Nodes.{nodes, nodes_step, nodes_of_all}
 
 pub nodes_of_all-push : (ds : List Document) (d : Document)
     → nodes_of_all (ds ++ d ∷ []) ≡ nodes_of_all ds + nodes d
@@ -58,17 +54,3 @@ step_pos (Group b) = omega arith
 
 pub nodes_pos : (d : Document) → 0 < nodes d
 nodes_pos d = subst (λ n. 0 < n) (sym (fold_out-Document ℕ nodes_step d)) (step_pos _)
-
--- a push on a stack
-pub nodes_to_print_pushed : (xs ys : List printed.Pending) (x : printed.Pending) → ys ≡ xs ++ x ∷ []
-    → nodes_to_print ys ≡ nodes_to_print xs + nodes x.doc.now
-nodes_to_print_pushed xs ys x e =
-    ap nodes_to_print e ∙ sum_by_push (λ (p : printed.Pending). nodes p.doc.now) xs x
-
-pub nodes_to_take_pushed : (xs ys : List measured.Pending) (x : measured.Pending)
-    → ys ≡ xs ++ x ∷ [] → nodes_to_take ys ≡ nodes_to_take xs + nodes_of_item x
-nodes_to_take_pushed xs ys x e = ap nodes_to_take e ∙ sum_by_push nodes_of_item xs x
-
-pub turns_pushed : (xs ys : List measured.Pending) (x : measured.Pending) → ys ≡ xs ++ x ∷ []
-    → turns ys ≡ turns xs + turns_of_item x
-turns_pushed xs ys x e = ap turns e ∙ sum_by_push turns_of_item xs x

@@ -9,8 +9,6 @@ pub mod Width
 pub mod Cuts
 pub mod Choices
 pub mod Counts
-pub mod Measuring
-pub mod Printing
 pub mod Releasing
 pub mod Halving
 pub mod HandedOut

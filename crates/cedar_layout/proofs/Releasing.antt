@@ -11,8 +11,7 @@ use Rattle.cedar_layout.specs.declared.layout.Document.TheViews.{out-Document, r
 use Rattle.cedar_layout.specs.declared.layout.Document.TheVariants.{Nil as Nil', Text as Text', Line as Line', LineOrNil as LineOrNil', Hard as Hard'}
 use Rattle.std.specs.Borrow.{Bor}
 use Rattle.cedar_layout.specs.declared.layout.Document.TheFolds.{fold-roll-Document, ind-Document, map-Document}
-use Rattle.cedar_layout.specs.Nodes.{nodes, nodes_step}
-use Rattle.cedar_layout.specs.Inside.Measuring.{nodes_of_all}
+use Rattle.cedar_layout.specs.Nodes.{nodes, nodes_step, nodes_of_all}
 use Rattle.cedar_layout.specs.Inside.Releasing.{first_of, nested, nested_step, nested_first, work}
 use Rattle.cedar_layout.proofs.Counts.{nodes_of_all-push, nodes_seq}
 

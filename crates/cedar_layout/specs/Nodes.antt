@@ -1,5 +1,5 @@
 -- How many nodes a document has.
-use Rattle.std.specs.Prelude.{ℕ, ◌+◌, sum}
+use Rattle.std.specs.Prelude.{ℕ, ◌+◌, List, map, sum}
 use Rattle.cedar_layout.specs.declared.layout.Document.{Document}
 use Rattle.cedar_layout.specs.declared.layout.Document.TheOpen.{Document-F, Nil, Text, Line, LineOrNil, Hard, Seq, Nest, Group}
 use Rattle.cedar_layout.specs.declared.layout.Document.TheFolds.{fold-Document}
@@ -18,3 +18,7 @@ nodes_step (Group b) = 1 + b.value
 -- the cases of `Document` in a document
 abbrev pub nodes : Document → ℕ
 nodes = fold-Document ℕ nodes_step
+
+-- the same of several documents
+abbrev pub nodes_of_all : List Document → ℕ
+nodes_of_all ds = sum (map nodes ds)

@@ -1,15 +1,10 @@
-//! Documents, texts with places where they may break, and the layout of a document at a width.
-ghost use Rattle.std.specs.Prelude.{◌≡◌, ◌+◌, ◌*◌, ◌<◌, ◌≤◌, ◌++◌, ℕ, List, false, length, map, take, string_bytes, IfOk, OnOk, OnErr};
-ghost use Rattle.std.specs.List.{flat_map};
-ghost use Rattle.cedar_layout.specs.Layout.{◌·◌, nest, group, print, IsTheLayoutAt};
-ghost use Rattle.cedar_layout.specs.Inside.Computed.{laid};
-ghost use Rattle.cedar_layout.specs.Nodes.{nodes};
+//! Documents: texts with places where they may break.
+ghost use Rattle.std.specs.Prelude.{◌≡◌, map, IfOk};
+ghost use Rattle.cedar_layout.specs.Layout.{◌·◌, nest, group};
 ghost use Rattle.cedar_layout.specs.Value.{doc_of, docs_of, interspersed};
 
 pub mod breaks;
 pub mod columns;
-mod measure;
-mod print;
 mod release;
 mod steps;
 
@@ -18,8 +13,6 @@ pub use crate::laws::{
 };
 use crate::layout::release::release_all;
 use std::alloc::{AllocError, Global};
-use std::marker::Brand;
-use std::sync::ledger::{Blank, Ledger};
 pub use steps::Steps;
 
 /// A text with places where it may break.
@@ -160,86 +153,4 @@ pub fn intersperse<'src>(
         all.push(d)?;
     }
     Ok(Document::Seq(all))
-}
-
-/// Appends the layout of a document at a width, in columns. It begins in column 0, with indentation 0.
-pub fn render(
-    alloc: Global,
-    doc: &Document<'_>,
-    width: usize,
-    out: &mut String,
-) -> Result<(), AllocError>
-    // No other text is a layout at the width.
-    ensures ok { OnOk result ((t : List ℕ)
-        × IsTheLayoutAt width (doc_of doc.now) t
-        × (string_bytes out.new ≡ string_bytes out.old ++ t)) }
-    ensures err { OnErr result (string_bytes out.new ≡ string_bytes out.old) }
-{
-    render_from::<Brand>(alloc, doc, width, out, Blank::new(1))
-}
-
-/// The same, discarding the step count.
-fn render_from<L: Ledger>(
-    alloc: Global,
-    doc: &Document<'_>,
-    width: usize,
-    out: &mut String,
-    blank: Blank,
-) -> Result<(), AllocError>
-    requires name { blank.name ≡ L.name }
-    requires parts { blank.parts ≡ L.parts }
-    requires some { 0 < L.parts }
-    ensures ok { OnOk result ((t : List ℕ)
-        × IsTheLayoutAt width (doc_of doc.now) t
-        × (string_bytes out.new ≡ string_bytes out.old ++ t)) }
-    ensures err { OnErr result (string_bytes out.new ≡ string_bytes out.old) }
-{
-    let mut steps: Steps<L> = Steps::new(blank);
-    render_counted(alloc, doc, width, out, &mut steps)
-}
-
-/// Like `render`, and counts the steps: each case of the document that is processed is counted once for measuring and
-/// once for printing.
-pub fn render_counted<L: Ledger>(
-    alloc: Global,
-    doc: &Document<'_>,
-    width: usize,
-    out: &mut String,
-    steps: &mut Steps<L>,
-) -> Result<(), AllocError>
-    ensures ok { OnOk result ((t : List ℕ)
-        × IsTheLayoutAt width (doc_of doc.now) t
-        × (string_bytes out.new ≡ string_bytes out.old ++ t)) }
-    ensures err { OnErr result (string_bytes out.new ≡ string_bytes out.old) }
-
-    ensures steps { OnOk result (steps.new ≡ steps.old + 2 * nodes doc.now) }
-    ensures least { steps.old ≤ steps.new }
-    ensures most { steps.new ≤ steps.old + 2 * nodes doc.now }
-{
-    let start = out.len();
-    match measure_and_print(alloc, doc, width, out, steps) {
-        Ok(()) => Ok(()),
-        Err(e) => {
-            out.truncate(start);
-            Err(e)
-        }
-    }
-}
-
-/// Both passes. If memory runs out, a part of the layout may have been appended.
-fn measure_and_print<L: Ledger>(
-    alloc: Global,
-    doc: &Document<'_>,
-    width: usize,
-    out: &mut String,
-    steps: &mut Steps<L>,
-) -> Result<(), AllocError>
-    ensures ok { OnOk result (string_bytes out.new ≡ string_bytes out.old ++ flat_map print (laid width (doc_of doc.now) false 0 0 0)) }
-    ensures kept { take (length (string_bytes out.old)) (string_bytes out.new) ≡ string_bytes out.old }
-    ensures steps { OnOk result (steps.new ≡ steps.old + 2 * nodes doc.now) }
-    ensures least { steps.old ≤ steps.new }
-    ensures most { steps.new ≤ steps.old + 2 * nodes doc.now }
-{
-    let notes = measure::measure(alloc, doc, steps)?;
-    print::print_document(alloc, doc, width, notes, out, steps)
 }

@@ -6,6 +6,7 @@
 
 pub mod fmt;
 pub mod laws;
+pub mod layout;
 mod lookup;
 mod places;
 
@@ -16,7 +17,7 @@ pub use cedar_documents::{config, doc};
 pub use cedar_expected::expectation::Expected;
 pub use cedar_expected::expected::expected;
 pub use cedar_expected::explain::explain;
-pub use cedar_layout::{layout, utils};
+pub use cedar_layout::utils;
 pub use cedar_tokens::{lexer, token};
 pub use fmt::{
     ReadFault, RunFault, Watched, check_stream, every_layout_reads_back, format_stream,

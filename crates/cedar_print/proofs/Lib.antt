@@ -5,3 +5,4 @@ pub mod Printing
 pub mod Units
 pub mod Clean
 pub mod Cleaned
+pub mod Walks

@@ -2,3 +2,4 @@
 pub mod Measured
 pub mod Printed
 pub mod Written
+pub mod Walked

@@ -6,5 +6,7 @@ pub mod mark;
 mod measure;
 mod place;
 pub mod printer;
+pub mod render;
 mod trim;
+mod walk;
 mod write;

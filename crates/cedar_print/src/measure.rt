@@ -1,14 +1,23 @@
 //! The first pass over marks, from the last to the first. It finds what the second one needs about groups and breaks.
-ghost use Rattle.std.specs.Prelude.{◌≡◌, ◌+◌, ◌^◌, ◌<◌, ◌≤◌, [], OnOk};
+ghost use Rattle.std.specs.Prelude.{◌≡◌, ◌+◌, ◌^◌, ◌<◌, ◌≤◌, [], length, OnOk};
+ghost use Rattle.cedar_layout.specs.Nodes.{nodes};
+ghost use Rattle.cedar_layout.specs.Value.{doc_of};
 ghost use Rattle.cedar_print.specs.Marks.{mark_of, marks_of};
 ghost use Rattle.cedar_print.specs.Inside.Measured.{before, before_break, facts, facts_of};
+ghost use Rattle.cedar_print.specs.Inside.Walked.{marks_in};
 
 use crate::mark::Mark;
+use crate::walk::Backward;
 use cedar_layout::layout::columns::columns_of;
+use cedar_layout::layout::{Document, Steps};
 use std::alloc::{AllocError, Global};
+use std::sync::ledger::Ledger;
 
 /// The columns of a hard break in a group that is laid out flat: more than any width, so that the group is broken.
 const TOO_WIDE: u128 = 1 << 64;
+
+/// The most columns of a document. A mark has at most 2^64, so more would take 2^64 - 1 marks, which fit in no memory.
+const MOST: u128 = u128::MAX - TOO_WIDE;
 
 /// What is known at a mark about the marks from there on.
 #[derive(Drop)]
@@ -38,14 +47,46 @@ impl Known {
         }
     }
 
-    /// Finds what is known at the first of these marks.
-    pub(crate) fn measure(&mut self, marks: &[Mark<'_>]) -> Result<(), AllocError>
+    /// Finds what is known at the first of these marks. Each of them is a step.
+    pub(crate) fn measure<L: Ledger>(
+        &mut self,
+        marks: &[Mark<'_>],
+        steps: &mut Steps<L>,
+    ) -> Result<(), AllocError>
         ensures facts { OnOk result (facts_of self.new ≡ facts (marks_of marks.now)) }
         ensures columns { OnOk result (self.new.columns + 2 ^ 64 ≤ 2 ^ 128) }
+        ensures steps { OnOk result (steps.new ≡ steps.old + length marks.now) }
+        ensures least { steps.old ≤ steps.new }
+        ensures most { steps.new ≤ steps.old + length marks.now }
     {
         self.go_to_the_end();
         for i in (0..marks.len()).rev() {
+            steps.tick();
             self.take_up(&marks[i])?;
+        }
+        Ok(())
+    }
+
+    /// Finds what is known at the first mark of a document. Each case of the document is a step.
+    pub(crate) fn measure_document<L: Ledger>(
+        &mut self,
+        alloc: Global,
+        doc: &Document<'_>,
+        steps: &mut Steps<L>,
+    ) -> Result<(), AllocError>
+        ensures facts { OnOk result (facts_of self.new ≡ facts (marks_in (doc_of doc.now))) }
+        ensures columns { OnOk result (self.new.columns + 2 ^ 64 ≤ 2 ^ 128) }
+        ensures steps { OnOk result (steps.new ≡ steps.old + nodes doc.now) }
+        ensures least { steps.old ≤ steps.new }
+        ensures most { steps.new ≤ steps.old + nodes doc.now }
+    {
+        self.go_to_the_end();
+        let mut walk = Backward::new(alloc, doc)?;
+        while let Some(mark) = walk.next(steps)? {
+            self.take_up(&mark)?;
+            if self.columns > MOST {
+                return Err(AllocError);
+            }
         }
         Ok(())
     }

@@ -1,16 +1,21 @@
 //! The second pass over marks, from the first to the last: what each of them writes, using what the first pass found.
-ghost use Rattle.std.specs.Prelude.{◌≡◌, ◌+◌, ◌^◌, ◌≤◌, [], ◌∷◌, if◌then◌else◌, OnOk, IfOk};
+ghost use Rattle.std.specs.Prelude.{◌≡◌, ◌+◌, ◌^◌, ◌≤◌, [], ◌∷◌, if◌then◌else◌, length, OnOk, IfOk};
 ghost use Rattle.std.specs.List.{flat_map};
+ghost use Rattle.cedar_layout.specs.Nodes.{nodes};
+ghost use Rattle.cedar_layout.specs.Value.{doc_of};
 ghost use Rattle.cedar_print.specs.WrittenMarks.{begin};
 ghost use Rattle.cedar_print.specs.Marks.{mark_of, marks_of};
 ghost use Rattle.cedar_print.specs.Clean.{units_of};
-ghost use Rattle.cedar_print.specs.Inside.Measured.{facts};
+ghost use Rattle.cedar_print.specs.Inside.Measured.{facts, facts_of};
 ghost use Rattle.cedar_print.specs.Inside.Printed.{pieces_of, after_break, after_line, inside, outside, after, state_of, at_first};
+ghost use Rattle.cedar_print.specs.Inside.Walked.{marks_in};
 ghost use Rattle.cedar_print.specs.Inside.Written.{units_in, IsSolid};
 
 use crate::mark::Mark;
 use crate::measure::Known;
+use cedar_layout::layout::{Document, Steps};
 use std::alloc::{AllocError, Global};
+use std::sync::ledger::Ledger;
 
 /// The nest or the group that a mark is in.
 #[derive(Clone, Copy)]
@@ -61,16 +66,48 @@ impl Place {
         }
     }
 
-    /// Goes to the first of these marks, about which everything is known then.
-    pub(crate) fn go_to_the_first(&mut self, marks: &[Mark<'_>]) -> Result<(), AllocError>
+    /// Goes to the first of these marks, about which everything is known then. Each of them is a step.
+    pub(crate) fn go_to_the_first<L: Ledger>(
+        &mut self,
+        marks: &[Mark<'_>],
+        steps: &mut Steps<L>,
+    ) -> Result<(), AllocError>
         ensures state { OnOk result (state_of self.new ≡ at_first (facts (marks_of marks.now))) }
         ensures range { OnOk result ((facts (marks_of marks.now)).columns + 2 ^ 64 ≤ 2 ^ 128) }
+        ensures steps { OnOk result (steps.new ≡ steps.old + length marks.now) }
+        ensures least { steps.old ≤ steps.new }
+        ensures most { steps.new ≤ steps.old + length marks.now }
     {
-        self.known.measure(marks)?;
+        self.known.measure(marks, steps)?;
+        self.begin_anew();
+        Ok(())
+    }
+
+    /// Goes to the first mark of a document, in the same way. Each case of the document is a step.
+    pub(crate) fn go_to_the_first_of<L: Ledger>(
+        &mut self,
+        alloc: Global,
+        doc: &Document<'_>,
+        steps: &mut Steps<L>,
+    ) -> Result<(), AllocError>
+        ensures state { OnOk result (state_of self.new ≡ at_first (facts (marks_in (doc_of doc.now)))) }
+        ensures range { OnOk result ((facts (marks_in (doc_of doc.now))).columns + 2 ^ 64 ≤ 2 ^ 128) }
+        ensures steps { OnOk result (steps.new ≡ steps.old + nodes doc.now) }
+        ensures least { steps.old ≤ steps.new }
+        ensures most { steps.new ≤ steps.old + nodes doc.now }
+    {
+        self.known.measure_document(alloc, doc, steps)?;
+        self.begin_anew();
+        Ok(())
+    }
+
+    /// Goes to the first mark, about which everything is known.
+    fn begin_anew(&mut self)
+        ensures { state_of self.new ≡ at_first (facts_of self.old.known) }
+    {
         self.here = FIRST;
         self.outer.clear();
         self.start = self.known.columns;
-        Ok(())
     }
 
     /// Passes a mark. Gives what it writes, if anything.

@@ -1,8 +1,7 @@
-//! The layout of marks at a width.
-ghost use Rattle.std.specs.Prelude.{◌≡◌, ◌+◌, ◌^◌, ◌≤◌, ◌++◌, false, length, take, string_bytes, List, ℕ, OnOk, OnErr};
-ghost use Rattle.std.specs.List.{concat};
+//! The layout of marks at a width, without blank lines.
+ghost use Rattle.std.specs.Prelude.{◌≡◌, ◌+◌, ◌*◌, ◌^◌, ◌<◌, ◌≤◌, ◌++◌, false, length, take, string_bytes, List, ℕ, OnOk, OnErr};
 ghost use Rattle.std.specs.Str.{trim};
-ghost use Rattle.cedar_layout.specs.Layout.{Doc, IsTheLayoutAt};
+ghost use Rattle.cedar_layout.specs.Layout.{Doc};
 ghost use Rattle.cedar_print.specs.WrittenMarks.{AreMarks};
 ghost use Rattle.cedar_print.specs.Marks.{marks_of};
 ghost use Rattle.cedar_print.specs.Clean.{without_blank_lines, IsTheCleanLayoutAt};
@@ -12,8 +11,11 @@ ghost use Rattle.cedar_print.specs.Inside.Written.{units_at};
 use crate::mark::Mark;
 use crate::place::Place;
 use crate::trim::trim_from;
-use crate::write::{write, write_clean, write_held};
+use crate::write::{write_clean, write_held};
+use cedar_layout::layout::Steps;
 use std::alloc::{AllocError, Global};
+use std::marker::Brand;
+use std::sync::ledger::{Blank, Ledger};
 
 /// Lays out marks. Between two calls it only holds memory for reuse.
 #[derive(Drop)]
@@ -29,8 +31,9 @@ impl Printer {
         }
     }
 
-    /// Appends the layout of marks at a width, in columns. It begins in column 0, with indentation 0.
-    pub fn lay_out(
+    /// Appends the layout of marks at a width, in columns, without its blank lines and without blanks at its ends. It begins
+    /// in column 0, with indentation 0.
+    pub fn lay_out_clean(
         &mut self,
         marks: &[Mark<'_>],
         width: usize,
@@ -38,87 +41,96 @@ impl Printer {
     ) -> Result<(), AllocError>
         // No other text is a layout of the marks' document at the width.
         ensures ok { OnOk result ((d : Doc) → AreMarks (marks_of marks.now) d → (t : List ℕ)
-            × IsTheLayoutAt width d t
+            × IsTheCleanLayoutAt width d t
             × (string_bytes out.new ≡ string_bytes out.old ++ t)) }
         ensures err { OnErr result (string_bytes out.new ≡ string_bytes out.old) }
     {
-        let start = out.len();
-        if let Err(e) = self.print(marks, width, out) {
-            out.truncate(start);
-            return Err(e);
-        }
-        Ok(())
+        self.lay_out_from::<Brand>(marks, width, out, Blank::new(1))
     }
 
-    /// Appends the layout of marks at a width, as `lay_out` does, but without its blank lines and without blanks at its ends.
-    pub fn lay_out_clean(
+    /// The same, discarding the step count.
+    fn lay_out_from<L: Ledger>(
         &mut self,
         marks: &[Mark<'_>],
         width: usize,
         out: &mut String,
+        blank: Blank,
     ) -> Result<(), AllocError>
+        requires name { blank.name ≡ L.name }
+        requires parts { blank.parts ≡ L.parts }
+        requires some { 0 < L.parts }
         ensures ok { OnOk result ((d : Doc) → AreMarks (marks_of marks.now) d → (t : List ℕ)
             × IsTheCleanLayoutAt width d t
             × (string_bytes out.new ≡ string_bytes out.old ++ t)) }
         ensures err { OnErr result (string_bytes out.new ≡ string_bytes out.old) }
     {
+        let mut steps: Steps<L> = Steps::new(blank);
+        self.lay_out_counted(marks, width, out, &mut steps)
+    }
+
+    /// Like `lay_out_clean`, and counts the steps: each mark is taken up once for measuring and once for printing.
+    pub fn lay_out_counted<L: Ledger>(
+        &mut self,
+        marks: &[Mark<'_>],
+        width: usize,
+        out: &mut String,
+        steps: &mut Steps<L>,
+    ) -> Result<(), AllocError>
+        ensures ok { OnOk result ((d : Doc) → AreMarks (marks_of marks.now) d → (t : List ℕ)
+            × IsTheCleanLayoutAt width d t
+            × (string_bytes out.new ≡ string_bytes out.old ++ t)) }
+        ensures err { OnErr result (string_bytes out.new ≡ string_bytes out.old) }
+        ensures steps { OnOk result (steps.new ≡ steps.old + 2 * length marks.now) }
+        ensures least { steps.old ≤ steps.new }
+        ensures most { steps.new ≤ steps.old + 2 * length marks.now }
+    {
         let start = out.len();
-        if let Err(e) = self.print_clean(marks, width, out) {
+        if let Err(e) = self.print_clean(marks, width, out, steps) {
             out.truncate(start);
             return Err(e);
         }
         Ok(())
     }
 
-    /// Appends the layout of marks at a width. If memory runs out, a part of it may have been appended.
-    fn print(
-        &mut self,
-        marks: &[Mark<'_>],
-        width: usize,
-        out: &mut String,
-    ) -> Result<(), AllocError>
-        ensures ok { OnOk result (string_bytes out.new ≡ string_bytes out.old ++ concat (units_at width (marks_of marks.now))) }
-        ensures range { OnOk result ((facts (marks_of marks.now)).columns + 2 ^ 64 ≤ 2 ^ 128) }
-        ensures kept { take (length (string_bytes out.old)) (string_bytes out.new) ≡ string_bytes out.old }
-    {
-        self.place.go_to_the_first(marks)?;
-        for mark in marks {
-            let written = self.place.pass(mark, width)?;
-            write(written, out)?;
-        }
-        Ok(())
-    }
-
     /// Appends the layout without blank lines and trimmed. If memory runs out, something else may have been appended.
-    fn print_clean(
+    fn print_clean<L: Ledger>(
         &mut self,
         marks: &[Mark<'_>],
         width: usize,
         out: &mut String,
+        steps: &mut Steps<L>,
     ) -> Result<(), AllocError>
         ensures ok { OnOk result (string_bytes out.new ≡ string_bytes out.old ++ trim (without_blank_lines false (units_at width (marks_of marks.now)))) }
         ensures range { OnOk result ((facts (marks_of marks.now)).columns + 2 ^ 64 ≤ 2 ^ 128) }
         ensures kept { take (length (string_bytes out.old)) (string_bytes out.new) ≡ string_bytes out.old }
+        ensures steps { OnOk result (steps.new ≡ steps.old + 2 * length marks.now) }
+        ensures least { steps.old ≤ steps.new }
+        ensures most { steps.new ≤ steps.old + 2 * length marks.now }
     {
         let start = out.len();
-        self.print_lines(marks, width, out)?;
+        self.print_lines(marks, width, out, steps)?;
         trim_from(out, start)
     }
 
     /// Appends the layout without blank lines. If memory runs out, a part of it may have been appended.
-    fn print_lines(
+    fn print_lines<L: Ledger>(
         &mut self,
         marks: &[Mark<'_>],
         width: usize,
         out: &mut String,
+        steps: &mut Steps<L>,
     ) -> Result<(), AllocError>
         ensures ok { OnOk result (string_bytes out.new ≡ string_bytes out.old ++ without_blank_lines false (units_at width (marks_of marks.now))) }
         ensures range { OnOk result ((facts (marks_of marks.now)).columns + 2 ^ 64 ≤ 2 ^ 128) }
         ensures kept { take (length (string_bytes out.old)) (string_bytes out.new) ≡ string_bytes out.old }
+        ensures steps { OnOk result (steps.new ≡ steps.old + 2 * length marks.now) }
+        ensures least { steps.old ≤ steps.new }
+        ensures most { steps.new ≤ steps.old + 2 * length marks.now }
     {
-        self.place.go_to_the_first(marks)?;
+        self.place.go_to_the_first(marks, steps)?;
         let mut held = None;
         for mark in marks {
+            steps.tick();
             let written = self.place.pass(mark, width)?;
             held = write_clean(held, written, out)?;
         }

@@ -7,14 +7,14 @@ use cedar_print::printer::Printer;
 use std::alloc::AllocError;
 use std::process::Abort;
 
-// Marks, and their layouts at some widths.
+// Marks, and their layouts at some widths, without blank lines and trimmed.
 struct Row {
     name: &'static str,
     marks: &'static [Mark<'static>],
     layouts: &'static [(usize, &'static str)],
 }
 
-static ROWS: [Row; 10] = [
+static ROWS: [Row; 16] = [
     Row {
         name: "nothing",
         marks: &[],
@@ -53,7 +53,7 @@ static ROWS: [Row; 10] = [
             Text("e"),
             EndNest,
         ],
-        layouts: &[(80, "\n    a\n  b\nc\n  d\n    e")],
+        layouts: &[(80, "a\n  b\nc\n  d\n    e")],
     },
     Row {
         name: "a group, and a text up to the break after it",
@@ -67,7 +67,7 @@ static ROWS: [Row; 10] = [
             Space,
             Hard,
         ],
-        layouts: &[(5, "a bc \n"), (4, "a\nbc \n")],
+        layouts: &[(5, "a bc"), (4, "a\nbc")],
     },
     Row {
         name: "nothing in a group, and a group in nothing",
@@ -89,7 +89,7 @@ static ROWS: [Row; 10] = [
             Line,
             EndNothing,
         ],
-        layouts: &[(3, "a b\ncd\n"), (2, "a\nb\ncd\n"), (1, "a\nb\nc\nd\n")],
+        layouts: &[(3, "a b\ncd"), (2, "a\nb\ncd"), (1, "a\nb\nc\nd")],
     },
     Row {
         name: "a call",
@@ -164,31 +164,19 @@ static ROWS: [Row; 10] = [
             EndNest,
             Hard,
         ],
-        layouts: &[(80, "\n \n   a\n b\n")],
+        layouts: &[(80, "a\n b")],
     },
     Row {
         name: "a character of two columns",
         marks: &[Begin, Text("日"), Line, Text("b"), EndGroup],
         layouts: &[(4, "日 b"), (3, "日\nb")],
     },
-];
-
-// Marks, their layout, and that without blank lines, at a width of 80.
-struct CleanRow {
-    name: &'static str,
-    marks: &'static [Mark<'static>],
-    layout: &'static str,
-    clean: &'static str,
-}
-
-static CLEAN_ROWS: [CleanRow; 6] = [
-    CleanRow {
+    Row {
         name: "blanks alone",
         marks: &[Space, Hard, Space, Hard],
-        layout: " \n \n",
-        clean: "",
+        layouts: &[(80, "")],
     },
-    CleanRow {
+    Row {
         name: "breaks at both ends, and two between texts",
         marks: &[
             Hard,
@@ -200,10 +188,9 @@ static CLEAN_ROWS: [CleanRow; 6] = [
             Text("// c"),
             Hard,
         ],
-        layout: "\n// a\n\nb // c\n",
-        clean: "// a\nb // c",
+        layouts: &[(80, "// a\nb // c")],
     },
-    CleanRow {
+    Row {
         name: "a line of spaces, and the indentation after it",
         marks: &[
             Nest(Indent { columns: 2 }),
@@ -216,10 +203,9 @@ static CLEAN_ROWS: [CleanRow; 6] = [
             Text("b"),
             EndNest,
         ],
-        layout: "a\n   \n b",
-        clean: "a\n b",
+        layouts: &[(80, "a\n b")],
     },
-    CleanRow {
+    Row {
         name: "spaces before and after a break",
         marks: &[
             Text("a"),
@@ -231,10 +217,9 @@ static CLEAN_ROWS: [CleanRow; 6] = [
             Text("b"),
             EndGroup,
         ],
-        layout: "a \n  b",
-        clean: "a \n  b",
+        layouts: &[(80, "a \n  b")],
     },
-    CleanRow {
+    Row {
         name: "texts that are blanks",
         marks: &[
             Text("a"),
@@ -244,35 +229,14 @@ static CLEAN_ROWS: [CleanRow; 6] = [
             Text(" "),
             Text("b"),
         ],
-        layout: "a\n \n b",
-        clean: "a\n b",
+        layouts: &[(80, "a\n b")],
     },
-    CleanRow {
+    Row {
         name: "blank lines in a text",
         marks: &[Text("\"a\n\n b\""), Hard, Text(";"), LineOrNil],
-        layout: "\"a\n\n b\"\n;\n",
-        clean: "\"a\n\n b\"\n;",
+        layouts: &[(80, "\"a\n\n b\"\n;")],
     },
 ];
-
-fn expect_text(rt: &impl Abort, got: &str, want: &str, name: &str) {
-    assert_eq!(rt; got, want, "{name}");
-}
-
-fn expect_clean_row(
-    rt: &impl Abort,
-    printer: &mut Printer,
-    row: &CleanRow,
-    out: &mut String,
-) -> Result<(), AllocError> {
-    out.clear();
-    printer.lay_out(row.marks, 80, out)?;
-    expect_text(rt, out.as_str(), row.layout, row.name);
-    out.clear();
-    printer.lay_out_clean(row.marks, 80, out)?;
-    expect_text(rt, out.as_str(), row.clean, row.name);
-    Ok(())
-}
 
 fn expect_row(
     rt: &impl Abort,
@@ -283,7 +247,7 @@ fn expect_row(
     for (width, layout) in row.layouts {
         out.clear();
         out.push_str("> ")?;
-        printer.lay_out(row.marks, *width, out)?;
+        printer.lay_out_clean(row.marks, *width, out)?;
         assert_eq!(rt;
             out.strip_prefix("> "),
             Some(*layout),
@@ -300,16 +264,6 @@ fn layouts(rt: HostRuntime) -> Result<(), AllocError> {
     let mut out = String::new(rt.alloc());
     for row in &ROWS {
         expect_row(&rt, &mut printer, row, &mut out)?;
-    }
-    Ok(())
-}
-
-#[test]
-fn clean_layouts(rt: HostRuntime) -> Result<(), AllocError> {
-    let mut printer = Printer::new(rt.alloc());
-    let mut out = String::new(rt.alloc());
-    for row in &CLEAN_ROWS {
-        expect_clean_row(&rt, &mut printer, row, &mut out)?;
     }
     Ok(())
 }

@@ -3,7 +3,7 @@ use Rattle.std.specs.Prelude.{ℕ, ◌+◌, ◌-◌, ◌*◌, List, [], ◌∷�
 use Rattle.cedar_layout.specs.declared.layout.Document.{Document}
 use Rattle.cedar_layout.specs.declared.layout.Document.TheOpen.{Document-F, Nil, Text, Line, LineOrNil, Hard, Seq, Nest, Group}
 use Rattle.cedar_layout.specs.declared.layout.Document.TheFolds.{fold-Document}
-use Rattle.cedar_layout.specs.Inside.Measuring.{nodes_of_all}
+use Rattle.cedar_layout.specs.Nodes.{nodes_of_all}
 
 abbrev pub first_of : List ℕ → ℕ
 first_of [] = 0

@@ -16,14 +16,8 @@ split_at-requires c =
     let b : LeavesAfter text l = rw c.in-Some.is at c.in_ok-leaving.ensures in
     at_boundary text l b (rest_is_utf8 text l b c.utf8.text)
 
-pub kinds_after-requires : goal.kinds_after-requires
-kinds_after-requires c =
-    let b : LeavesAfter c.args.text.now c.in-Some.leaving =
-    rw c.in-Some.is at c.in_ok-leaving.ensures in
-    rw c.split_at.ensures.front (front_tokens c.args.text.now c.in-Some.leaving b)
-
-pub is_accepted-requires : goal.is_accepted-requires
-is_accepted-requires c =
+pub continuation-requires : goal.continuation-requires
+continuation-requires c =
     let b : LeavesAfter c.args.text.now c.in-Some.leaving =
     rw c.in-Some.is at c.in_ok-leaving.ensures in
     rw c.split_at.ensures.front (front_tokens c.args.text.now c.in-Some.leaving b)
@@ -36,4 +30,4 @@ returns c =
     let found =
     c.first_unit.ensures b.leaves.after (rw c.split_at.ensures.back (back_split text l b)) in
     is_expected text l b c.split_at.result.0.now _ c.split_at.ensures.front refl found
-    c.in_ok-kinds.ensures c.in_ok-names.ensures c.in_ok-end.ensures
+    c.in_ok-next.ensures.kinds c.in_ok-names.ensures c.in_ok-next.ensures.end

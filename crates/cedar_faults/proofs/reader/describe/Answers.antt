@@ -11,14 +11,8 @@ range-before-requires-clause-end_boundary c =
     let text = c.args.text.now in
     reached_boundary text c.place-at.result (reached text c.args.error c.place-at.result c.requires c.place-at.ensures) c.utf8.text
 
-pub kinds_after-requires : goal.kinds_after-requires
-kinds_after-requires c =
-    let text = c.args.text.now in
-    rw (c.range-before.ensures.value ∙ from_start text c.place-at.result)
-    (front_tokens text c.place-at.result (reached text c.args.error c.place-at.result c.requires c.place-at.ensures))
-
-pub is_accepted-requires : goal.is_accepted-requires
-is_accepted-requires c =
+pub continuation-requires : goal.continuation-requires
+continuation-requires c =
     let text = c.args.text.now in
     rw (c.range-before.ensures.value ∙ from_start text c.place-at.result)
     (front_tokens text c.place-at.result (reached text c.args.error c.place-at.result c.requires c.place-at.ensures))
@@ -54,11 +48,11 @@ returns c =
       part = c.marked-part.ensures;
       expects = record {
         reached = r;
-        kinds = kinds_there text at r c.in_ok-kinds.kinds.items.items
-            (rw (c.range-before.ensures.value ∙ from_start text at) at c.in_ok-kinds.ensures);
+        kinds = kinds_there text at r c.in_ok-next.next.kinds.items.items
+            (rw (c.range-before.ensures.value ∙ from_start text at) at c.in_ok-next.ensures.kinds);
         named = c.in_ok-names.ensures;
-        end = end_there text at r c.in_ok-end.end
-            (rw (c.range-before.ensures.value ∙ from_start text at) at c.in_ok-end.ensures);
+        end = end_there text at r c.in_ok-next.next.end
+            (rw (c.range-before.ensures.value ∙ from_start text at) at c.in_ok-next.ensures.end);
       };
       found = elim c.if-at-text.branch [
         | then-at-text w ↦ rw w.found-is (w.if-at-text.true, w.range.ensures.value)

@@ -5,7 +5,9 @@ use Rattle.cedar_print.proofs.measure.Known.measure.Given as goal
 
 -- what is known is that of the marks from here on, each of at most 2 ^ 64 columns
 abbrev pub invariant-loop-i : goal.invariant-loop-i
-invariant-loop-i l = record {
+invariant-loop-i g l = record {
   facts : facts_of l.self ≡ facts (marks_of (drop l.i l.marks));
   columns : l.self.columns + 2 ^ 64 * l.i ≤ 2 ^ 64 * length l.marks;
+  steps : l.steps + l.i ≡ l.fn.steps + length l.marks;
+  least : l.fn.steps ≤ l.steps;
 }

@@ -3,7 +3,7 @@ use Rattle.cedar_layout.proofs.Cuts.{cut_point}
 use Rattle.cedar_print.proofs.printer.Printer.print_clean.Goals as goal
 
 pub trim_from-requires : goal.trim_from-requires
-trim_from-requires c =
+trim_from-requires g c =
     let old = c.args.out.now in
     let new = c.print_lines.new.out in
     let e : c.len-start.result ≡ length (string_bytes old) =

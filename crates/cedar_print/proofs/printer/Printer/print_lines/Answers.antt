@@ -10,7 +10,7 @@ use Rattle.cedar_print.proofs.Clean.{all_written}
 use Rattle.cedar_print.proofs.printer.Printer.print_lines.Goals as goal
 
 pub returns-clause-ok : goal.returns-clause-ok
-returns-clause-ok c =
+returns-clause-ok g c =
     let w = c.args.width in
     let ms = c.args.marks.now in
     let out = string_bytes c.loop-mark.out in

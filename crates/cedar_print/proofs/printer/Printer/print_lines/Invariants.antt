@@ -1,4 +1,4 @@
-use Rattle.std.proofs.Common.{◌≡◌, ◌≤◌, ◌++◌, false, drop, length, take, string_bytes}
+use Rattle.std.proofs.Common.{◌≡◌, ◌+◌, ◌≤◌, ◌++◌, false, drop, length, take, string_bytes}
 use Rattle.std.specs.List.{flat_map}
 use Rattle.cedar_print.specs.Marks.{marks_of}
 use Rattle.cedar_print.specs.Clean.{units_of, without_blank_lines}
@@ -9,11 +9,12 @@ use Rattle.cedar_print.proofs.printer.Printer.print_lines.Given as goal
 -- what was written, and what is written of the marks to come after what is held back, is what is
 -- written of all marks
 abbrev pub invariant-loop-mark : goal.invariant-loop-mark
-invariant-loop-mark l = record {
+invariant-loop-mark g l = record {
   bytes : string_bytes l.out ++ clean_after l.held (flat_map units_of (printed l.width
       (marks_of (drop l.mark-index l.marks)) (state_of l.self.place))) ≡ string_bytes l.fn.out
       ++ without_blank_lines false (flat_map units_of (printed l.width (marks_of l.marks)
       (state_of l.initial.self.place)));
   room : spaces_held l.held ≤ l.mark-index;
+  steps : l.steps ≡ l.fn.steps + length l.marks + l.mark-index;
   kept : take (length (string_bytes l.fn.out)) (string_bytes l.out) ≡ string_bytes l.fn.out;
 }
