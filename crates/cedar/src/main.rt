@@ -1,7 +1,7 @@
 //! The program `cedar`: it formats a policy text, or checks whether it is formatted.
 #![tactic(auto)]
 
-use cedar_program_run::{run_words, tell_unread_words};
+use cedar_program::{run_words, tell_unread_words};
 use cedar_streams::Watched;
 use std::process::ExitCode;
 use std::{env, io};

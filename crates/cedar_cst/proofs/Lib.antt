@@ -1,3 +1,17 @@
+pub mod Ends
+pub mod Chains
+pub mod Listed
+pub mod Bracketed
+pub mod Relations
+pub mod Nesting
+pub mod Scopes
+pub mod Branches
+pub mod Primaries
+pub mod Unaries
+pub mod References
+pub mod Depths
+pub mod Members
+pub mod Starts
 pub mod Conds
 pub mod LoneOrs
 pub mod Moved

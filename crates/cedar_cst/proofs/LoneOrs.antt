@@ -9,11 +9,11 @@ use Rattle.cedar_tree.specs.declared.tree.Add as Add
 use Rattle.cedar_tree.specs.declared.tree.Relation as Relation
 use Rattle.cedar_tree.specs.declared.tree.And as And
 use Rattle.cedar_tree.specs.declared.tree.Or as Or
-use Rattle.cedar_parser_steps.specs.ReadingParts.{IsLoneOrOf}
-use Rattle.cedar_parser_steps.specs.declared.reading.Refusal.{Refusal}
-use Rattle.cedar_parser_steps.specs.declared.reading.Refusal.TheVariants.{OutOfMemory}
-use Rattle.cedar_parser_expressions.specs.ReadingItems.{Boxed}
-use Rattle.cedar_parser_expressions.specs.ReadingExprs.{IsLoneRelationOf, IsAndOf, IsOrOf}
+use Rattle.cedar_reading.specs.ReadingParts.{IsLoneOrOf}
+use Rattle.cedar_reading.specs.declared.reading.Refusal.{Refusal}
+use Rattle.cedar_reading.specs.declared.reading.Refusal.TheVariants.{OutOfMemory}
+use Rattle.cedar_cst.specs.ReadingItems.{Boxed}
+use Rattle.cedar_cst.specs.ReadingExprs.{IsLoneRelationOf, IsAndOf, IsOrOf}
 
 -- no operators between no operands
 none_more : (o : Boxed Add.Add) (r : Boxed Relation.Relation) (a : Boxed And.And) (n : Boxed Or.Or)

@@ -21,12 +21,12 @@ use Rattle.cedar_grammar.proofs.Trees.Relabelling.{each_map, map_map}
 use Rattle.cedar_tree.specs.declared.tree.Policies.{Policies}
 use Rattle.cedar_tree.specs.Erased.{erase, variant, policy_trees}
 use Rattle.cedar_tree.specs.NodeTrees.{spanned}
-use Rattle.cedar_parser_steps.specs.declared.lexeme.Lexeme.{Lexeme}
-use Rattle.cedar_parser_steps.specs.declared.reading.Refusal.{Refusal}
-use Rattle.cedar_parser_steps.specs.declared.reading.Refusal.TheVariants.{Grammar, TooDeep, OutOfMemory}
-use Rattle.cedar_parser_steps.specs.Lexemes.{AreLexemes}
-use Rattle.cedar_parser_steps.specs.Reading.{kind, AreRight, start_or, place_of}
-use Rattle.cedar_parser_steps.proofs.Parsing.{placed_tree}
+use Rattle.cedar_reading.specs.declared.lexeme.Lexeme.{Lexeme}
+use Rattle.cedar_reading.specs.declared.reading.Refusal.{Refusal}
+use Rattle.cedar_reading.specs.declared.reading.Refusal.TheVariants.{Grammar, TooDeep, OutOfMemory}
+use Rattle.cedar_reading.specs.Lexemes.{AreLexemes}
+use Rattle.cedar_reading.specs.Reading.{kind, AreRight, start_or, place_of}
+use Rattle.cedar_reading.proofs.Parsing.{placed_tree}
 use Rattle.cedar_cst.specs.Inside.Parts.{moved_span, moved_lexeme, place_before, placed_from, HasPoliciesFrom}
 use Rattle.cedar_cst.specs.Inside.ReadingSet.{GivesSet}
 use Rattle.cedar_cst.proofs.Whole.{are_right, whole_grammar, whole_deep}

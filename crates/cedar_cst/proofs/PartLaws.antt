@@ -34,12 +34,12 @@ use Rattle.cedar_tree.specs.declared.tree.Policy as Tree
 use Rattle.cedar_tree.specs.Erased.{Erased, variant, policy_parts, policy_trees}
 use Rattle.cedar_tree.specs.NodeTrees.{spanned}
 use Rattle.cedar_tree.proofs.NodeLaws.{placed_texts}
-use Rattle.cedar_parser_steps.proofs.Parsing.{spans_length}
-use Rattle.cedar_pieces.specs.Pieces.{IsPiece, is_semicolon}
-use Rattle.cedar_pieces.proofs.Prefixes.{units_of}
-use Rattle.cedar_pieces.proofs.Lists.{piece_splits, piece_units}
-use Rattle.cedar_pieces.proofs.Refusals.{no_tokens, piece_tokens, no_kind}
-use Rattle.cedar_pieces.proofs.Sequences.{list_parts, no_policies, one_policy}
+use Rattle.cedar_reading.proofs.Parsing.{spans_length}
+use Rattle.cedar_reading.specs.Pieces.{IsPiece, is_semicolon}
+use Rattle.cedar_reading.proofs.Prefixes.{units_of}
+use Rattle.cedar_reading.proofs.Lists.{piece_splits, piece_units}
+use Rattle.cedar_reading.proofs.PieceRefusals.{no_tokens, piece_tokens, no_kind}
+use Rattle.cedar_reading.proofs.Sequences.{list_parts, no_policies, one_policy}
 use Rattle.cedar_cst.specs.Inside.Parts.{placed_from, HasPoliciesFrom}
 use Rattle.cedar_cst.specs.PolicyReaders.{EndsPiece, HasPolicies, AnsweredComeFirst}
 

@@ -14,12 +14,12 @@ use Rattle.cedar_grammar.specs.Texts.{greatest_depth, only_tokens, Accepted}
 use Rattle.cedar_tokens.specs.TokenKinds.{kind_of}
 use Rattle.cedar_grammar.proofs.Texts.Accepted.{is_accepted, kinds_of}
 use Rattle.cedar_laws.proofs.Spaces.{units_utf8, concat_utf8}
-use Rattle.cedar_pieces.specs.Pieces.{IsPiece}
-use Rattle.cedar_pieces.proofs.Accepted.{accepted_empty}
-use Rattle.cedar_pieces.proofs.Lists.{piece_units, piece_splits}
-use Rattle.cedar_pieces.proofs.Prefixes.{units_of, piece_inside}
-use Rattle.cedar_pieces.proofs.Refusals.{fit_parts, piece_tokens}
-use Rattle.cedar_pieces.proofs.Sequences.{list_parts}
+use Rattle.cedar_reading.specs.Pieces.{IsPiece}
+use Rattle.cedar_reading.proofs.Accepted.{accepted_empty}
+use Rattle.cedar_reading.proofs.Lists.{piece_units, piece_splits}
+use Rattle.cedar_reading.proofs.Prefixes.{units_of, piece_inside}
+use Rattle.cedar_reading.proofs.PieceRefusals.{fit_parts, piece_tokens}
+use Rattle.cedar_reading.proofs.Sequences.{list_parts}
 use Rattle.cedar_cst.specs.PolicyReaders.{EndsPiece}
 
 -- a piece of an accepted text is accepted, and so is what follows it

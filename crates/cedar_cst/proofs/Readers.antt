@@ -17,13 +17,13 @@ use Rattle.cedar_tree.specs.declared.error.FormatError.TheVariants.{UnknownChara
 use Rattle.cedar_tree.specs.declared.tree.Node.{Node}
 use Rattle.cedar_tree.specs.declared.tree.Policy.{Policy}
 use Rattle.cedar_tree.specs.Refusals.{OutOfMemoryOr, Refuses, RefusesTokens}
-use Rattle.cedar_parser_steps.specs.Tokens.{HasTokens}
-use Rattle.cedar_pieces.specs.Pieces.{IsPiece, HasNoPiece, IsFirstPiece}
-use Rattle.cedar_pieces.proofs.Accepted.{accepted_join, accepted_empty}
-use Rattle.cedar_pieces.proofs.Scans.{piece_more}
-use Rattle.cedar_pieces.proofs.Prefixes.{through, piece_positive, piece_inside, piece_before, piece_within, units_of, through_after}
-use Rattle.cedar_pieces.proofs.Lists.{piece_splits, units_follow}
-use Rattle.cedar_pieces.proofs.Refusals.{parts_fit, rest_is_empty, piece_refused, rest_refused}
+use Rattle.cedar_reading.specs.Tokens.{HasTokens}
+use Rattle.cedar_reading.specs.Pieces.{IsPiece, HasNoPiece, IsFirstPiece}
+use Rattle.cedar_reading.proofs.Accepted.{accepted_join, accepted_empty}
+use Rattle.cedar_reading.proofs.Scans.{piece_more}
+use Rattle.cedar_reading.proofs.Prefixes.{through, piece_positive, piece_inside, piece_before, piece_within, units_of, through_after}
+use Rattle.cedar_reading.proofs.Lists.{piece_splits, units_follow}
+use Rattle.cedar_reading.proofs.PieceRefusals.{parts_fit, rest_is_empty, piece_refused, rest_refused}
 use Rattle.cedar_cst.specs.Inside.Parts.{HasPoliciesFrom, RefusesFrom, IsNext, IsPolicyFrom}
 use Rattle.cedar_cst.specs.PolicyReaders.{Position, EndsPiece, HasPolicies, HasRead, HasEnded, GoesOn, IsAfterPolicies}
 use Rattle.cedar_cst.proofs.PartLaws.{parts_join, from_start, to_start, none_from, no_units, part_accepted, has_one, has_some}

@@ -14,12 +14,12 @@ use Rattle.cedar_grammar.specs.Reader.Reading.{Answer, done, stuck}
 use Rattle.cedar_grammar.specs.Reader.Lines.{set_to}
 use Rattle.cedar_grammar.proofs.Readers.Depths.{Beyond}
 use Rattle.cedar_grammar.proofs.WholeLaws.{set_sound, set_local, set_deeper}
-use Rattle.cedar_parser_steps.specs.declared.lexeme.Lexeme.{Lexeme}
-use Rattle.cedar_parser_steps.specs.declared.reading.Refusal.TheVariants.{Grammar, TooDeep}
-use Rattle.cedar_parser_steps.specs.Lexemes.{AreLexemes}
-use Rattle.cedar_parser_steps.specs.Reading.{kind, IsRight, AreRight, start_or, place_of}
+use Rattle.cedar_reading.specs.declared.lexeme.Lexeme.{Lexeme}
+use Rattle.cedar_reading.specs.declared.reading.Refusal.TheVariants.{Grammar, TooDeep}
+use Rattle.cedar_reading.specs.Lexemes.{AreLexemes}
+use Rattle.cedar_reading.specs.Reading.{kind, IsRight, AreRight, start_or, place_of}
 use Rattle.cedar_cst.specs.Inside.ReadingSet.{GivesSet}
-use Rattle.cedar_parser_steps.proofs.Parsing.{parsed}
+use Rattle.cedar_reading.proofs.Parsing.{parsed}
 use Rattle.cedar_tokens.proofs.Lists.{All-parts}
 
 -- The lexemes of a text are correct.

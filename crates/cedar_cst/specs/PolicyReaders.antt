@@ -18,7 +18,7 @@ use Rattle.cedar_tree.specs.declared.tree.Policy.{Policy}
 use Rattle.cedar_tree.specs.declared.tree.Policies.{Policies}
 use Rattle.cedar_tree.specs.Erased.{variant, policy_trees}
 use Rattle.cedar_tree.specs.NodeTrees.{spanned, IsTreeOf}
-use Rattle.cedar_pieces.specs.Pieces.{IsPiece, IsFirstPiece, HasNoPiece}
+use Rattle.cedar_reading.specs.Pieces.{IsPiece, IsFirstPiece, HasNoPiece}
 
 -- a place in a text: so many of its bytes are read
 pub record Position : Type 0 where

@@ -2,4 +2,6 @@
 #![tactic(auto)]
 
 pub mod cst;
+pub mod expressions;
 pub mod laws;
+pub mod nodes;

@@ -15,20 +15,20 @@ use Rattle.cedar_grammar.proofs.Trees.Laws.{typed_leaves, part_leaves}
 use Rattle.cedar_layout.specs.Layout.{Doc}
 use Rattle.cedar_layout.specs.Lookups.{AreInOrder, Shown, emptied, shown}
 use Rattle.cedar_layout.specs.Value.{doc_of}
-use Rattle.cedar_sheet.specs.Marks.{Sign, written}
+use Rattle.cedar_documents.specs.Marks.{Sign, written}
 use Rattle.cedar_layout.specs.declared.layout.Document.{Document}
 use Rattle.cedar_tree.specs.Erased.{Erased, literal_text, variant_label}
 use Rattle.cedar_tree.specs.declared.tree.Literal.{Literal}
 use Rattle.cedar_tree.specs.NodeTrees.{is_node, span_of}
-use Rattle.cedar_document_rows.specs.Found.{Finds, has_its_tokens, places, starts}
-use Rattle.cedar_document_rows.specs.Kept.{KeepsTokens}
-use Rattle.cedar_document_rows.specs.NodeDocuments.{IsAt, IsNodeOf, Writes, as_leaf, document, kind_of_shown, nodes_of, text_of}
+use Rattle.cedar_documents.specs.Found.{Finds, has_its_tokens, places, starts}
+use Rattle.cedar_documents.specs.Kept.{KeepsTokens}
+use Rattle.cedar_documents.specs.NodeDocuments.{IsAt, IsNodeOf, Writes, as_leaf, document, kind_of_shown, nodes_of, text_of}
 use Rattle.cedar_documents.specs.PartDocuments.{IsPartOf, part_document}
 use Rattle.cedar_documents.specs.ShownNodes.{IsNodeWith, IsPartWith, IsRowWith, IsLeafWith, ShowsPart}
 use Rattle.cedar_laws.specs.Table as table
-use Rattle.cedar_document_rows.specs.declared.written.NoDocument.{NoDocument}
-use Rattle.cedar_document_rows.specs.declared.written.NoDocument.TheVariants.{NoToken, OutOfMemory}
-use Rattle.cedar_document_rows.proofs.Keeping.{order_stays, refilled}
+use Rattle.cedar_documents.specs.declared.written.NoDocument.{NoDocument}
+use Rattle.cedar_documents.specs.declared.written.NoDocument.TheVariants.{NoToken, OutOfMemory}
+use Rattle.cedar_documents.proofs.Keeping.{order_stays, refilled}
 use Rattle.cedar_documents.proofs.OwnTokens.{AreSigned, Within, first_starts, own, signed_part, signed_tree}
 use Rattle.cedar_layout.proofs.HandedOut.{spans_shown}
 

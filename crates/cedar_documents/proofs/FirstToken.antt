@@ -11,10 +11,10 @@ use Rattle.cedar_grammar.proofs.Rules.Maps.{relabel}
 use Rattle.cedar_layout.specs.Lookups.{Shown, emptied, unled}
 use Rattle.cedar_tree.specs.Erased.{Erased}
 use Rattle.cedar_tree.specs.NodeTrees.{is_node, span_of}
-use Rattle.cedar_document_rows.specs.NodeDocuments.{IsNodeOf, as_leaf, kind_of_shown, nodes_of, text_of}
+use Rattle.cedar_documents.specs.NodeDocuments.{IsNodeOf, as_leaf, kind_of_shown, nodes_of, text_of}
 use Rattle.cedar_laws.specs.Table.{bare_token}
 use Rattle.cedar_laws.proofs.Relabelled.{parts_map}
-use Rattle.cedar_document_rows.proofs.Opened.{end_without_comments}
+use Rattle.cedar_documents.proofs.Opened.{end_without_comments}
 
 -- the table says the same about it
 pub unled_leaves : {k : NodeKind} (t : Tree Shown k)

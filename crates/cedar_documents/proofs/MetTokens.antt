@@ -18,7 +18,7 @@ use Rattle.cedar_tree.specs.declared.tree.Node.{Node}
 use Rattle.cedar_tree.specs.declared.tree.Policy.{Policy}
 use Rattle.cedar_laws.specs.Table as table
 use Rattle.cedar_documents.specs.ShownNodes.{IsNodeWith, IsPartWith, IsRowWith}
-use Rattle.cedar_document_rows.specs.NodeDocuments.{as_leaf, document, kind_of_shown, nodes_of, text_of}
+use Rattle.cedar_documents.specs.NodeDocuments.{as_leaf, document, kind_of_shown, nodes_of, text_of}
 use Rattle.cedar_documents.specs.PartDocuments.{part_document}
 use Rattle.cedar_documents.specs.OwnTokens.{Holds, IsTokenWith, MeetsItsTokens, NodesMeetTheirTokens, PoliciesMeetTheirTokens, StandTogether}
 use Rattle.cedar_documents.proofs.StreamTrees.{nodes_over}

@@ -12,11 +12,11 @@ use Rattle.cedar_grammar.specs.TypedTrees.{Tree, Clause, parts, part_parts, name
 use Rattle.cedar_grammar.specs.TypedTrees as kind
 use Rattle.cedar_layout.specs.Lookups.{Shown, stands_in}
 use Rattle.cedar_tree.specs.NodeTrees.{end_of, is_node, span_of}
-use Rattle.cedar_document_rows.specs.Found.{count_between, has_its_tokens, has_own, signs_before, start_of_node, starts}
-use Rattle.cedar_document_rows.proofs.Found.{and_true}
-use Rattle.cedar_document_expressions.proofs.SignTokens.{those_between}
+use Rattle.cedar_documents.specs.Found.{count_between, has_its_tokens, has_own, signs_before, start_of_node, starts}
+use Rattle.cedar_documents.proofs.Found.{and_true}
+use Rattle.cedar_documents.proofs.SignTokens.{those_between}
 use Rattle.cedar_documents.proofs.TypedNodes.{AreTyped, IsTyped, typed_part, typed_tree}
-use Rattle.cedar_document_rows.specs.NodeDocuments.{kind_of_shown, nodes_of, text_of}
+use Rattle.cedar_documents.specs.NodeDocuments.{kind_of_shown, nodes_of, text_of}
 
 -- the tokens ts are consecutive among others, which are at these places
 pub record Within (P : List Span) (ts : List Shown) : Type 0 where

@@ -5,7 +5,7 @@ use Rattle.cedar_grammar.specs.Trees.{Label, Forest, leaf, branch}
 use Rattle.cedar_grammar.specs.Trees as forest
 use Rattle.cedar_layout.specs.Lookups.{Shown, emptied}
 use Rattle.cedar_tree.specs.Erased.{Erased}
-use Rattle.cedar_document_rows.specs.NodeDocuments.{end_of_tokens, nodes_of}
+use Rattle.cedar_documents.specs.NodeDocuments.{end_of_tokens, nodes_of}
 
 -- after one token, with or without its comments
 pub after_token : (p : ℕ) (x : Shown) → x.span.end ≡ p → (b : List Shown)

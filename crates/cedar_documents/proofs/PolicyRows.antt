@@ -12,10 +12,10 @@ use Rattle.cedar_tree.specs.declared.tree.Cond.{Cond}
 use Rattle.cedar_tree.specs.declared.tree.Node.{Node}
 use Rattle.cedar_laws.specs.Leaves.{part_map}
 use Rattle.cedar_laws.specs.Table.{between_conds}
-use Rattle.cedar_sheet.specs.Marks.{Sign, hard_mark, then_mark, written}
-use Rattle.cedar_sheet.proofs.Written.{written-dot}
-use Rattle.cedar_document_rows.specs.NodeDocuments.{IsAt, Writes, as_leaf, kind_of_shown}
-use Rattle.cedar_document_rows.proofs.Opened.{opened, part_at}
+use Rattle.cedar_documents.specs.Marks.{Sign, hard_mark, then_mark, written}
+use Rattle.cedar_documents.proofs.WrittenMarks.{written-dot}
+use Rattle.cedar_documents.specs.NodeDocuments.{IsAt, Writes, as_leaf, kind_of_shown}
+use Rattle.cedar_documents.proofs.Opened.{opened, part_at}
 use Rattle.cedar_documents.specs.PartDocuments.{IsPartOf, part_document}
 
 -- the tokens after the comments of some more were taken

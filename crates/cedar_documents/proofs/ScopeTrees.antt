@@ -19,13 +19,13 @@ use Rattle.cedar_tree.specs.declared.tree.Name.{Name}
 use Rattle.cedar_tree.specs.declared.tree.Node.{Node}
 use Rattle.cedar_tree.specs.declared.tree.RelOp.{RelOp}
 use Rattle.cedar_tree.specs.declared.tree.VariableDef.{VariableDef}
-use Rattle.cedar_document_rows.specs.Found.{has_its_tokens}
+use Rattle.cedar_documents.specs.Found.{has_its_tokens}
 use Rattle.cedar_laws.specs.Leaves.{part_map}
-use Rattle.cedar_document_rows.specs.NodeDocuments.{IsAt, IsNodeOf, as_leaf, end_of_tokens, kind_of_shown, nodes_of, text_of}
+use Rattle.cedar_documents.specs.NodeDocuments.{IsAt, IsNodeOf, as_leaf, end_of_tokens, kind_of_shown, nodes_of, text_of}
 use Rattle.cedar_documents.specs.PartDocuments.{IsPartOf}
 use Rattle.cedar_laws.specs.Table.{between_conds, is_bare, lead, tok, trail}
 use Rattle.cedar_laws.specs.Table.{printed as leaf_document}
-use Rattle.cedar_document_rows.proofs.Opened.{ends_here, opened_leaf, opened_token, opened_tree}
+use Rattle.cedar_documents.proofs.Opened.{ends_here, opened_leaf, opened_token, opened_tree}
 
 abbrev pub Operator : Type 0
 Operator = RelOp × Node Expr.TheBlock.the_data-4

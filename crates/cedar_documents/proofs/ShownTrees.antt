@@ -17,7 +17,7 @@ use Rattle.cedar_grammar.proofs.WholeLaws.{set_complete}
 use Rattle.cedar_grammar.proofs.Trees.Relabelling.{relabel_yield, each_map}
 use Rattle.cedar_layout.specs.Lookups.{Shown}
 use Rattle.cedar_tree.specs.NodeTrees.{is_node, spanned, span_of, end_of}
-use Rattle.cedar_document_rows.specs.NodeDocuments.{text_of, kind_of_shown, nodes_of}
+use Rattle.cedar_documents.specs.NodeDocuments.{text_of, kind_of_shown, nodes_of}
 use Rattle.cedar_grammar.proofs.Typed.PlainLists.{policies_of}
 
 -- a token's text and its place

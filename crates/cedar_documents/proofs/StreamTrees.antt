@@ -37,7 +37,7 @@ use Rattle.cedar_tree.specs.NodeTrees.{spanned, IsTreeOf}
 use Rattle.cedar_tree.specs.declared.tree.Policies.{Policies}
 use Rattle.cedar_laws.specs.GrammarTrees.{IsTree}
 use Rattle.cedar_laws.specs.Leaves.{part_map}
-use Rattle.cedar_document_rows.specs.NodeDocuments.{kind_of_shown, as_leaf, nodes_of}
+use Rattle.cedar_documents.specs.NodeDocuments.{kind_of_shown, as_leaf, nodes_of}
 use Rattle.cedar_laws.specs.Output.{tokens_of}
 use Rattle.cedar_laws.proofs.ByValue.{part_yield_map}
 use Rattle.cedar_laws.proofs.FittingTrees.{AllTokens}

@@ -12,8 +12,8 @@ use Rattle.cedar_tree.specs.declared.tree.Annotation.{Annotation}
 use Rattle.cedar_tree.specs.declared.tree.Cond.{Cond}
 use Rattle.cedar_tree.specs.declared.tree.Node.{Node}
 use Rattle.cedar_tree.specs.declared.tree.Policy.{Policy}
-use Rattle.cedar_document_rows.specs.Found.{has_its_tokens, has_own, starts}
-use Rattle.cedar_document_rows.specs.NodeDocuments.{IsAt, end_of_tokens, kind_of_shown, nodes_of}
+use Rattle.cedar_documents.specs.Found.{has_its_tokens, has_own, starts}
+use Rattle.cedar_documents.specs.NodeDocuments.{IsAt, end_of_tokens, kind_of_shown, nodes_of}
 use Rattle.cedar_documents.proofs.PolicyParts.{after_token}
 
 -- trees with different labels differ

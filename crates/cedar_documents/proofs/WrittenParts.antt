@@ -4,9 +4,9 @@ use Rattle.std.proofs.lemmas.List.{append_assoc}
 use Rattle.cedar_tokens.specs.declared.token.WrappedToken.{WrappedToken}
 use Rattle.cedar_layout.specs.Layout.{Doc, ◌·◌, hard, line, text}
 use Rattle.cedar_layout.specs.Lookups.{Shown, emptied, shown}
-use Rattle.cedar_sheet.specs.Marks.{Sign, hard_mark, line_mark, text_mark, then_mark, written}
-use Rattle.cedar_document_rows.specs.NodeDocuments.{Anywhere, WritesWhere}
-use Rattle.cedar_document_rows.proofs.InTurn.{first, last, on_ok}
+use Rattle.cedar_documents.specs.Marks.{Sign, hard_mark, line_mark, text_mark, then_mark, written}
+use Rattle.cedar_documents.specs.NodeDocuments.{Anywhere, WritesWhere}
+use Rattle.cedar_documents.proofs.InTurn.{first, last, on_ok}
 
 -- the same for an equal document
 pub written_so : {A : Type 0} {m : List Sign} {a b : A} (s : List Sign) (k : A → Doc)

@@ -1,3 +1,10 @@
+pub mod Inside
+pub mod Kept
+pub mod Found
+pub mod NodeDocuments
+pub mod Marks
+pub mod Signs
+pub mod Next
 pub mod PartDocuments
 pub mod ShownNodes
 pub mod OwnTokens

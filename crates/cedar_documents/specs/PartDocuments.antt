@@ -7,7 +7,7 @@ use Rattle.cedar_grammar.specs.TypedTrees.{Tree, PartKind, Clause, parts, part_p
 use Rattle.cedar_grammar.specs.Trees.{yield}
 use Rattle.cedar_layout.specs.Layout.{Doc, ◌·◌, group, line, nest}
 use Rattle.cedar_layout.specs.Lookups.{Shown}
-use Rattle.cedar_sheet.specs.Marks.{Sign}
+use Rattle.cedar_documents.specs.Marks.{Sign}
 use Rattle.cedar_tree.specs.Erased.{Erased, variable_parts}
 use Rattle.cedar_tree.specs.declared.tree.Name.{Name}
 use Rattle.cedar_tree.specs.declared.tree.Node.{Node}
@@ -16,7 +16,7 @@ use Rattle.cedar_tree.specs.declared.tree.VariableDef.{VariableDef}
 use Rattle.cedar_laws.specs.Leaves.{part_map}
 use Rattle.cedar_laws.specs.Table.{literal_kind, part_table, is_bare}
 use Rattle.cedar_laws.specs.Table as table
-use Rattle.cedar_document_rows.specs.NodeDocuments.{text_of, kind_of_shown, as_leaf, nodes_of, document, IsAt, Writes}
+use Rattle.cedar_documents.specs.NodeDocuments.{text_of, kind_of_shown, as_leaf, nodes_of, document, IsAt, Writes}
 
 -- a part of a policy outside expressions, with these parts, is the tree of these tokens
 abbrev pub IsPartOf : {k : PartKind} → Erased → Clause Shown k → Type 0

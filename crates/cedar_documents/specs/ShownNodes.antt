@@ -11,7 +11,7 @@ use Rattle.cedar_layout.specs.declared.layout.Document.{Document}
 use Rattle.cedar_tree.specs.Erased.{Erased}
 use Rattle.cedar_laws.specs.Table.{printed as leaf_of}
 use Rattle.std.specs.declared.alloc.AllocError.{AllocError}
-use Rattle.cedar_document_rows.specs.NodeDocuments.{text_of, as_leaf, IsNodeOf, document, IsAt}
+use Rattle.cedar_documents.specs.NodeDocuments.{text_of, as_leaf, IsNodeOf, document, IsAt}
 use Rattle.cedar_documents.specs.PartDocuments.{IsPartOf, part_document}
 
 -- a node with this span and these parts is the tree of the tokens ts, and doc is the table's document for that tree

@@ -1,5 +1,5 @@
 //! Conditions: the word, and an expression between braces. The row of each function is above it, as in `policies`.
-#![tactic(auto, using(cedar_document_rows::proofs::Keeping::keeping, cedar_sheet::proofs::Written::written_laws))]
+#![tactic(auto, using(crate::proofs::Keeping::keeping, crate::proofs::WrittenMarks::written_laws))]
 
 ghost use Rattle.std.specs.Prelude.{◌≡◌, ◌++◌, ◌∷◌, [], codes, OnOk, IsSomeAnd};
 ghost use Rattle.cedar_tokens.specs.Listing.{token_value};
@@ -10,21 +10,21 @@ ghost use Rattle.cedar_tree.specs.Erased.{cond_trees, expr_parts, cond_parts};
 ghost use Rattle.cedar_layout.specs.Comments.{lead_of, trail_of};
 ghost use Rattle.cedar_layout.specs.Layout.{◌·◌, line, nest, text};
 ghost use Rattle.cedar_layout.specs.Lookups.{AreInOrder, Shown, comment_parts, Parts};
-ghost use Rattle.cedar_sheet.specs.Marks.{group_mark, nest_mark, then_mark, written};
-ghost use Rattle.cedar_sheet.specs.Next.{next_document};
-ghost use Rattle.cedar_document_rows.specs.Found.{Finds, has_its_tokens, places};
-ghost use Rattle.cedar_document_rows.specs.Kept.{KeepsTokens};
+ghost use Rattle.cedar_documents.specs.Marks.{group_mark, nest_mark, then_mark, written};
+ghost use Rattle.cedar_documents.specs.Next.{next_document};
+ghost use Rattle.cedar_documents.specs.Found.{Finds, has_its_tokens, places};
+ghost use Rattle.cedar_documents.specs.Kept.{KeepsTokens};
 ghost use Rattle.cedar_laws.specs.Leaves.{part_map};
-ghost use Rattle.cedar_document_rows.specs.NodeDocuments.{IsAt, IsNodeOf, Writes, WritesAfter, as_leaf, text_of};
+ghost use Rattle.cedar_documents.specs.NodeDocuments.{IsAt, IsNodeOf, Writes, WritesAfter, as_leaf, text_of};
 ghost use Rattle.cedar_documents.specs.PartDocuments.{IsPartOf, body_document, braced_document, part_document};
 ghost use Rattle.cedar_laws.specs.Table as table;
 
-use cedar_document_expressions::expressions::write_expr;
-use cedar_document_rows::tokens::{comment_at_start, token_at_end};
-use cedar_document_rows::written::Written;
+use crate::comments::{Next, leading_lines, trailing_text};
+use crate::expressions::write_expr;
+use crate::sheet::Sheet;
+use crate::tokens::{comment_at_start, token_at_end};
+use crate::written::Written;
 use cedar_layout::utils::{get_comment_after_end, get_leading_comment_at_start};
-use cedar_sheet::comments::{Next, leading_lines, trailing_text};
-use cedar_sheet::sheet::Sheet;
 use cedar_tokens::token::{Comment, Span, WrappedToken};
 use cedar_tree::tree::{Cond, Expr, Node};
 use std::alloc::AllocError;

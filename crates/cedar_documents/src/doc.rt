@@ -1,36 +1,34 @@
 //! The document of each node: its tokens, each between its comments, with the places where a line may break.
-#![tactic(auto, using(cedar_document_rows::proofs::Keeping::all_kept))]
+#![tactic(auto, using(crate::proofs::Keeping::all_kept))]
 
 ghost use Rattle.std.specs.Prelude.{◌≡◌, ℤ, Bool, List, [], Some, Ok, codes, true, IsOk, IsSomeAnd, IfOk, is_some};
 ghost use Rattle.cedar_grammar.specs.Trees.{Label, branch, leaf, none};
 ghost use Rattle.cedar_grammar.specs.TypedTrees as kind;
 ghost use Rattle.cedar_layout.specs.Layout as layout;
 ghost use Rattle.cedar_layout.specs.Value.{doc_of};
-ghost use Rattle.cedar_sheet.specs.Marks.{written};
+ghost use Rattle.cedar_documents.specs.Marks.{written};
 ghost use Rattle.cedar_tree.specs.Erased as erased;
 ghost use Rattle.cedar_tree.specs.NodeLists as lists;
 ghost use Rattle.cedar_layout.specs.Lookups.{AreInOrder, Shown};
-ghost use Rattle.cedar_document_rows.specs.Found.{Finds, has_its_tokens, places};
-ghost use Rattle.cedar_document_rows.specs.Kept.{KeepsTokens};
+ghost use Rattle.cedar_documents.specs.Found.{Finds, has_its_tokens, places};
+ghost use Rattle.cedar_documents.specs.Kept.{KeepsTokens};
 ghost use Rattle.cedar_documents.specs.ShownNodes.{IsLeafWith, IsNodeWith, IsPartWith, IsRowWith, ShowsPart};
 ghost use Rattle.cedar_tree.specs.Erased.{annotation_parts, cond_parts, variable_parts};
 
 use crate::conditions::write_cond;
 use crate::config::Context;
-pub use crate::laws::{every_gap_holds, raw_layouts_read_back};
-use crate::policies::{write_annotation, write_policy};
-use crate::scopes::write_variable;
-use cedar_document_expressions::expressions::{
+use crate::document::to_document;
+use crate::expressions::{
     write_access, write_add, write_and, write_expr, write_init, write_member, write_mult, write_or,
     write_primary, write_relation, write_unary,
 };
-use cedar_document_rows::names::{
-    add_op_text, literal_text, slot_text, write_leaf, write_name, write_ref,
-};
-use cedar_document_rows::written::{NoDocument, Written};
+pub use crate::laws::{every_gap_holds, raw_layouts_read_back};
+use crate::names::{add_op_text, literal_text, slot_text, write_leaf, write_name, write_ref};
+use crate::policies::{write_annotation, write_policy};
+use crate::scopes::write_variable;
+use crate::sheet::Sheet;
+use crate::written::{NoDocument, Written};
 use cedar_layout::layout::Document;
-use cedar_sheet::document::to_document;
-use cedar_sheet::sheet::Sheet;
 use cedar_tree::tree::{
     Add, AddOp, And, Annotation, Cond, Expr, Ident, Literal, MemAccess, Member, Mult, MultOp, Name,
     Node, Or, Policy, Primary, RecInit, Ref, Relation, Slot, Str, Unary, VariableDef,

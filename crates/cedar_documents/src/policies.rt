@@ -1,7 +1,7 @@
 //! Policies and annotations, in the order of the table. The row of each function is above it: a dot puts documents one after
 //! the other, and `i` is the indentation of a level. For a token `t`, `lead(t)` is its leading lines, `trail(t, n)` its
 //! trailing text, or `n` if it has none, and `C(t, n) = lead(t) . t . trail(t, n)`.
-#![tactic(auto, using(cedar_document_rows::proofs::Keeping::keeping))]
+#![tactic(auto, using(crate::proofs::Keeping::keeping))]
 
 ghost use Rattle.std.specs.Prelude.{◌≡◌, ◌∷◌, [], Some, codes, ℤ};
 ghost use Rattle.cedar_tokens.specs.Listing.{token_value};
@@ -11,19 +11,19 @@ ghost use Rattle.cedar_grammar.specs.TypedTrees as kind;
 ghost use Rattle.cedar_tree.specs.Erased.{annotation_trees, policy_parts, annotation_parts};
 ghost use Rattle.cedar_layout.specs.Layout.{nil, ◌·◌, group, line};
 ghost use Rattle.cedar_layout.specs.Lookups.{AreInOrder, Shown};
-ghost use Rattle.cedar_document_rows.specs.Found.{Finds, has_its_tokens, places, starts};
-ghost use Rattle.cedar_document_rows.specs.Kept.{KeepsTokens};
-ghost use Rattle.cedar_document_rows.specs.NodeDocuments.{IsAt, Writes, as_leaf, text_of};
+ghost use Rattle.cedar_documents.specs.Found.{Finds, has_its_tokens, places, starts};
+ghost use Rattle.cedar_documents.specs.Kept.{KeepsTokens};
+ghost use Rattle.cedar_documents.specs.NodeDocuments.{IsAt, Writes, as_leaf, text_of};
 ghost use Rattle.cedar_documents.specs.PartDocuments.{IsPartOf, part_document};
 ghost use Rattle.cedar_laws.specs.Table as table;
 
+use crate::comments::{Next, leading_lines, trailing_text};
 use crate::conditions::{break_before, write_conds};
+use crate::names::write_leaf;
 use crate::scopes::write_scope;
-use cedar_document_rows::names::write_leaf;
-use cedar_document_rows::tokens::{comment_at_start, token_after, token_at_end, token_at_start};
-use cedar_document_rows::written::Written;
-use cedar_sheet::comments::{Next, leading_lines, trailing_text};
-use cedar_sheet::sheet::Sheet;
+use crate::sheet::Sheet;
+use crate::tokens::{comment_at_start, token_after, token_at_end, token_at_start};
+use crate::written::Written;
 use cedar_tokens::token::{Span, WrappedToken};
 use cedar_tree::tree::{Annotation, Ident, Node, Policy};
 

@@ -1,6 +1,6 @@
 //! A scope: its variables, their types, and their operands. The row of each function is above it, as in
 //! `policies`.
-#![tactic(auto, using(cedar_document_rows::proofs::Keeping::keeping))]
+#![tactic(auto, using(crate::proofs::Keeping::keeping))]
 
 ghost use Rattle.std.specs.Prelude.{◌≡◌, ◌∷◌, [], None, Some, codes, not};
 ghost use Rattle.cedar_tokens.specs.Listing.{token_value};
@@ -12,20 +12,20 @@ ghost use Rattle.cedar_tree.specs.Erased.{path_parts, scope_variables, type_part
 ghost use Rattle.cedar_layout.specs.Comments.{trail_of};
 ghost use Rattle.cedar_layout.specs.Layout.{nil, text, ◌·◌};
 ghost use Rattle.cedar_layout.specs.Lookups.{AreInOrder, Shown};
-ghost use Rattle.cedar_sheet.specs.Next.{next_document};
-ghost use Rattle.cedar_document_rows.specs.Found.{Finds, has_its_tokens, places};
-ghost use Rattle.cedar_document_rows.specs.Kept.{KeepsTokens};
+ghost use Rattle.cedar_documents.specs.Next.{next_document};
+ghost use Rattle.cedar_documents.specs.Found.{Finds, has_its_tokens, places};
+ghost use Rattle.cedar_documents.specs.Kept.{KeepsTokens};
 ghost use Rattle.cedar_laws.specs.Leaves.{part_map};
-ghost use Rattle.cedar_document_rows.specs.NodeDocuments.{IsNodeOf, Writes, WritesAfter, as_leaf, document, text_of};
+ghost use Rattle.cedar_documents.specs.NodeDocuments.{IsNodeOf, Writes, WritesAfter, as_leaf, document, text_of};
 ghost use Rattle.cedar_documents.specs.PartDocuments.{IsPartOf, WritesScope, part_document, scope_document, span_before, variables_document};
 ghost use Rattle.cedar_laws.specs.Table as table;
 
-use cedar_document_expressions::expressions::write_add;
-use cedar_document_rows::names::{rel_op_text, write_name};
-use cedar_document_rows::tokens::{comment_at_start, token_after};
-use cedar_document_rows::written::Written;
-use cedar_sheet::comments::{Next, leading_lines, trailing_text};
-use cedar_sheet::sheet::Sheet;
+use crate::comments::{Next, leading_lines, trailing_text};
+use crate::expressions::write_add;
+use crate::names::{rel_op_text, write_name};
+use crate::sheet::Sheet;
+use crate::tokens::{comment_at_start, token_after};
+use crate::written::Written;
 use cedar_tokens::token::{Comment, Span, WrappedToken};
 use cedar_tree::tree::{Name, Node, Policy, VariableDef};
 

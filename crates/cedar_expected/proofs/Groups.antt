@@ -3,7 +3,7 @@ use Rattle.std.specs.Prelude.{◌≡◌, ◌<◌, ℕ, suc, List, [], ◌∷◌,
 use Rattle.std.proofs.Common.{get_or, refl, sym, ap, ◌∙◌, subst, append_assoc, drop-cons}
 use Rattle.std.proofs.lemmas.List.{take-append-drop}
 use Rattle.cedar_tokens.specs.declared.kind.Kind.{Kind}
-use Rattle.cedar_parser_steps.proofs.Steps.{kind_is, is_itself}
+use Rattle.cedar_reading.proofs.Steps.{kind_is, is_itself}
 use Rattle.cedar_expected.specs.declared.kinds.Name.{Name}
 use Rattle.cedar_expected.specs.declared.kinds.Name.TheVariants.{Token}
 use Rattle.cedar_expected.specs.Naming.{names, groups, AreIn, IsNameOf}

@@ -16,7 +16,7 @@ use Rattle.cedar_tokens.specs.declared.kind.Kind.TheVariants as K
 use Rattle.cedar_tokens.specs.Kinds.{is, code}
 use Rattle.cedar_grammar.proofs.KindSets.{every_kind}
 use Rattle.cedar_grammar.proofs.Booleans.{and_first as and_left, and_second as and_right}
-use Rattle.cedar_parser_steps.proofs.Steps.{kind_test, kind_is, is_itself}
+use Rattle.cedar_reading.proofs.Steps.{kind_test, kind_is, is_itself}
 use Rattle.cedar_expected.specs.Samples.{all_kinds}
 
 is_decides : (a b : Kind) → Decides (is a b) (a ≡ b)

@@ -19,11 +19,11 @@ use Rattle.cedar_tokens.specs.TokenKinds.{kind_of}
 use Rattle.cedar_grammar.proofs.Texts.Accepted.{are_tokens}
 use Rattle.cedar_grammar.proofs.Texts.Beginnings.{beginnings_agree}
 use Rattle.cedar_grammar.proofs.Texts.Grammars.{grammars_agree, texts_are_tokens}
-use Rattle.cedar_pieces.specs.Pieces.{IsPiece}
-use Rattle.cedar_pieces.proofs.Lists.{piece_splits, piece_units}
-use Rattle.cedar_pieces.proofs.Prefixes.{units_of}
-use Rattle.cedar_pieces.proofs.Refusals.{piece_tokens}
-use Rattle.cedar_pieces.proofs.Sequences.{list_parts, lists_join}
+use Rattle.cedar_reading.specs.Pieces.{IsPiece}
+use Rattle.cedar_reading.proofs.Lists.{piece_splits, piece_units}
+use Rattle.cedar_reading.proofs.Prefixes.{units_of}
+use Rattle.cedar_reading.proofs.PieceRefusals.{piece_tokens}
+use Rattle.cedar_reading.proofs.Sequences.{list_parts, lists_join}
 use Rattle.cedar_expected.specs.Expectations.{AreAllAfter, IsList}
 use Rattle.cedar_expected.proofs.Begun.{begins_front, list_begins, accepted_list}
 use Rattle.cedar_expected.proofs.Deciding.{begins_tokens}

@@ -21,7 +21,7 @@ use Rattle.cedar_tree.specs.declared.tree.Policy.{Policy}
 use Rattle.cedar_tree.specs.Laws.{AcceptedIsNotRefused, RefusalIsUnique}
 use Rattle.cedar_tree.specs.Refusals.{Refuses, RefusesTokens, OutOfMemoryOr}
 use Rattle.cedar_tree.proofs.NodeLaws.{placed_texts}
-use Rattle.cedar_parser_steps.specs.Tokens.{HasTokens}
+use Rattle.cedar_reading.specs.Tokens.{HasTokens}
 use Rattle.cedar_cst.specs.PolicyReaders.{Position, EndsPiece, HasPolicies, HasRead}
 use Rattle.cedar_cst.proofs.Readers.{ends_inside}
 use Rattle.cedar_expected.specs.declared.expected.Leaving.{Leaving}

@@ -1,7 +1,7 @@
 //! Which tokens can follow those of a text.
 ghost use Rattle.std.specs.Prelude.{◌↔◌, IsTrue, IfOk, MatchOption, map};
 ghost use Rattle.cedar_tokens.specs.TokenKinds.{kind_of};
-ghost use Rattle.cedar_parser_steps.specs.Tokens.{HasTokens};
+ghost use Rattle.cedar_reading.specs.Tokens.{HasTokens};
 ghost use Rattle.cedar_expected.specs.Inside.Beginnings.{IsPlaceOf, KindsFollow, HasTree, OfTokens};
 ghost use Rattle.cedar_expected.specs.Inside.Pendings.{IsAfter, NeverRead};
 

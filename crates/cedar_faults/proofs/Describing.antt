@@ -13,7 +13,7 @@ use Rattle.cedar_tokens.proofs.UnitsSoFar.{boundary_at, scan_utf8}
 use Rattle.cedar_tokens.specs.declared.token.Span.{Span}
 use Rattle.cedar_tokens.specs.declared.kind.Kind.{Kind}
 use Rattle.cedar_grammar.specs.Texts.{only_tokens}
-use Rattle.cedar_parser_steps.specs.Tokens.{HasTokens}
+use Rattle.cedar_reading.specs.Tokens.{HasTokens}
 use Rattle.cedar_tree.specs.declared.error.FormatError.{FormatError}
 use Rattle.cedar_tree.specs.declared.error.FormatError.TheVariants.{UnknownCharacter, UnfinishedString, NumberTooLarge, Grammar, TooDeep, NoDocument, Unsound, OutOfMemory}
 use Rattle.cedar_expected.specs.Expectations.{AreAllAfter, IsList}

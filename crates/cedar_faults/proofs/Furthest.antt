@@ -27,7 +27,7 @@ use Rattle.cedar_faults.specs.Laws.{FirstIsFurthest, FirstIsBeforeRefusal, First
 use Rattle.cedar_faults.specs.declared.fault.Fault.{Fault}
 use Rattle.cedar_faults.proofs.Describing.{reached}
 use Rattle.cedar_faults.proofs.Leaving.{leaves_whole, parts}
-use Rattle.cedar_pieces.proofs.Accepted.{accepted_join}
+use Rattle.cedar_reading.proofs.Accepted.{accepted_join}
 use Rattle.cedar_cst.proofs.Places.{accepted_parts}
 
 -- of two scans of a text, the second is no longer, or continues with a unit after the first

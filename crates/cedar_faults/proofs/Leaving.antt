@@ -23,12 +23,12 @@ use Rattle.cedar_tree.specs.declared.error.FormatError.{FormatError}
 use Rattle.cedar_tree.specs.declared.error.FormatError.TheVariants.{UnknownCharacter, UnfinishedString, NumberTooLarge, Grammar, TooDeep, NoDocument, Unsound, OutOfMemory}
 use Rattle.cedar_tree.specs.Refusals.{Refuses}
 use Rattle.cedar_laws.proofs.Spaces.{scans_shorter}
-use Rattle.cedar_parser_steps.specs.Tokens.{HasTokens}
-use Rattle.cedar_pieces.specs.Pieces.{IsPiece}
-use Rattle.cedar_pieces.proofs.Lists.{piece_splits}
-use Rattle.cedar_pieces.proofs.Prefixes.{units_of}
-use Rattle.cedar_pieces.proofs.Refusals.{piece_tokens}
-use Rattle.cedar_pieces.proofs.Sequences.{list_parts}
+use Rattle.cedar_reading.specs.Tokens.{HasTokens}
+use Rattle.cedar_reading.specs.Pieces.{IsPiece}
+use Rattle.cedar_reading.proofs.Lists.{piece_splits}
+use Rattle.cedar_reading.proofs.Prefixes.{units_of}
+use Rattle.cedar_reading.proofs.PieceRefusals.{piece_tokens}
+use Rattle.cedar_reading.proofs.Sequences.{list_parts}
 use Rattle.cedar_expected.specs.Expectations.{IsList}
 use Rattle.cedar_expected.specs.Inside.Beginnings.{TokensBegin}
 use Rattle.cedar_expected.proofs.Begun.{list_accepted}

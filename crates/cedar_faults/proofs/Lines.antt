@@ -17,10 +17,10 @@ use Rattle.cedar_tokens.specs.Units.{IsUnit, blank, comment, token, IsFirstUnit,
 use Rattle.cedar_tokens.proofs.Prefixes.{same_head, begins_fits}
 use Rattle.cedar_tokens.proofs.FirstUnit.{unit_nonempty, unit_boundary}
 use Rattle.cedar_tokens.proofs.UnitsSoFar.{after_unit}
-use Rattle.cedar_pieces.proofs.Semicolons.{differs}
+use Rattle.cedar_reading.proofs.Semicolons.{differs}
 use Rattle.cedar_tokens.proofs.Heads.{class}
 use Rattle.cedar_tokens.proofs.Strings.{string_end, complete, finds}
-use Rattle.cedar_pieces.specs.Pieces.{is_semicolon}
+use Rattle.cedar_reading.specs.Pieces.{is_semicolon}
 use Rattle.cedar_laws.proofs.Units.{past, next_passes, blank_first, feed_blank}
 use Rattle.cedar_laws.proofs.BlankLines.{feedless, blank_feed}
 use Rattle.cedar_laws.proofs.Spaces.{comment_feedless}

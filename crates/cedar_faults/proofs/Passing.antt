@@ -7,8 +7,8 @@ use Rattle.std.proofs.lemmas.List.{drop-drop, length-drop, length-take}
 use Rattle.std.proofs.lemmas.Str.{IsUtf8-drop, IsCharBoundary-from_drop}
 use Rattle.std.proofs.lemmas.List.Sums.{sum_by-append}
 use Rattle.std.proofs.lemmas.List.Folds.{list_any-append}
-use Rattle.cedar_pieces.specs.Pieces.{is_semicolon}
-use Rattle.cedar_pieces.proofs.Semicolons.{differs}
+use Rattle.cedar_reading.specs.Pieces.{is_semicolon}
+use Rattle.cedar_reading.proofs.Semicolons.{differs}
 use Rattle.cedar_tokens.proofs.FirstUnit.{unit_nonempty, unit_boundary}
 use Rattle.cedar_tokens.proofs.Prefixes.{begins_fits}
 use Rattle.cedar_faults.specs.Recovery.{IsPassed, Passes, Resumes}

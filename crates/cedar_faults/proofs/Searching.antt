@@ -7,8 +7,8 @@ use Rattle.std.proofs.lemmas.List.{drop-drop, length-drop}
 use Rattle.std.proofs.lemmas.List.Sums.{sum_by-append, sum_by-cons}
 use Rattle.std.proofs.lemmas.Str.{IsUtf8-drop, IsCharBoundary-from_drop}
 use Rattle.cedar_tree.specs.declared.error.FormatError.{FormatError}
-use Rattle.cedar_pieces.specs.Pieces.{is_semicolon}
-use Rattle.cedar_pieces.proofs.Accepted.{accepted_empty}
+use Rattle.cedar_reading.specs.Pieces.{is_semicolon}
+use Rattle.cedar_reading.proofs.Accepted.{accepted_empty}
 use Rattle.cedar_faults.specs.Faults.{AreFaults, AreFaultsFrom, IsFault, SearchFinds}
 use Rattle.cedar_faults.specs.Faults.SearchFinds.{nothing, policy, fault}
 use Rattle.cedar_faults.specs.FirstFaults.{IsFirstOf}

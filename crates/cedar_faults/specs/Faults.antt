@@ -6,7 +6,7 @@ use Rattle.cedar_tokens.specs.declared.token.Span.{Span}
 use Rattle.cedar_grammar.specs.Texts.{only_tokens, Accepted}
 use Rattle.cedar_tree.specs.declared.error.FormatError.{FormatError}
 use Rattle.cedar_tree.specs.declared.error.FormatError.TheVariants.{UnknownCharacter, UnfinishedString, NumberTooLarge, Grammar, TooDeep, NoDocument, Unsound, OutOfMemory}
-use Rattle.cedar_pieces.specs.Pieces.{IsPiece}
+use Rattle.cedar_reading.specs.Pieces.{IsPiece}
 use Rattle.cedar_expected.specs.declared.expectation.Expected.{Expected}
 use Rattle.cedar_expected.specs.Expectations.{AreAllAfter, IsList}
 use Rattle.cedar_expected.specs.Naming.{AreNamed}

@@ -13,7 +13,7 @@ use crate::recovery::resume;
 use cedar_expected::expectation::Expected;
 use cedar_expected::kinds::names_of;
 use cedar_expected::probe::continuation;
-use cedar_parser_steps::lexeme::Lexeme;
+use cedar_reading::lexeme::Lexeme;
 use cedar_tree::error::FormatError;
 use std::alloc::{AllocError, Global};
 use std::marker::Model;

@@ -1,5 +1,5 @@
 //! The words of the command line.
-use cedar_program_words::VERSION;
+use cedar_program::VERSION;
 use std::io::Write;
 use std::{env, io};
 

@@ -18,10 +18,10 @@ use Rattle.cedar_grammar.proofs.Texts.Listings.{listing_texts}
 use Rattle.cedar_tree.specs.Laws.{AcceptedIsNotRefused}
 use Rattle.cedar_laws.specs.Output.{with_value}
 use Rattle.cedar_laws.proofs.Grammatical.{value_kind}
-use Rattle.cedar_pieces.specs.Pieces.{IsPiece, IsFirstPiece, HasNoPiece}
-use Rattle.cedar_pieces.proofs.Lists.{begins_trailing, comments_alone, lists_follow, piece_ends, piece_splits, plain_follow}
-use Rattle.cedar_pieces.proofs.Prefixes.{through, through_after}
-use Rattle.cedar_pieces.proofs.Refusals.{no_kind, piece_tokens, rest_is_empty}
+use Rattle.cedar_reading.specs.Pieces.{IsPiece, IsFirstPiece, HasNoPiece}
+use Rattle.cedar_reading.proofs.Lists.{begins_trailing, comments_alone, lists_follow, piece_ends, piece_splits, plain_follow}
+use Rattle.cedar_reading.proofs.Prefixes.{through, through_after}
+use Rattle.cedar_reading.proofs.PieceRefusals.{no_kind, piece_tokens, rest_is_empty}
 use Rattle.cedar_cst.specs.PolicyReaders.{Position, EndsPiece, HasEnded, GoesOn, AreTokensOf}
 use Rattle.cedar_cst.proofs.PartLaws.{no_units}
 use Rattle.cedar_cst.proofs.Places.{accepted_parts, place_accepted}

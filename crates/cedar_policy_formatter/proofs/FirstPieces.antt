@@ -7,10 +7,10 @@ use Rattle.std.proofs.lemmas.List.{length-take-le, take_all}
 use Rattle.cedar_tokens.specs.Units.{is_token}
 use Rattle.cedar_tokens.specs.Split.{SplitsInto}
 use Rattle.cedar_tokens.proofs.Scanning.{split_unique}
-use Rattle.cedar_pieces.specs.Pieces.{IsPiece, IsFirstPiece, is_semicolon}
-use Rattle.cedar_pieces.proofs.Lexing.{no_semicolon}
-use Rattle.cedar_pieces.proofs.Lists.{piece_splits}
-use Rattle.cedar_pieces.proofs.Prefixes.{units_of, piece_alone, piece_inside}
+use Rattle.cedar_reading.specs.Pieces.{IsPiece, IsFirstPiece, is_semicolon}
+use Rattle.cedar_reading.proofs.Lexing.{no_semicolon}
+use Rattle.cedar_reading.proofs.Lists.{piece_splits}
+use Rattle.cedar_reading.proofs.Prefixes.{units_of, piece_alone, piece_inside}
 use Rattle.cedar_writer.proofs.OnePolicy.{mark, semicolons, semicolons_append}
 
 marked : (u : List ℕ) → is_semicolon u ≡ false → mark u ≡ 0

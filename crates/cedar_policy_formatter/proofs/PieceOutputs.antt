@@ -32,8 +32,8 @@ use Rattle.cedar_laws.specs.GrammarTrees.{IsTree}
 use Rattle.cedar_laws.specs.Canonical.{IsOutputOf}
 use Rattle.cedar_laws.proofs.FittingTrees.{AllTokens}
 use Rattle.cedar_laws.proofs.Grammatical.{tree_of_accepted, trees_of, leaves_of, grammar_of}
-use Rattle.cedar_pieces.specs.Pieces.{IsPiece}
-use Rattle.cedar_pieces.proofs.Lists.{lists_follow, piece_ends, begins_trailing, plain_follow, plain_begins, plain_empty, comments_alone}
+use Rattle.cedar_reading.specs.Pieces.{IsPiece}
+use Rattle.cedar_reading.proofs.Lists.{lists_follow, piece_ends, begins_trailing, plain_follow, plain_begins, plain_empty, comments_alone}
 use Rattle.cedar_tokens.proofs.Lists.{All-append}
 use Rattle.cedar_cst.proofs.PartLaws.{append_not_nil}
 

@@ -8,12 +8,12 @@ use Rattle.cedar_tokens.specs.Split.{SplitsInto}
 use Rattle.cedar_grammar.specs.Texts.{Accepted, only_tokens}
 use Rattle.cedar_laws.specs.Canonical.{IsOutputOf}
 use Rattle.cedar_laws.specs.Output.{closing_text, paragraphs}
-use Rattle.cedar_pieces.specs.Pieces.{IsPiece, HasNoPiece}
-use Rattle.cedar_pieces.proofs.Scans.{piece_more}
-use Rattle.cedar_pieces.proofs.Prefixes.{through, piece_inside, piece_before, piece_within, piece_alone, through_after}
-use Rattle.cedar_pieces.proofs.Accepted.{accepted_join}
-use Rattle.cedar_pieces.proofs.Refusals.{rest_is_empty}
-use Rattle.cedar_parser_steps.specs.Tokens.{HasTokens}
+use Rattle.cedar_reading.specs.Pieces.{IsPiece, HasNoPiece}
+use Rattle.cedar_reading.proofs.Scans.{piece_more}
+use Rattle.cedar_reading.proofs.Prefixes.{through, piece_inside, piece_before, piece_within, piece_alone, through_after}
+use Rattle.cedar_reading.proofs.Accepted.{accepted_join}
+use Rattle.cedar_reading.proofs.PieceRefusals.{rest_is_empty}
+use Rattle.cedar_reading.specs.Tokens.{HasTokens}
 use Rattle.cedar_cst.specs.PolicyReaders.{EndsPiece}
 use Rattle.cedar_cst.proofs.Places.{accepted_parts, place_accepted}
 use Rattle.cedar_cst.proofs.PartLaws.{append_not_nil}

@@ -5,8 +5,8 @@ ghost use Rattle.cedar_tokens.specs.Tokens.{comments_left};
 ghost use Rattle.cedar_tree.specs.declared.error.FormatError.TheVariants.{OutOfMemory};
 ghost use Rattle.cedar_tree.specs.Refusals.{OutOfMemoryOr, Refuses as RefusesByTrees};
 ghost use Rattle.cedar_grammar.specs.Texts.{Accepted as AcceptedByTree};
-ghost use Rattle.cedar_parser_steps.specs.Lexemes.{AreLexemes};
-ghost use Rattle.cedar_pieces.specs.Pieces.{IsFirstPiece};
+ghost use Rattle.cedar_reading.specs.Lexemes.{AreLexemes};
+ghost use Rattle.cedar_reading.specs.Pieces.{IsFirstPiece};
 ghost use Rattle.cedar_laws.specs.Canonical.{IsOutputOf as IsOutputByTable};
 ghost use Rattle.cedar_laws.specs.Output.{closing_text};
 ghost use Rattle.cedar_written.specs.Lists.{HaveEqualLists};
@@ -23,9 +23,9 @@ pub use cedar_documents::laws::{
     every_layout_reads_back, every_list_is_good, lists_join, outputs_are_determined,
     outputs_have_the_trees, own_tokens_are_met, policies_stand_alone,
 };
-use cedar_parser_steps::lexeme::Lexeme;
-use cedar_pieces::pieces::read_piece;
 use cedar_print::mark::Indent;
+use cedar_reading::lexeme::Lexeme;
+use cedar_reading::pieces::read_piece;
 use cedar_tokens::lexer::listing_is_unique;
 use cedar_tokens::token::{Comments, get_comment};
 use cedar_writer::printer::{NotPrinted, PolicyPrinter};

@@ -3,8 +3,8 @@ use Rattle.std.proofs.Common.{◌≡◌, ◌+◌, ℕ, List, [], ◌∷◌, ◌+
 use Rattle.std.specs.List.{sum_by}
 use Rattle.std.proofs.lemmas.List.{drop-drop}
 use Rattle.std.proofs.lemmas.List.Sums.{sum_by-cons}
-use Rattle.cedar_pieces.specs.Pieces.{IsPiece, IsFirstPiece}
-use Rattle.cedar_pieces.proofs.Scans.{piece_more}
+use Rattle.cedar_reading.specs.Pieces.{IsPiece, IsFirstPiece}
+use Rattle.cedar_reading.proofs.Scans.{piece_more}
 use Rattle.cedar_cst.specs.PolicyReaders.{EndsPiece}
 use Rattle.cedar_ranges.specs.Pieces.{ArePieces, EachPiece}
 

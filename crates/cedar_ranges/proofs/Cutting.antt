@@ -3,8 +3,8 @@ use Rattle.std.proofs.Common.{◌≡◌, ◌∷◌, [], ◌++◌, ℕ, List, fal
 use Rattle.std.specs.Prelude.{codes}
 use Rattle.std.specs.List.{list_any}
 use Rattle.cedar_tokens.proofs.UnitsSoFar.{EndsAt}
-use Rattle.cedar_pieces.specs.Pieces.{is_semicolon}
-use Rattle.cedar_pieces.specs.Inside.Steps.{EndsInSemicolon}
+use Rattle.cedar_reading.specs.Pieces.{is_semicolon}
+use Rattle.cedar_reading.specs.Inside.Steps.{EndsInSemicolon}
 
 -- the units so far, of which the last is their only `;`
 pub ends_in_semicolon : (us : List (List ℕ)) (text rest u : List ℕ) (n : ℕ)

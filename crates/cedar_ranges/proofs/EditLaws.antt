@@ -8,7 +8,7 @@ use Rattle.std.proofs.lemmas.Str.{IsUtf8-between}
 use Rattle.cedar_tokens.specs.declared.token.Span.{Span}
 use Rattle.cedar_grammar.specs.Texts.{Accepted}
 use Rattle.cedar_laws.specs.Canonical.{IsOutputOf}
-use Rattle.cedar_pieces.specs.Pieces.{IsPiece}
+use Rattle.cedar_reading.specs.Pieces.{IsPiece}
 use Rattle.cedar_cst.specs.PolicyReaders.{EndsPiece}
 use Rattle.cedar_written.specs.Lists.{HaveEqualLists}
 use Rattle.cedar_ranges.specs.Pieces.{ArePieces, IsTouchedSpan}

@@ -25,9 +25,9 @@ use Rattle.cedar_laws.proofs.Joined.{joined}
 use Rattle.cedar_laws.proofs.Listed.{feed_no_token}
 use Rattle.cedar_laws.proofs.Scanned.{token_no_feed, first_within, splits_join}
 use Rattle.cedar_laws.proofs.Spaces.{comment_feedless}
-use Rattle.cedar_pieces.proofs.Accepted.{accepted_empty}
-use Rattle.cedar_pieces.proofs.Refusals.{fit_parts}
-use Rattle.cedar_pieces.proofs.Sequences.{lists_join}
+use Rattle.cedar_reading.proofs.Accepted.{accepted_empty}
+use Rattle.cedar_reading.proofs.PieceRefusals.{fit_parts}
+use Rattle.cedar_reading.proofs.Sequences.{lists_join}
 use Rattle.cedar_cst.proofs.PartLaws.{append_not_nil}
 
 -- ---- the last unit of a text that ends in a line feed

@@ -16,9 +16,9 @@ use Rattle.cedar_laws.specs.Output.{with_value, paragraphs, closing_text, tokens
 use Rattle.cedar_laws.proofs.Accepting.{output_accepted}
 use Rattle.cedar_laws.proofs.CanonicalForm.{own_list, output_list}
 use Rattle.cedar_laws.proofs.Grammatical.{trees_of, tree_fits, leaves_of}
-use Rattle.cedar_pieces.specs.Pieces.{IsPiece}
-use Rattle.cedar_pieces.proofs.Lists.{lists_follow, piece_ends, plain_follow, plain_empty}
-use Rattle.cedar_pieces.proofs.Prefixes.{piece_inside, piece_positive}
+use Rattle.cedar_reading.specs.Pieces.{IsPiece}
+use Rattle.cedar_reading.proofs.Lists.{lists_follow, piece_ends, plain_follow, plain_empty}
+use Rattle.cedar_reading.proofs.Prefixes.{piece_inside, piece_positive}
 use Rattle.cedar_cst.specs.PolicyReaders.{EndsPiece}
 use Rattle.cedar_ranges.specs.Edits.{feeds_after}
 use Rattle.cedar_cst.proofs.Places.{place_accepted}

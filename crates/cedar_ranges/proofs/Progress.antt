@@ -5,7 +5,7 @@ use Rattle.std.specs.List.{sum_by}
 use Rattle.std.proofs.lemmas.List.{drop-drop, length-take-le}
 use Rattle.std.proofs.lemmas.List.Sums.{sum_by-append, sum_by-cons}
 use Rattle.cedar_tokens.specs.declared.token.Span.{Span}
-use Rattle.cedar_pieces.specs.Pieces.{HasNoPiece, IsFirstPiece}
+use Rattle.cedar_reading.specs.Pieces.{HasNoPiece, IsFirstPiece}
 use Rattle.cedar_ranges.specs.Pieces.{ArePieces, EachPiece, IsTouchedSpan, Touches, StartsAfter, EndsBefore}
 use Rattle.cedar_ranges.specs.Inside.Growing.{Grows}
 use Rattle.cedar_ranges.proofs.Chains.{chain_more, each_more}

@@ -10,8 +10,8 @@ use Rattle.cedar_grammar.proofs.Texts.Listings.{listing_texts}
 use Rattle.cedar_laws.specs.Canonical.{IsOutputOf, plain_listing}
 use Rattle.cedar_laws.specs.Output.{closing_text}
 use Rattle.cedar_laws.proofs.CanonicalForm.{accepted_has_output, outputs_tell}
-use Rattle.cedar_pieces.specs.Pieces.{IsPiece}
-use Rattle.cedar_pieces.proofs.Lists.{lists_follow, piece_ends}
+use Rattle.cedar_reading.specs.Pieces.{IsPiece}
+use Rattle.cedar_reading.proofs.Lists.{lists_follow, piece_ends}
 use Rattle.cedar_policy_formatter.proofs.PieceOutputs.{outputs_follow, outputs_close}
 use Rattle.cedar_cst.specs.PolicyReaders.{EndsPiece}
 use Rattle.cedar_ranges.specs.Edits.{StandsInOutput}

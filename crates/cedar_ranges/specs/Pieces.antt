@@ -2,7 +2,7 @@
 use Rattle.std.specs.Prelude.{◌≡◌, ◌≤◌, ◌<◌, ◌+◌, ◌⊎◌, ℕ, List, [], ◌∷◌, ◌++◌, length, take, drop, ⊤}
 use Rattle.std.specs.List.{sum_by}
 use Rattle.cedar_tokens.specs.declared.token.Span.{Span}
-use Rattle.cedar_pieces.specs.Pieces.{IsFirstPiece, HasNoPiece}
+use Rattle.cedar_reading.specs.Pieces.{IsFirstPiece, HasNoPiece}
 
 -- the text is these pieces, each the first one of the text from there on, and then the rest
 abbrev pub ArePieces : List (List ℕ) → List ℕ → List ℕ → Type 0

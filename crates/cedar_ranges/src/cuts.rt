@@ -1,8 +1,8 @@
 //! Where the first piece of a text ends, by its units alone.
 ghost use Rattle.std.specs.Prelude.{◌≡◌, ◌≤◌, ◌<◌, length, IfSome, MatchOption};
 ghost use Rattle.std.specs.Str.{IsCharBoundary};
-ghost use Rattle.cedar_pieces.specs.Pieces.{HasNoPiece, IsFirstPiece};
-ghost use Rattle.cedar_pieces.specs.Inside.Steps.{EndsInSemicolon, EndsLine};
+ghost use Rattle.cedar_reading.specs.Pieces.{HasNoPiece, IsFirstPiece};
+ghost use Rattle.cedar_reading.specs.Inside.Steps.{EndsInSemicolon, EndsLine};
 
 use cedar_policy_formatter::lexer::UnitKind;
 use cedar_tokens::units::Units;

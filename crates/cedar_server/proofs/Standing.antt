@@ -15,8 +15,8 @@ use Rattle.cedar_tokens.proofs.Scanning.{split_unique}
 use Rattle.cedar_grammar.specs.Texts.{Accepted}
 use Rattle.cedar_laws.proofs.Scanned.{scans_append, scans_before_feed, scans_unit, splits_join}
 use Rattle.cedar_laws.proofs.Units.{blank_first, feed_blank}
-use Rattle.cedar_pieces.specs.Pieces.{IsPiece, EndInFeed, HaveNoFeed, BeginsNoBlank}
-use Rattle.cedar_pieces.proofs.Prefixes.{piece_alone, piece_inside, piece_positive, units_of}
+use Rattle.cedar_reading.specs.Pieces.{IsPiece, EndInFeed, HaveNoFeed, BeginsNoBlank}
+use Rattle.cedar_reading.proofs.Prefixes.{piece_alone, piece_inside, piece_positive, units_of}
 use Rattle.cedar_cst.proofs.PartLaws.{append_not_nil}
 use Rattle.cedar_faults.specs.Faults.{BeginsWithPolicy}
 use Rattle.cedar_ranges.proofs.Feeds.{front_splits}

@@ -6,9 +6,9 @@ use Rattle.cedar_faults.specs.Faults.{BeginsWithPolicy, SearchFinds}
 use Rattle.cedar_faults.specs.Faults.SearchFinds.{nothing, policy}
 use Rattle.cedar_faults.proofs.Searching.{finds_on}
 use Rattle.cedar_positions.specs.declared.positions.Encoding.{Encoding}
-use Rattle.cedar_advice.specs.declared.diagnoses.Diagnosis.{Diagnosis}
-use Rattle.cedar_advice.specs.Diagnoses.{AreDiagnoses, TellAll, Tells, TellsMore, most}
-use Rattle.cedar_advice.proofs.Lists.{tell_more}
+use Rattle.cedar_server.specs.declared.diagnoses.Diagnosis.{Diagnosis}
+use Rattle.cedar_server.specs.Diagnoses.{AreDiagnoses, TellAll, Tells, TellsMore, most}
+use Rattle.cedar_server.proofs.Lists.{tell_more}
 
 -- the faults that are reported, up to the byte `at`
 abbrev pub Told : Encoding → List ℕ → ℕ → List Diagnosis → Type 0

@@ -2,7 +2,7 @@
 use Rattle.std.specs.Prelude.{ℕ, List}
 use Rattle.cedar_positions.specs.declared.positions.Encoding.{Encoding}
 use Rattle.cedar_positions.specs.declared.positions.Position.{Position}
-use Rattle.cedar_outline.specs.Placed.{ArePlacedFolds, ArePlacedSelections, ArePlacedSymbols, ArePlacedTokens}
+use Rattle.cedar_server.specs.Placed.{ArePlacedFolds, ArePlacedSelections, ArePlacedSymbols, ArePlacedTokens}
 use Rattle.cedar_server.specs.declared.messages.Answer.{Answer}
 use Rattle.cedar_server.specs.declared.messages.Answer.TheVariants as answer
 

@@ -3,8 +3,8 @@ use Rattle.std.specs.Prelude.{◌≡◌, ◌≢◌, ◌⊎◌, ℕ, ℤ, pos, Li
 use Rattle.std.specs.declared.alloc.Global.{Global}
 use Rattle.std.specs.BTreeMap.{BTreeMap, get_by_text}
 use Rattle.std.specs.declared.vec.Vec.{Vec}
-use Rattle.cedar_advice.specs.declared.diagnoses.Diagnosis.{Diagnosis}
-use Rattle.cedar_advice.specs.Diagnoses.{AreDiagnoses}
+use Rattle.cedar_server.specs.declared.diagnoses.Diagnosis.{Diagnosis}
+use Rattle.cedar_server.specs.Diagnoses.{AreDiagnoses}
 use Rattle.cedar_positions.specs.declared.positions.Encoding.{Encoding}
 use Rattle.cedar_positions.specs.declared.positions.Encoding.TheVariants.{Utf16}
 use Rattle.cedar_positions.specs.declared.changes.Change.{Change}

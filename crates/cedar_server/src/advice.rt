@@ -2,8 +2,9 @@
 ghost use Rattle.std.specs.Prelude.{IfOk};
 ghost use Rattle.cedar_server.specs.Advice.{Completes, GivesFixes};
 
+use crate::completions::complete;
+use crate::fixes::find_fixes;
 use crate::messages::Answer;
-use cedar_advice::{complete, find_fixes};
 use cedar_positions::{Encoding, Position, Range};
 use std::alloc::{AllocError, Global};
 

@@ -2,8 +2,8 @@
 ghost use Rattle.std.specs.Prelude.{◌≡◌, ◌∷◌, [], ◌↔◌, All, IfOk, IsTrue, MatchOption, OnErr, OnOk, string_bytes};
 ghost use Rattle.cedar_server.specs.Sessions.{AreAllLost, AreCleared, AreSame, Clears, Diagnoses, Give, IsPart, Puts, names_of_texts};
 
+use crate::diagnoses::Diagnosis;
 use crate::messages::ServerMessage;
-use cedar_advice::Diagnosis;
 use cedar_positions::{Change, Encoding, changed_text};
 use std::alloc::{AllocError, Global};
 use std::collections::BTreeMap;

@@ -2,10 +2,10 @@
 ghost use Rattle.std.specs.Prelude.{◌≡◌, ℕ, List, IfOk, IfSome, OnOk, string_bytes};
 ghost use Rattle.std.specs.List.{All};
 ghost use Rattle.cedar_faults.specs.Faults.{BeginsWithPolicy, GoesOn, IsStep};
-ghost use Rattle.cedar_advice.specs.Diagnoses.{AreDiagnoses};
+ghost use Rattle.cedar_server.specs.Diagnoses.{AreDiagnoses};
 ghost use Rattle.cedar_server.specs.Inside.Standing.{StandsAt};
 
-use cedar_advice::{Diagnosis, MOST, tell, tell_more};
+use crate::diagnoses::{Diagnosis, MOST, tell, tell_more};
 use cedar_faults::reader::{FaultReader, Step};
 use cedar_positions::Encoding;
 use cedar_tokens::token::Span;

@@ -1,6 +1,8 @@
 //! What a client and the server say.
-use cedar_advice::{Completions, Diagnosis, Fix};
-use cedar_outline::placed::{PlacedFold, PlacedSelection, PlacedSymbol, PlacedToken};
+use crate::completions::Completions;
+use crate::diagnoses::Diagnosis;
+use crate::fixes::Fix;
+use crate::placed::{PlacedFold, PlacedSelection, PlacedSymbol, PlacedToken};
 use cedar_positions::{Change, Edit, Encoding, Position, Range};
 
 /// The id of a request, as its client chose it.

@@ -3,7 +3,7 @@ ghost use Rattle.std.specs.Prelude.{IfOk};
 ghost use Rattle.cedar_server.specs.Outline.{ShowsFolds, ShowsSelections, ShowsSymbols, ShowsTokens};
 
 use crate::messages::Answer;
-use cedar_outline::placed::{placed_folds, placed_selections, placed_symbols, placed_tokens};
+use crate::placed::{placed_folds, placed_selections, placed_symbols, placed_tokens};
 use cedar_positions::{Encoding, Position};
 use std::alloc::{AllocError, Global};
 

@@ -2,8 +2,8 @@
 use Rattle.std.proofs.Common.{◌≡◌, ℕ, zero, suc, ℤ, Bool, true, false, [], refl, sym, ap, ◌∙◌}
 use Rattle.std.specs.Prelude.{◌&&◌}
 use Rattle.cedar_tokens.specs.Kinds.{is}
-use Rattle.cedar_lines.specs.Rules.{Rule, never, inner, put, token, then, either, star, tail, deeper, lifted, fork, peek}
-use Rattle.cedar_lines.specs.Writing.{State, choose, begins, second, goes, looking, first, take, lift, size, turns, finish, run, expr_to}
+use Rattle.cedar_writer.specs.Rules.{Rule, never, inner, put, token, then, either, star, tail, deeper, lifted, fork, peek}
+use Rattle.cedar_writer.specs.Writing.{State, choose, begins, second, goes, looking, first, take, lift, size, turns, finish, run, expr_to}
 use Rattle.cedar_writer.specs.Depths.{alone, around}
 use Rattle.cedar_writer.specs.Parts.{bare_scope, broken_scope}
 use Rattle.cedar_writer.proofs.Lines.{bare_is, broken_is}

@@ -6,9 +6,9 @@ use Rattle.cedar_grammar.specs.Laws.{AreTokens}
 use Rattle.cedar_print.specs.WrittenMarks.{Mark, AreMarks}
 use Rattle.cedar_layout.specs.Layout.{Doc}
 use Rattle.cedar_written.specs.Written as written
-use Rattle.cedar_lines.specs.Writing.{State, refused, going, policy_to}
-use Rattle.cedar_lines.proofs.AnyRoom.{written_policies_are_not_refused, reading_ends_after_policies}
-use Rattle.cedar_lines.proofs.ReadPolicies.{read_policies_are_written}
+use Rattle.cedar_writer.specs.Writing.{State, refused, going, policy_to}
+use Rattle.cedar_writer.proofs.AnyRoom.{written_policies_are_not_refused, reading_ends_after_policies}
+use Rattle.cedar_writer.proofs.ReadPolicies.{read_policies_are_written}
 use Rattle.cedar_writer.specs.declared.writer.Outcome.{Outcome}
 use Rattle.cedar_writer.specs.declared.writer.Outcome.TheVariants as Ended
 use Rattle.cedar_writer.specs.declared.policy.Refusal.{Refusal}

@@ -5,9 +5,9 @@ use Rattle.cedar_tokens.specs.declared.kind.Kind.TheVariants as K
 use Rattle.cedar_tokens.specs.declared.kind.Kind.{Kind}
 use Rattle.cedar_tokens.specs.Kinds.{is}
 use Rattle.cedar_print.specs.WrittenMarks as M
-use Rattle.cedar_lines.specs.Rules.{Rule, deeper, star, ◌▸◌, ◌∥◌, space, line, begin, end_group, end_nothing, group, tok, tok_then, one_of, maybe, nest, put, peek}
-use Rattle.cedar_lines.specs.Lines as lines
-use Rattle.cedar_lines.specs.Writing.{State, choose, begins, take, add_all, run, refuse, expr_to, policy_to}
+use Rattle.cedar_writer.specs.Rules.{Rule, deeper, star, ◌▸◌, ◌∥◌, space, line, begin, end_group, end_nothing, group, tok, tok_then, one_of, maybe, nest, put, peek}
+use Rattle.cedar_writer.specs.Lines as lines
+use Rattle.cedar_writer.specs.Writing.{State, choose, begins, take, add_all, run, refuse, expr_to, policy_to}
 use Rattle.cedar_writer.specs.Depths.{at_depth, around}
 use Rattle.cedar_writer.specs.Parts as P
 use Rattle.cedar_writer.specs.Parts.{some_arguments, some_exprs, some_inits, accesses, member, unary, mult, add, relation, and, or, slot_operand, some_entities, entities_operand, scoped, action, variables, bare_scope, broken_scope, policy_end}

@@ -2,9 +2,9 @@
 use Rattle.std.proofs.Common.{◌≡◌, ℕ, zero, suc, ℤ, ◌<◌, ◌≤◌, Bool, true, false, refl, sym, ◌∙◌, arith}
 use Rattle.cedar_tokens.specs.declared.kind.Kind.{Kind}
 use Rattle.cedar_tokens.specs.Kinds.{is}
-use Rattle.cedar_lines.specs.Rules.{Rule, inner, star, tok, ◌▸◌}
-use Rattle.cedar_lines.specs.Writing.{State, choose, nullable, first, begins, goes, refuse, size, turns, expr_to}
-use Rattle.cedar_lines.proofs.Moves.{Keeps, Moves, run_moves, refuse_keeps, refuse_moves, expr_keeps, expr_moves, IsTest, begins_test, goes_test}
+use Rattle.cedar_writer.specs.Rules.{Rule, inner, star, tok, ◌▸◌}
+use Rattle.cedar_writer.specs.Writing.{State, choose, nullable, first, begins, goes, refuse, size, turns, expr_to}
+use Rattle.cedar_writer.proofs.Moves.{Keeps, Moves, run_moves, refuse_keeps, refuse_moves, expr_keeps, expr_moves, IsTest, begins_test, goes_test}
 use Rattle.cedar_writer.specs.Depths.{has_room, inside, at_depth, around, alone, often_at, often}
 
 -- ---- what is done as long as a test holds

@@ -15,12 +15,12 @@ use Rattle.cedar_grammar.specs.Laws.{AreTokens}
 use Rattle.cedar_grammar.specs.Texts.{greatest_depth, only_tokens}
 use Rattle.cedar_grammar.proofs.Booleans.{and_first}
 use Rattle.cedar_grammar.proofs.Texts.Listings.{listing_texts}
-use Rattle.cedar_parser_steps.specs.Lexemes.{AreLexemes}
-use Rattle.cedar_parser_steps.specs.declared.lexeme.Lexeme.{Lexeme}
-use Rattle.cedar_pieces.specs.Pieces.{IsFirstPiece, is_semicolon}
-use Rattle.cedar_pieces.proofs.Lists.{piece_splits}
-use Rattle.cedar_pieces.proofs.Prefixes.{units_of}
-use Rattle.cedar_pieces.proofs.Refusals.{piece_tokens}
+use Rattle.cedar_reading.specs.Lexemes.{AreLexemes}
+use Rattle.cedar_reading.specs.declared.lexeme.Lexeme.{Lexeme}
+use Rattle.cedar_reading.specs.Pieces.{IsFirstPiece, is_semicolon}
+use Rattle.cedar_reading.proofs.Lists.{piece_splits}
+use Rattle.cedar_reading.proofs.Prefixes.{units_of}
+use Rattle.cedar_reading.proofs.PieceRefusals.{piece_tokens}
 use Rattle.cedar_written.specs.Languages.{Lang, ◌⋄◌}
 use Rattle.cedar_written.specs.Written.{Policy, PolicySet, no_policy, a_policy, Tok}
 use Rattle.cedar_written.specs.Texts.{Accepted, InGrammar, without_comments}

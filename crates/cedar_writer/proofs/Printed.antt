@@ -20,11 +20,11 @@ use Rattle.cedar_laws.specs.Good.{IsGood}
 use Rattle.cedar_laws.specs.Table.{part_table}
 use Rattle.cedar_laws.proofs.GoodLists.{every_list_good, plain_list_good}
 use Rattle.cedar_laws.proofs.Grammatical.{grammar_of, tree_fits, tree_of_accepted, plain_tree}
-use Rattle.cedar_parser_steps.specs.Lexemes.{AreLexemes}
-use Rattle.cedar_parser_steps.specs.declared.lexeme.Lexeme.{Lexeme}
-use Rattle.cedar_pieces.specs.Pieces.{IsFirstPiece}
-use Rattle.cedar_pieces.proofs.Lists.{piece_ends}
-use Rattle.cedar_slices.specs.SameTokens.{HasTheTokens, value_of}
+use Rattle.cedar_reading.specs.Lexemes.{AreLexemes}
+use Rattle.cedar_reading.specs.declared.lexeme.Lexeme.{Lexeme}
+use Rattle.cedar_reading.specs.Pieces.{IsFirstPiece}
+use Rattle.cedar_reading.proofs.Lists.{piece_ends}
+use Rattle.cedar_reading.specs.SameTokens.{HasTheTokens, value_of}
 use Rattle.cedar_written.specs.Layout.{layout}
 use Rattle.cedar_written.specs.Output.{IsOutputOf}
 use Rattle.cedar_written.specs.Texts.{Accepted}

@@ -4,9 +4,9 @@ use Rattle.std.specs.Prelude.{◌&&◌, Option, Some, None, is_some}
 use Rattle.cedar_tokens.specs.Listing.{Decorated}
 use Rattle.cedar_tokens.specs.declared.kind.Kind.{Kind}
 use Rattle.cedar_grammar.specs.Laws.{kind_of_decorated}
-use Rattle.cedar_lines.specs.Languages.{looks}
+use Rattle.cedar_writer.specs.Languages.{looks}
 use Rattle.cedar_print.specs.WrittenMarks as M
-use Rattle.cedar_lines.specs.Writing.{State, second, looking, going, lost}
+use Rattle.cedar_writer.specs.Writing.{State, second, looking, going, lost}
 use Rattle.cedar_writer.specs.declared.writer.Stop.{Stop}
 use Rattle.cedar_writer.specs.declared.writer.Stop.TheVariants.{Refused, OutOfRoom}
 use Rattle.cedar_writer.specs.Outcomes.{IsRefusedBefore, HasEnded, outcome_of}

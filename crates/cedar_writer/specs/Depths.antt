@@ -2,8 +2,8 @@
 use Rattle.std.specs.Prelude.{ℕ, zero, suc, ℤ, Bool, true, false}
 use Rattle.cedar_tokens.specs.declared.kind.Kind.{Kind}
 use Rattle.cedar_tokens.specs.Kinds.{is}
-use Rattle.cedar_lines.specs.Rules.{Rule, tok, ◌▸◌}
-use Rattle.cedar_lines.specs.Writing.{State, first, goes, refuse, size, turns, run, expr_to}
+use Rattle.cedar_writer.specs.Rules.{Rule, tok, ◌▸◌}
+use Rattle.cedar_writer.specs.Writing.{State, first, goes, refuse, size, turns, run, expr_to}
 
 -- one more level is allowed
 abbrev pub has_room : ℕ → Bool

@@ -1,3 +1,9 @@
+pub mod Rules
+pub mod Lines
+pub mod Languages
+pub mod Writing
+pub mod Beginnings
+pub mod Laws
 pub mod Sets
 pub mod States
 pub mod Depths

@@ -4,7 +4,7 @@ use Rattle.cedar_tokens.specs.Listing.{Decorated}
 use Rattle.cedar_layout.specs.Layout.{Doc}
 use Rattle.cedar_print.specs.WrittenMarks.{Mark, AreMarks}
 use Rattle.cedar_written.specs.Written as written
-use Rattle.cedar_lines.specs.Writing.{State, going, refused, lost, policy_to}
+use Rattle.cedar_writer.specs.Writing.{State, going, refused, lost, policy_to}
 use Rattle.cedar_writer.specs.declared.writer.Outcome.{Outcome}
 use Rattle.cedar_writer.specs.declared.writer.Outcome.TheVariants as Ended
 use Rattle.cedar_writer.specs.declared.writer.Stop.{Stop}

@@ -5,9 +5,9 @@ use Rattle.cedar_tokens.specs.declared.kind.Kind.{Kind}
 use Rattle.cedar_tokens.specs.declared.kind.Kind.TheVariants as K
 use Rattle.cedar_tokens.specs.Kinds.{is, is_boolean, is_variable, is_effect}
 use Rattle.cedar_print.specs.WrittenMarks as M
-use Rattle.cedar_lines.specs.Rules.{Rule, inner, put, star, tail, deeper, lifted, fork, peek, ◌▸◌, ◌∥◌, nothing, space, line, line_or_nil, hard, begin, end_group, end_nothing, end_nest, group, nest, tok, tok_then, one_of, maybe, signs}
-use Rattle.cedar_lines.specs.Lines as lines
-use Rattle.cedar_lines.specs.Lines.{ident, number, str, items, field, relop, path, entity, ungrouped, is_name, annotation, operand, compared, bare}
+use Rattle.cedar_writer.specs.Rules.{Rule, inner, put, star, tail, deeper, lifted, fork, peek, ◌▸◌, ◌∥◌, nothing, space, line, line_or_nil, hard, begin, end_group, end_nothing, end_nest, group, nest, tok, tok_then, one_of, maybe, signs}
+use Rattle.cedar_writer.specs.Lines as lines
+use Rattle.cedar_writer.specs.Lines.{ident, number, str, items, field, relop, path, entity, ungrouped, is_name, annotation, operand, compared, bare}
 
 -- ---- what has no indentation
 

@@ -4,7 +4,7 @@ use Rattle.cedar_tokens.specs.declared.kind.Kind.{Kind}
 use Rattle.cedar_tokens.specs.declared.kind.Kind.TheVariants as K
 use Rattle.cedar_tokens.specs.Kinds.{is, is_any_word, is_ident, is_variable, is_boolean, is_comparison, is_effect, is_cond_word}
 use Rattle.cedar_grammar.specs.Reader.Rules.{expr_first}
-use Rattle.cedar_lines.specs.Lines.{is_name}
+use Rattle.cedar_writer.specs.Lines.{is_name}
 use Rattle.cedar_writer.specs.declared.sets.Set.{Set}
 use Rattle.cedar_writer.specs.declared.sets.Set.TheVariants.{Only, Ident, AnyWord, Variable, Name, Boolean, Comparison, Effect, Condition, SumSign, Key, Accessing, Testing, Literal, Referring, Expression, AfterScope}
 

@@ -2,7 +2,7 @@
 use Rattle.std.specs.Prelude.{ℕ, Bool, false, List, [], ◌∷◌, Option, Some, None}
 use Rattle.cedar_tokens.specs.Listing.{Decorated}
 use Rattle.cedar_print.specs.WrittenMarks as M
-use Rattle.cedar_lines.specs.Writing.{State, going, refused, lost, choose}
+use Rattle.cedar_writer.specs.Writing.{State, going, refused, lost, choose}
 use Rattle.cedar_print.specs.Marks.{mark_of}
 use Rattle.cedar_print.specs.declared.mark.Mark.{Mark}
 use Rattle.cedar_writer.specs.declared.writer.Stop.{Stop}

@@ -2,9 +2,9 @@
 ghost use Rattle.std.specs.Prelude.{◌≡◌, true};
 ghost use Rattle.cedar_tokens.specs.declared.kind.Kind.TheVariants as K;
 ghost use Rattle.cedar_tokens.specs.Kinds.{is};
-ghost use Rattle.cedar_lines.specs.Rules.{◌▸◌, inner, line, maybe, nest, star, tok};
-ghost use Rattle.cedar_lines.specs.Lines.{below, init, items, parens, str};
-ghost use Rattle.cedar_lines.specs.Writing.{begins, expr_to, finish};
+ghost use Rattle.cedar_writer.specs.Rules.{◌▸◌, inner, line, maybe, nest, star, tok};
+ghost use Rattle.cedar_writer.specs.Lines.{below, init, items, parens, str};
+ghost use Rattle.cedar_writer.specs.Writing.{begins, expr_to, finish};
 ghost use Rattle.cedar_writer.specs.Depths.{at_depth, often_at};
 ghost use Rattle.cedar_writer.specs.Parts.{access, accesses, add, after_variable, and, call, called, fields, grouped_member, if_expr, is_in, is_type, list, literal, member, mult, next_access, next_and, next_factor, next_relation, next_summand, or, reference, relation, relation_end, some_arguments, some_comparison, some_exprs, some_inits, test, unary};
 

@@ -3,6 +3,7 @@
 #![tactic(auto)]
 
 mod expressions;
+pub mod laws;
 mod names;
 mod operands;
 mod policies;

@@ -1,10 +1,10 @@
 //! Paths, entities, signs and annotations: lines without expressions and indentation.
 ghost use Rattle.std.specs.Prelude.{◌≡◌};
 ghost use Rattle.cedar_tokens.specs.declared.kind.Kind.TheVariants as K;
-ghost use Rattle.cedar_lines.specs.Rules.{never, star, signs};
-ghost use Rattle.cedar_lines.specs.Lines.{annotation, entity, field, ident, path, str};
+ghost use Rattle.cedar_writer.specs.Rules.{never, star, signs};
+ghost use Rattle.cedar_writer.specs.Lines.{annotation, entity, field, ident, path, str};
 ghost use Rattle.cedar_tokens.specs.Kinds.{is};
-ghost use Rattle.cedar_lines.specs.Writing.{finish};
+ghost use Rattle.cedar_writer.specs.Writing.{finish};
 ghost use Rattle.cedar_writer.specs.Depths.{alone, often};
 ghost use Rattle.cedar_writer.specs.Parts.{annotation_end, index, key, last_comma, next_word, some_signs};
 

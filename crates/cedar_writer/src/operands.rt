@@ -1,8 +1,8 @@
 //! Operands without operators: in three groups, one in the other.
 ghost use Rattle.std.specs.Prelude.{◌≡◌};
 ghost use Rattle.cedar_tokens.specs.declared.kind.Kind.TheVariants as K;
-ghost use Rattle.cedar_lines.specs.Rules.{nest, star, group, ◌▸◌, ◌∥◌, maybe};
-ghost use Rattle.cedar_lines.specs.Lines.{accessed, accesses, field, ident, operand, str};
+ghost use Rattle.cedar_writer.specs.Rules.{nest, star, group, ◌▸◌, ◌∥◌, maybe};
+ghost use Rattle.cedar_writer.specs.Lines.{accessed, accesses, field, ident, operand, str};
 ghost use Rattle.cedar_writer.specs.Depths.{alone};
 ghost use Rattle.cedar_writer.specs.Parts.{begin_operand, end_groups, end_operand, has, like, next_field};
 

@@ -1,8 +1,8 @@
 //! Policies. Each function is given the indentation, in columns, and how many ifs and brackets an expression may nest.
 ghost use Rattle.std.specs.Prelude.{◌≡◌};
-ghost use Rattle.cedar_lines.specs.Rules.{star};
-ghost use Rattle.cedar_lines.specs.Lines.{block, cond};
-ghost use Rattle.cedar_lines.specs.Writing.{policy_to};
+ghost use Rattle.cedar_writer.specs.Rules.{star};
+ghost use Rattle.cedar_writer.specs.Lines.{block, cond};
+ghost use Rattle.cedar_writer.specs.Writing.{policy_to};
 ghost use Rattle.cedar_writer.specs.Depths.{alone, around};
 ghost use Rattle.cedar_writer.specs.Parts.{body, conds, head, next_cond, policy_end, scope_end};
 

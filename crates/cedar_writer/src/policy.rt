@@ -8,7 +8,7 @@ ghost use Rattle.cedar_writer.specs.Outcomes.{IsOfTheGrammar, IsRead, IsRefused,
 
 use crate::writer::{Outcome, Writer};
 use cedar_print::mark::{Indent, Mark};
-use cedar_slices::token::Token;
+use cedar_reading::token::Token;
 use std::mem;
 
 /// Why a policy is not written; `left` counts the tokens from the refused one on.

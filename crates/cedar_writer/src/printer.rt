@@ -3,20 +3,20 @@ ghost use Rattle.std.specs.Prelude.{◌≡◌, ◌∷◌, [], ◌++◌, length, 
 ghost use Rattle.cedar_tokens.specs.Bytes.{line_feed};
 ghost use Rattle.cedar_grammar.specs.Laws.{AreTokens};
 ghost use Rattle.cedar_grammar.specs.Texts.{greatest_depth};
-ghost use Rattle.cedar_parser_steps.specs.Lexemes.{AreLexemes};
-ghost use Rattle.cedar_pieces.specs.Pieces.{IsFirstPiece};
+ghost use Rattle.cedar_reading.specs.Lexemes.{AreLexemes};
+ghost use Rattle.cedar_reading.specs.Pieces.{IsFirstPiece};
 ghost use Rattle.cedar_print.specs.Marks.{marks_of};
 ghost use Rattle.cedar_print.specs.WrittenMarks.{AreMarks};
 ghost use Rattle.cedar_written.specs.Output.{IsOutputOf};
 ghost use Rattle.cedar_writer.specs.Printed.{HasMarks, IsLaidOut, IsNotPolicy, IsNotPrinted, IsPolicyRead};
 
 use crate::policy::{Refusal, write_policy};
-use cedar_parser_steps::lexeme::Lexeme;
 use cedar_print::mark::{Indent, Mark};
 use cedar_print::printer::Printer;
-use cedar_slices::check::has_tokens;
-use cedar_slices::listing::{has_trailing_comma, store_plain_tokens, store_tokens};
-use cedar_slices::token::Token;
+use cedar_reading::lexeme::Lexeme;
+use cedar_reading::listing::{has_trailing_comma, store_plain_tokens, store_tokens};
+use cedar_reading::token::Token;
+use cedar_reading::token_check::has_tokens;
 use std::alloc::{AllocError, Global};
 
 /// How many ifs and brackets may be nested.

@@ -1,8 +1,8 @@
 //! The scope of a policy: its three variables.
 ghost use Rattle.std.specs.Prelude.{◌≡◌};
 ghost use Rattle.cedar_tokens.specs.declared.kind.Kind.TheVariants as K;
-ghost use Rattle.cedar_lines.specs.Rules.{maybe, star, line, ◌▸◌, ◌∥◌, tok};
-ghost use Rattle.cedar_lines.specs.Lines.{compared, entity, type_part, ungrouped};
+ghost use Rattle.cedar_writer.specs.Rules.{maybe, star, line, ◌▸◌, ◌∥◌, tok};
+ghost use Rattle.cedar_writer.specs.Lines.{compared, entity, type_part, ungrouped};
 ghost use Rattle.cedar_writer.specs.Depths.{alone, often};
 ghost use Rattle.cedar_print.specs.Marks.{mark_of};
 ghost use Rattle.cedar_writer.specs.Parts.{action, action_end, bare_scope, begin_compared, broken_scope, end_compared, entities, entities_operand, entity_operand, scoped, scoped_end, scoped_in, slot_operand, slot_or_entity, some_entities, variables};

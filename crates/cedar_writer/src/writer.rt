@@ -4,9 +4,9 @@ ghost use Rattle.cedar_tokens.specs.Listing.{token_value};
 ghost use Rattle.cedar_print.specs.Marks.{mark_of, marks_of};
 ghost use Rattle.cedar_print.specs.WrittenMarks as M;
 ghost use Rattle.cedar_print.specs.WrittenMarks.{broken_lines, lead_of, trail_of};
-ghost use Rattle.cedar_lines.specs.Writing.{going, begins, second, goes, looking, refuse, add, add_all, skip, take, add_lead, bare_first, lift};
-ghost use Rattle.cedar_slices.specs.Lines.{lines_left};
-ghost use Rattle.cedar_lines.specs.Languages.{looks};
+ghost use Rattle.cedar_writer.specs.Writing.{going, begins, second, goes, looking, refuse, add, add_all, skip, take, add_lead, bare_first, lift};
+ghost use Rattle.cedar_reading.specs.Lines.{lines_left};
+ghost use Rattle.cedar_writer.specs.Languages.{looks};
 ghost use Rattle.cedar_writer.specs.Sets.{contains};
 ghost use Rattle.cedar_writer.specs.declared.sets.Set.TheVariants.{Only};
 ghost use Rattle.cedar_tokens.specs.declared.kind.Kind.TheVariants.{LBrace};
@@ -15,8 +15,8 @@ ghost use Rattle.cedar_writer.specs.States.{after_first, some_mark, tokens_left}
 
 use crate::sets::Set;
 use cedar_print::mark::{Indent, Mark};
-use cedar_slices::lines::Lines;
-use cedar_slices::token::{Token, value};
+use cedar_reading::lines::Lines;
+use cedar_reading::token::{Token, value};
 use cedar_tokens::kind::Kind;
 use std::alloc::AllocError;
 use std::marker::Model;
@@ -53,7 +53,7 @@ pub(crate) struct Writer<'t, 'src> {
 
 impl<'t, 'src> Model for Writer<'t, 'src> {
     ghost use Rattle.std.specs.Prelude.{◌+◌, ◌≤◌, length, vec_capacity};
-    ghost use Rattle.cedar_lines.specs.Writing.{State};
+    ghost use Rattle.cedar_writer.specs.Writing.{State};
     ghost use Rattle.cedar_print.specs.Marks.{marks_of};
     ghost use Rattle.cedar_writer.specs.States.{state_of};
 

@@ -1,9 +1,9 @@
 -- A piece that is the whole text.
 use Rattle.std.proofs.Common.{◌≡◌, ℕ, List, length, take, subst, arith}
 use Rattle.std.proofs.lemmas.List.{take_all}
-use Rattle.cedar_parser_steps.specs.Lexemes.{AreLexemes}
-use Rattle.cedar_parser_steps.specs.declared.lexeme.Lexeme.{Lexeme}
-use Rattle.cedar_pieces.specs.Pieces.{IsFirstPiece}
+use Rattle.cedar_reading.specs.Lexemes.{AreLexemes}
+use Rattle.cedar_reading.specs.declared.lexeme.Lexeme.{Lexeme}
+use Rattle.cedar_reading.specs.Pieces.{IsFirstPiece}
 
 pub whole_piece : (text : List ℕ) (n : ℕ) → n ≡ length text → IsFirstPiece text n
     → IsFirstPiece text (length text)

@@ -1,7 +1,7 @@
 //! Texts with one policy, printed.
-use cedar_parser_steps::lexeme::Lexeme;
-use cedar_pieces::pieces::read_piece;
 use cedar_print::mark::Indent;
+use cedar_reading::lexeme::Lexeme;
+use cedar_reading::pieces::read_piece;
 use cedar_writer::printer::{NotPrinted, PolicyPrinter};
 use std::alloc::AllocError;
 use std::process::Abort;

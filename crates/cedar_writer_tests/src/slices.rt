@@ -1,9 +1,9 @@
 //! Tokens as slices of a text, worked out by hand.
-use cedar_parser_steps::lexeme::{Lexeme, check_tokens};
-use cedar_pieces::pieces::read_piece;
-use cedar_slices::check::has_tokens;
-use cedar_slices::listing::{has_trailing_comma, store_plain_tokens, store_tokens};
-use cedar_slices::token::Token;
+use cedar_reading::lexeme::{Lexeme, check_tokens};
+use cedar_reading::listing::{has_trailing_comma, store_plain_tokens, store_tokens};
+use cedar_reading::pieces::read_piece;
+use cedar_reading::token::Token;
+use cedar_reading::token_check::has_tokens;
 use cedar_tokens::token::get_comment;
 use std::alloc::{AllocError, Global};
 use std::test::Fail;

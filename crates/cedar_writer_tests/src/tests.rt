@@ -1,6 +1,6 @@
 //! Policies, and their marks, worked out by hand from the grammar and its table.
 use cedar_print::mark::{Indent, Mark};
-use cedar_slices::token::Token;
+use cedar_reading::token::Token;
 use cedar_tokens::kind::kind_of;
 use cedar_writer::policy::{Refusal, write_policy};
 use std::alloc::{AllocError, Global};

@@ -1,3 +1,8 @@
+pub mod Documents
+pub mod Languages
+pub mod Rows
+pub mod Texts
+pub mod LongestOutputs
 pub mod Regrouped
 pub mod NonEmpty
 pub mod SameRows

@@ -1,3 +1,4 @@
+pub mod Bounds
 pub mod Languages
 pub mod Written
 pub mod Layout

@@ -1,9 +1,16 @@
 //! Laws of the written grammar and its documents. They only state facts about definitions, so their bodies are empty.
+ghost use Rattle.cedar_written.specs.Bounds.{OutputsAreBounded};
 ghost use Rattle.cedar_written.specs.Canonical.{AcceptedHasOutput, LastWidthDecides, OutputHasTheList, OutputIsAccepted, OutputIsItsOwn, OutputsTellLists};
 ghost use Rattle.cedar_written.specs.Cleaning.{CleaningsAgree};
 ghost use Rattle.cedar_written.specs.Judged.{AcceptedIsNotRefused, RefusalIsUnique, TextIsJudged};
 ghost use Rattle.cedar_written.specs.Laws.{AcceptedAgree, DocumentsAreTheTables, DocumentsAreUnique, ErrorsAgree, GrammarsAgree, LayoutsAgree, LeavesAgree, ListsAgree, OutputsAreTheTables, RefusalsAgree, TableOutputsAreOutputs, TablesAreDocuments};
 ghost use Rattle.cedar_written.specs.Lists.{EqualListsHaveEqualOutputs, OutputKeepsTheList};
+
+/// An output is at most so many times as long as its text, by the indentation alone: whatever the width, and however deeply the
+/// text is nested.
+pub fn outputs_are_bounded()
+    ensures { OutputsAreBounded }
+{}
 
 /// The written grammar and the grammar of trees have the same lists, at each depth and with trailing commas or without.
 pub fn lists_have_documents()

@@ -12,10 +12,10 @@ use Rattle.cedar_grammar.specs.Placed.{Placed, with_places, kind_of_placed}
 use Rattle.cedar_grammar.specs.Texts.{greatest_depth, only_tokens, LeavesGrammar}
 use Rattle.cedar_grammar.specs.TrailingCommas.{without_trailing}
 use Rattle.cedar_grammar.specs.Trees.{Label, Forest, yield}
-use Rattle.cedar_pieces.specs.Pieces.{IsFirstPiece}
-use Rattle.cedar_parser_steps.specs.declared.lexeme.Lexeme.{Lexeme}
-use Rattle.cedar_parser_steps.specs.Lexemes.{AreLexemes}
-use Rattle.cedar_parser_steps.specs.Reading.{start_or}
+use Rattle.cedar_reading.specs.Pieces.{IsFirstPiece}
+use Rattle.cedar_reading.specs.declared.lexeme.Lexeme.{Lexeme}
+use Rattle.cedar_reading.specs.Lexemes.{AreLexemes}
+use Rattle.cedar_reading.specs.Reading.{start_or}
 use Rattle.cedar_tree.specs.declared.error.FormatError.{FormatError}
 use Rattle.cedar_tree.specs.declared.error.FormatError.TheVariants.{Grammar, TooDeep}
 use Rattle.cedar_tree.specs.declared.tree.Node as Nodes

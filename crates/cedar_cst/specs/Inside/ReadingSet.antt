@@ -2,13 +2,13 @@
 use Rattle.std.specs.Prelude.{◌≡◌, true, false, List, [], ◌∷◌, ◌⊎◌, length, Result, Ok, Err}
 use Rattle.cedar_grammar.specs.Trees.{Label, Forest}
 use Rattle.cedar_grammar.specs.Reader.Reading.{Answer, done, stuck}
-use Rattle.cedar_parser_steps.specs.declared.lexeme.Lexeme.{Lexeme}
-use Rattle.cedar_parser_steps.specs.declared.reading.Refusal.{Refusal}
-use Rattle.cedar_parser_steps.specs.declared.reading.Refusal.TheVariants.{Grammar, TooDeep, OutOfMemory}
+use Rattle.cedar_reading.specs.declared.lexeme.Lexeme.{Lexeme}
+use Rattle.cedar_reading.specs.declared.reading.Refusal.{Refusal}
+use Rattle.cedar_reading.specs.declared.reading.Refusal.TheVariants.{Grammar, TooDeep, OutOfMemory}
 use Rattle.cedar_tree.specs.declared.tree.Policies.{Policies}
 use Rattle.cedar_tree.specs.Erased.{erase}
-use Rattle.cedar_parser_steps.specs.Lexemes.{lexeme_nodes}
-use Rattle.cedar_parser_steps.specs.Reading.{AreRight}
+use Rattle.cedar_reading.specs.Lexemes.{lexeme_nodes}
+use Rattle.cedar_reading.specs.Reading.{AreRight}
 
 -- the reader reads all tokens, and the policies stand for its tree; or the refusal is the reader's, or at the first token that it leaves
 abbrev pub GivesSet : Result Policies Refusal → Answer Lexeme → Type 0

@@ -7,16 +7,16 @@ ghost use Rattle.cedar_tokens.specs.declared.kind.Kind.TheVariants as K;
 ghost use Rattle.cedar_grammar.specs.Reader.Rules.{star};
 ghost use Rattle.cedar_grammar.specs.Reader.Lines.{annotation_rule, cond_rule, policy_rule, set_to};
 ghost use Rattle.cedar_tree.specs.Erased.{policy_parts, annotation_parts, cond_parts};
-ghost use Rattle.cedar_parser_expressions.specs.ReadingExprs.{at_depth};
+ghost use Rattle.cedar_cst.specs.ReadingExprs.{at_depth};
 ghost use Rattle.cedar_cst.specs.Inside.ReadingSet.{GivesSet};
-ghost use Rattle.cedar_parser_steps.specs.Reading.{kind, flat, GivesNode, GivesMany};
+ghost use Rattle.cedar_reading.specs.Reading.{kind, flat, GivesNode, GivesMany};
 
 use crate::cst::scopes::parse_scope;
-use cedar_parser_expressions::expressions::parse_expr;
-use cedar_parser_steps::lexeme::Lexeme;
-use cedar_parser_steps::literals::parse_str;
-use cedar_parser_steps::names::parse_word;
-use cedar_parser_steps::reading::{
+use crate::expressions::parse_expr;
+use cedar_reading::lexeme::Lexeme;
+use cedar_reading::literals::parse_str;
+use cedar_reading::names::parse_word;
+use cedar_reading::reading::{
     Parsed, Refusal, begins, expect, followed_by, keep, past, refuse, start_of,
 };
 use cedar_tokens::kind::{Kind, Words};
@@ -90,7 +90,7 @@ fn parse_annotations<'t, 'src>(
 }
 
 // `@`, a word, and perhaps a string in brackets.
-#[tactic(auto, using(cedar_parser_steps::proofs::Refusals::firsts))]
+#[tactic(auto, using(cedar_reading::proofs::Refusals::firsts))]
 fn parse_annotation<'t, 'src>(
     tokens: &'t [Lexeme<'src>],
 ) -> Parsed<'t, 'src, Node<Annotation<'src>>>

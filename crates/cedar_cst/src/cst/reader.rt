@@ -2,17 +2,17 @@
 ghost use Rattle.std.specs.Prelude.{◌≡◌, ◌≤◌, ◌<◌, ◌+◌, ◌^◌, List, [], ◌∷◌, ◌++◌, length, map, drop, IfOk, IfErr, IfSome, OnErr, MatchResult, MatchOption};
 ghost use Rattle.std.specs.List.{All};
 ghost use Rattle.cedar_tree.specs.Refusals.{OutOfMemoryOr, Refuses, RefusesTokens};
-ghost use Rattle.cedar_parser_steps.specs.Lexemes.{AreLexemes};
-ghost use Rattle.cedar_parser_steps.specs.Tokens.{HasTokens};
+ghost use Rattle.cedar_reading.specs.Lexemes.{AreLexemes};
+ghost use Rattle.cedar_reading.specs.Tokens.{HasTokens};
 ghost use Rattle.cedar_cst.specs.Inside.Parts.{moved_lexeme, place_before, HasPoliciesFrom, AreLexemesFrom, RefusesFrom, IsNext, IsPolicyFrom};
 ghost use Rattle.cedar_cst.specs.PolicyReaders.{HasPolicies, HasRead, HasEnded, GoesOn, IsPolicyOf, AreTokensOf};
 
 use crate::cst::policies::parse_set;
 use crate::laws::tree_has_the_policies;
-use cedar_parser_steps::commented::commented_tokens;
-use cedar_parser_steps::lexeme::{Lexeme, check_tokens};
-use cedar_parser_steps::reading::Refusal;
-use cedar_pieces::pieces::read_piece;
+use cedar_reading::commented::commented_tokens;
+use cedar_reading::lexeme::{Lexeme, check_tokens};
+use cedar_reading::pieces::read_piece;
+use cedar_reading::reading::Refusal;
 use cedar_tokens::token::WrappedToken;
 use cedar_tree::error::FormatError;
 use cedar_tree::tree::{Node, Policies, Policy};

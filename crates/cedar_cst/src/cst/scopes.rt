@@ -1,5 +1,5 @@
 //! The scope of a policy: its three variables, and what follows them.
-#![tactic(auto, using(cedar_parser_steps::proofs::Refusals::firsts))]
+#![tactic(auto, using(cedar_reading::proofs::Refusals::firsts))]
 
 ghost use Rattle.std.specs.Prelude.{◌≡◌, ◌<◌, ◌≤◌, length, IfOk, MatchResult, box_value};
 ghost use Rattle.cedar_grammar.specs.Trees.{Label};
@@ -8,19 +8,19 @@ ghost use Rattle.cedar_tokens.specs.declared.kind.Kind.TheVariants as K;
 ghost use Rattle.cedar_grammar.specs.Reader.Rules.{entity, items, word_of};
 ghost use Rattle.cedar_grammar.specs.Reader.Lines.{◌∥◌, operand, entity_or, scoped, maybe, entity_item, action};
 ghost use Rattle.cedar_tree.specs.Erased.{add_parts, expr_parts, primary_parts, variable_parts};
-ghost use Rattle.cedar_parser_steps.specs.ReadingParts.{slot_kind, variable_kind, IsVariableOf, IsLoneOrOf, entity_list, scope_rule};
-ghost use Rattle.cedar_parser_steps.specs.declared.reading.Refusal.TheVariants.{OutOfMemory};
-ghost use Rattle.cedar_parser_expressions.specs.Boxed.{unboxed};
-ghost use Rattle.cedar_parser_expressions.specs.ReadingItems.{GivesItems, GivesScope};
-ghost use Rattle.cedar_parser_steps.specs.Reading.{flat, GivesNode, ident_parts};
+ghost use Rattle.cedar_reading.specs.ReadingParts.{slot_kind, variable_kind, IsVariableOf, IsLoneOrOf, entity_list, scope_rule};
+ghost use Rattle.cedar_reading.specs.declared.reading.Refusal.TheVariants.{OutOfMemory};
+ghost use Rattle.cedar_cst.specs.Boxed.{unboxed};
+ghost use Rattle.cedar_cst.specs.ReadingItems.{GivesItems, GivesScope};
+ghost use Rattle.cedar_reading.specs.Reading.{flat, GivesNode, ident_parts};
 
-use cedar_parser_expressions::nodes::{and_node, list_node, lone_relation, or_expr, or_node};
-use cedar_parser_steps::accesses::lone_operand;
-use cedar_parser_steps::lexeme::Lexeme;
-use cedar_parser_steps::names::{
+use crate::nodes::{and_node, list_node, lone_relation, or_expr, or_node};
+use cedar_reading::accesses::lone_operand;
+use cedar_reading::lexeme::Lexeme;
+use cedar_reading::names::{
     begins_identifier, ident_node, parse_entity, parse_path, parse_slot_or_entity,
 };
-use cedar_parser_steps::reading::{Parsed, Refusal, begins, expect, followed_by, keep, past, skip};
+use cedar_reading::reading::{Parsed, Refusal, begins, expect, followed_by, keep, past, skip};
 use cedar_tokens::kind::Kind;
 use cedar_tree::tree::{Add, Expr, Ident, Name, Node, Or, Primary, RelOp, Slot, VariableDef};
 use std::alloc::Global;

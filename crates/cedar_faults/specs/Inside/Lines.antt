@@ -3,7 +3,7 @@ use Rattle.std.specs.Prelude.{◌≡◌, ◌⊎◌, ◌+◌, ◌≤◌, ◌==◌
 use Rattle.std.specs.List.{list_any, sum_by}
 use Rattle.cedar_tokens.specs.Units.{IsFirstUnit, BeginsNoUnit}
 use Rattle.cedar_tokens.specs.Bytes.{line_feed, quote}
-use Rattle.cedar_pieces.specs.Pieces.{is_semicolon}
+use Rattle.cedar_reading.specs.Pieces.{is_semicolon}
 use Rattle.cedar_faults.specs.Marks.{EndsCharacter}
 
 -- no line feed is among the bytes

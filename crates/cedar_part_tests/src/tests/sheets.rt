@@ -1,7 +1,7 @@
 //! Documents as flat lists of marks: the layout of the document that a sheet stands for.
+use cedar_documents::document::to_document;
+use cedar_documents::sheet::Sheet;
 use cedar_policy_formatter::layout::render;
-use cedar_sheet::document::to_document;
-use cedar_sheet::sheet::Sheet;
 use std::alloc::{AllocError, Global};
 use std::process::Abort;
 

@@ -13,7 +13,7 @@ ghost use Rattle.cedar_policy_formatter.specs.Inside.Alike.{plain_value, GoesOnA
 use cedar_cst::cst::laws::{accepted_is_not_refused, tree_is_of_accepted};
 use cedar_cst::cst::{FormatError, PolicyReader};
 use cedar_documents::config::Config;
-use cedar_pieces::check::{same_comments, same_values};
+use cedar_reading::check::{same_comments, same_values};
 use cedar_tokens::lexer::drop_trailing_commas;
 use cedar_tokens::token::WrappedToken;
 use cedar_written::laws::written_texts_agree;

@@ -1,7 +1,7 @@
 -- Spans of whole pieces.
 use Rattle.std.specs.Prelude.{◌≡◌, ◌-◌, ◌⊎◌, ℕ, List, drop}
 use Rattle.cedar_tokens.specs.declared.token.Span.{Span}
-use Rattle.cedar_pieces.specs.Pieces.{IsPiece}
+use Rattle.cedar_reading.specs.Pieces.{IsPiece}
 use Rattle.cedar_cst.specs.PolicyReaders.{EndsPiece}
 
 -- the bytes before the span are none or a piece, and so are those in it

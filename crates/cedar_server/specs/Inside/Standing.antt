@@ -3,7 +3,7 @@ use Rattle.std.specs.Prelude.{◌≡◌, ℕ, List, [], ◌∷◌, ◌++◌, len
 use Rattle.cedar_tokens.specs.Bytes.{line_feed}
 use Rattle.cedar_tokens.specs.declared.token.Span.{Span}
 use Rattle.cedar_grammar.specs.Texts.{Accepted}
-use Rattle.cedar_pieces.specs.Pieces.{IsPiece}
+use Rattle.cedar_reading.specs.Pieces.{IsPiece}
 
 -- an accepted policy that ends with the line feed after its `;`
 pub record Stands (policy : List ℕ) : Type 0 where

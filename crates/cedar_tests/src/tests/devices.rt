@@ -1,7 +1,7 @@
 //! Readers and writers that fail at a chosen call.
 use super::*;
 use cedar_policy_formatter::{RunFault, Watched, check_stream, format_stream};
-use cedar_program_run::run_words;
+use cedar_program::run_words;
 use std::io;
 use std::io::{ErrorKind, Read, Write};
 use std::rt::Files;

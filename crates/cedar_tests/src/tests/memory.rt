@@ -9,7 +9,7 @@ use cedar_policy_formatter::lexer::{TokenReader, drop_trailing_commas, get_token
 use cedar_policy_formatter::token::{Comment, Span, WrappedToken};
 use cedar_policy_formatter::utils::{get_comment_in_range, in_order};
 use cedar_policy_formatter::{Context, Watched, is_formatted, same_layout, soundness_check};
-use cedar_program_run::run_words;
+use cedar_program::run_words;
 use std::io::ErrorKind;
 use std::rt::Files;
 

@@ -2,7 +2,7 @@
 use super::devices::{Sink, Source};
 use super::*;
 use cedar_policy_formatter::Watched;
-use cedar_program_run::{run_words, tell_unread_words};
+use cedar_program::{run_words, tell_unread_words};
 use std::io::ErrorKind;
 use std::rt::Files;
 use std::{fs, io};

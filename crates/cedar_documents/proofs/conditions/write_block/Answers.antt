@@ -6,13 +6,13 @@ use Rattle.cedar_tree.specs.Erased.{expr_parts}
 use Rattle.cedar_layout.specs.Layout.{Doc, ◌·◌, group, line, nest, text}
 use Rattle.cedar_layout.specs.Lookups.{comment_parts, emptied, shown, starts_from}
 use Rattle.cedar_layout.proofs.Values.{dot_assoc}
-use Rattle.cedar_document_rows.specs.Found.{has_its_tokens}
-use Rattle.cedar_document_rows.specs.NodeDocuments.{as_leaf}
+use Rattle.cedar_documents.specs.Found.{has_its_tokens}
+use Rattle.cedar_documents.specs.NodeDocuments.{as_leaf}
 use Rattle.cedar_laws.specs.Table.{lead, printed, tok, trail}
-use Rattle.cedar_document_rows.proofs.Found.{as_before, missed}
-use Rattle.cedar_document_rows.proofs.InTurn.{and_then, done, first, in_group, in_nest, rewritten}
-use Rattle.cedar_document_rows.proofs.Keeping.{kept_if_taken, ◌∘◌}
-use Rattle.cedar_document_rows.proofs.LookedUp.{first_after, taken}
+use Rattle.cedar_documents.proofs.Found.{as_before, missed}
+use Rattle.cedar_documents.proofs.InTurn.{and_then, done, first, in_group, in_nest, rewritten}
+use Rattle.cedar_documents.proofs.Keeping.{kept_if_taken, ◌∘◌}
+use Rattle.cedar_documents.proofs.LookedUp.{first_after, taken}
 use Rattle.cedar_documents.proofs.PolicyParts.{apart}
 use Rattle.cedar_documents.proofs.WrittenParts.{line_first, word_then}
 use Rattle.cedar_documents.proofs.conditions.write_block.Goals as goal

@@ -8,17 +8,17 @@ use Rattle.cedar_tree.specs.Erased.{expr_parts}
 use Rattle.cedar_layout.specs.Comments.{lead_of}
 use Rattle.cedar_layout.specs.Layout.{◌·◌, group}
 use Rattle.cedar_layout.specs.Lookups.{Shown, shown, emptied, starts_at, unled}
-use Rattle.cedar_sheet.specs.Marks.{written}
-use Rattle.cedar_document_rows.specs.Found.{has_its_tokens}
-use Rattle.cedar_document_rows.specs.NodeDocuments.{IsAt, as_leaf, document}
+use Rattle.cedar_documents.specs.Marks.{written}
+use Rattle.cedar_documents.specs.Found.{has_its_tokens}
+use Rattle.cedar_documents.specs.NodeDocuments.{IsAt, as_leaf, document}
 use Rattle.cedar_documents.specs.PartDocuments.{body_document}
 use Rattle.cedar_laws.specs.Table.{literal_kind, lines_of_first, table}
 use Rattle.cedar_laws.proofs.ByValue.{yield_map}
-use Rattle.cedar_document_rows.proofs.Found.{as_before, missed}
-use Rattle.cedar_document_rows.proofs.InTurn.{first, in_group, rewritten}
-use Rattle.cedar_document_rows.proofs.Keeping.{kept_if_lines_taken, ◌∘◌}
-use Rattle.cedar_document_rows.proofs.LookedUp.{first_at_start, lines_taken}
-use Rattle.cedar_document_rows.proofs.Opened.{starts_here}
+use Rattle.cedar_documents.proofs.Found.{as_before, missed}
+use Rattle.cedar_documents.proofs.InTurn.{first, in_group, rewritten}
+use Rattle.cedar_documents.proofs.Keeping.{kept_if_lines_taken, ◌∘◌}
+use Rattle.cedar_documents.proofs.LookedUp.{first_at_start, lines_taken}
+use Rattle.cedar_documents.proofs.Opened.{starts_here}
 use Rattle.cedar_documents.proofs.FirstToken.{unled_nodes, unled_tokens, unled_leaves}
 use Rattle.cedar_documents.proofs.PolicyParts.{apart}
 use Rattle.cedar_documents.proofs.WrittenParts.{written_so}

@@ -5,13 +5,13 @@ use Rattle.cedar_grammar.specs.TypedTrees.{cond_of, parts, tree_yield}
 use Rattle.cedar_tree.specs.Erased.{expr_parts}
 use Rattle.cedar_layout.specs.Comments.{lead_of, trail_of}
 use Rattle.cedar_layout.specs.Layout.{line}
-use Rattle.cedar_document_rows.specs.Found.{has_its_tokens}
-use Rattle.cedar_document_rows.specs.NodeDocuments.{as_leaf, kind_of_shown}
+use Rattle.cedar_documents.specs.Found.{has_its_tokens}
+use Rattle.cedar_documents.specs.NodeDocuments.{as_leaf, kind_of_shown}
 use Rattle.cedar_laws.specs.Table.{lead, trail}
-use Rattle.cedar_document_rows.proofs.Found.{as_before, missed}
-use Rattle.cedar_document_rows.proofs.InTurn.{done, first, in_group, rewritten}
-use Rattle.cedar_document_rows.proofs.Opened.{opened_leaf, opened_token, opened_tree, ends_here}
-use Rattle.cedar_document_expressions.proofs.LastTokens.{ends_with}
+use Rattle.cedar_documents.proofs.Found.{as_before, missed}
+use Rattle.cedar_documents.proofs.InTurn.{done, first, in_group, rewritten}
+use Rattle.cedar_documents.proofs.Opened.{opened_leaf, opened_token, opened_tree, ends_here}
+use Rattle.cedar_documents.proofs.LastTokens.{ends_with}
 use Rattle.cedar_documents.specs.PartDocuments.{part_document}
 use Rattle.cedar_documents.proofs.WrittenParts.{text_first, word_then, written_so}
 use Rattle.cedar_documents.proofs.conditions.write_cond.Goals as goal

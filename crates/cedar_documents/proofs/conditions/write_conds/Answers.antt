@@ -4,10 +4,10 @@ use Rattle.std.proofs.lemmas.List.{drop_all, drop_more}
 use Rattle.std.proofs.lemmas.Bool.{and_left}
 use Rattle.cedar_grammar.specs.Trees.{none}
 use Rattle.cedar_tree.specs.Erased.{cond_trees, cond_parts}
-use Rattle.cedar_document_rows.specs.Found.{has_its_tokens, places}
-use Rattle.cedar_document_rows.proofs.Found.{and_true, as_before, missed}
-use Rattle.cedar_document_rows.proofs.Keeping.{◌∘◌, all_kept}
-use Rattle.cedar_document_rows.proofs.InTurn.{rewritten}
+use Rattle.cedar_documents.specs.Found.{has_its_tokens, places}
+use Rattle.cedar_documents.proofs.Found.{and_true, as_before, missed}
+use Rattle.cedar_documents.proofs.Keeping.{◌∘◌, all_kept}
+use Rattle.cedar_documents.proofs.InTurn.{rewritten}
 use Rattle.cedar_documents.specs.PartDocuments.{part_document}
 use Rattle.cedar_documents.proofs.PolicyRows.{Conditioned, breaks, broken, stays, none_conditioned, one_conditioned, all_conditioned}
 use Rattle.cedar_documents.proofs.conditions.write_conds.Goals.{then-not-is_first+in_ok-hard, else-not-is_first}

@@ -1,5 +1,5 @@
 use Rattle.std.proofs.Common.{[], ◌∙◌}
-use Rattle.cedar_sheet.proofs.Written.{written_is}
+use Rattle.cedar_documents.proofs.WrittenMarks.{written_is}
 use Rattle.cedar_documents.proofs.doc.answer.Goals as goal
 
 pub returns-in_ok-to_document-in-Ok-clause-document :

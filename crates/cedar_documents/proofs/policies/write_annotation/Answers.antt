@@ -4,12 +4,12 @@ use Rattle.std.proofs.lemmas.Bool.{and_left}
 use Rattle.cedar_grammar.specs.Trees.{Label, branch, leaf, none}
 use Rattle.cedar_grammar.specs.TypedTrees.{annotation_bare, annotation_value}
 use Rattle.cedar_tree.specs.Erased.{value_parts}
-use Rattle.cedar_document_rows.specs.Found.{has_its_tokens, places, starts}
-use Rattle.cedar_document_rows.proofs.Found.{and_true, as_before, missed}
-use Rattle.cedar_document_rows.proofs.InTurn.{and_then, done, in_turn}
-use Rattle.cedar_document_rows.proofs.Keeping.{◌∘◌}
-use Rattle.cedar_document_rows.proofs.Opened.{opened_token, opened_leaf, starts_here, ends_here}
-use Rattle.cedar_document_expressions.proofs.LastTokens.{ends_with}
+use Rattle.cedar_documents.specs.Found.{has_its_tokens, places, starts}
+use Rattle.cedar_documents.proofs.Found.{and_true, as_before, missed}
+use Rattle.cedar_documents.proofs.InTurn.{and_then, done, in_turn}
+use Rattle.cedar_documents.proofs.Keeping.{◌∘◌}
+use Rattle.cedar_documents.proofs.Opened.{opened_token, opened_leaf, starts_here, ends_here}
+use Rattle.cedar_documents.proofs.LastTokens.{ends_with}
 use Rattle.cedar_documents.proofs.PolicyParts.{no_part, no_token}
 use Rattle.cedar_documents.proofs.WrittenParts.{hard_last}
 use Rattle.cedar_documents.proofs.policies.write_annotation.Goals as goal

@@ -5,9 +5,9 @@ use Rattle.cedar_grammar.specs.Trees.{none}
 use Rattle.cedar_tree.specs.Erased.{annotation_trees, annotation_parts}
 use Rattle.cedar_tree.specs.declared.tree.Annotation.{Annotation}
 use Rattle.cedar_tree.specs.declared.tree.Node.{Node}
-use Rattle.cedar_document_rows.specs.Found.{has_its_tokens, places}
-use Rattle.cedar_document_rows.proofs.Found.{and_true, as_before, missed}
-use Rattle.cedar_document_rows.proofs.Keeping.{◌∘◌, all_kept}
+use Rattle.cedar_documents.specs.Found.{has_its_tokens, places}
+use Rattle.cedar_documents.proofs.Found.{and_true, as_before, missed}
+use Rattle.cedar_documents.proofs.Keeping.{◌∘◌, all_kept}
 use Rattle.cedar_documents.proofs.PolicyRows.{Annotated, none_annotated, one_annotated, all_annotated}
 use Rattle.cedar_documents.proofs.policies.write_annotations.Goals as goal
 

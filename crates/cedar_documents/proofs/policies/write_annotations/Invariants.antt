@@ -3,8 +3,8 @@ use Rattle.cedar_grammar.specs.Trees.{none}
 use Rattle.cedar_grammar.specs.TypedTrees.{Clause, annotations, part_yield}
 use Rattle.cedar_tree.specs.Erased.{annotation_trees}
 use Rattle.cedar_layout.specs.Lookups.{Shown, shown}
-use Rattle.cedar_document_rows.specs.Found.{has_its_tokens, places}
-use Rattle.cedar_document_rows.specs.Kept.{KeepsTokens}
+use Rattle.cedar_documents.specs.Found.{has_its_tokens, places}
+use Rattle.cedar_documents.specs.Kept.{KeepsTokens}
 use Rattle.cedar_documents.specs.PartDocuments.{IsPartOf}
 use Rattle.cedar_documents.proofs.PolicyRows.{Annotated}
 use Rattle.cedar_documents.proofs.policies.write_annotations.Given as goal

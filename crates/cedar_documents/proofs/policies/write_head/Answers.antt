@@ -1,9 +1,9 @@
 use Rattle.std.proofs.Common.{ap, ◌∙◌}
 use Rattle.cedar_layout.specs.Comments.{lead_of, trail_of}
 use Rattle.cedar_layout.specs.Layout.{nil}
-use Rattle.cedar_document_rows.specs.NodeDocuments.{as_leaf}
+use Rattle.cedar_documents.specs.NodeDocuments.{as_leaf}
 use Rattle.cedar_laws.specs.Table.{lead, trail}
-use Rattle.cedar_document_rows.proofs.InTurn.{done, first, in_group}
+use Rattle.cedar_documents.proofs.InTurn.{done, first, in_group}
 use Rattle.cedar_documents.proofs.PolicyParts.{after_token}
 use Rattle.cedar_documents.proofs.WrittenParts.{line_first, text_first, word_then, written_so}
 use Rattle.cedar_documents.proofs.policies.write_head.Goals as goal

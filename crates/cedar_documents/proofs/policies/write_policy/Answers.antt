@@ -4,14 +4,14 @@ use Rattle.std.proofs.lemmas.Bool.{and_left}
 use Rattle.cedar_grammar.specs.Trees.{Label, branch, join, leaf, none}
 use Rattle.cedar_grammar.specs.TypedTrees.{policy_of, part_parts, part_yield}
 use Rattle.cedar_tree.specs.Erased.{annotation_trees, cond_trees, scope_variables, variable_items}
-use Rattle.cedar_document_rows.specs.Found.{has_its_tokens, places, starts}
-use Rattle.cedar_document_rows.specs.NodeDocuments.{as_leaf, kind_of_shown}
+use Rattle.cedar_documents.specs.Found.{has_its_tokens, places, starts}
+use Rattle.cedar_documents.specs.NodeDocuments.{as_leaf, kind_of_shown}
 use Rattle.cedar_documents.specs.PartDocuments.{part_document}
 use Rattle.cedar_laws.specs.Table.{C}
-use Rattle.cedar_document_rows.proofs.Found.{and_true, as_before, missed}
-use Rattle.cedar_document_rows.proofs.InTurn.{and_then, done, in_turn, rewritten}
-use Rattle.cedar_document_rows.proofs.Keeping.{◌∘◌}
-use Rattle.cedar_document_rows.proofs.Opened.{opened, opened_leaf, opened_token, part_at, ends_here}
+use Rattle.cedar_documents.proofs.Found.{and_true, as_before, missed}
+use Rattle.cedar_documents.proofs.InTurn.{and_then, done, in_turn, rewritten}
+use Rattle.cedar_documents.proofs.Keeping.{◌∘◌}
+use Rattle.cedar_documents.proofs.Opened.{opened, opened_leaf, opened_token, part_at, ends_here}
 use Rattle.cedar_documents.proofs.WrittenParts.{retold}
 use Rattle.cedar_documents.proofs.WholePolicies.{annotations_apart, conds_apart, one_end, policy_ends, policy_tokens, scope_ends, scope_tokens}
 use Rattle.cedar_documents.proofs.policies.write_policy.Goals as goal

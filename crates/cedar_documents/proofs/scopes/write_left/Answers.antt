@@ -6,9 +6,9 @@ use Rattle.cedar_tokens.specs.Tokens.{trailing_text}
 use Rattle.cedar_tree.specs.Erased.{path_parts}
 use Rattle.cedar_tree.specs.declared.tree.Name.{Name}
 use Rattle.cedar_tree.specs.declared.tree.Node.{Node}
-use Rattle.cedar_document_rows.specs.NodeDocuments.{IsNodeOf, as_leaf, document}
+use Rattle.cedar_documents.specs.NodeDocuments.{IsNodeOf, as_leaf, document}
 use Rattle.cedar_laws.specs.Table.{type_part}
-use Rattle.cedar_document_rows.proofs.InTurn.{first, rewritten}
+use Rattle.cedar_documents.proofs.InTurn.{first, rewritten}
 use Rattle.cedar_documents.proofs.WrittenParts.{text_first, written_so}
 use Rattle.cedar_documents.proofs.scopes.write_left.Goals as goal
 

@@ -2,10 +2,10 @@ use Rattle.std.proofs.Common.{true, false, ap, w64}
 use Rattle.std.proofs.lemmas.Int.{to_z-of_z}
 use Rattle.cedar_layout.specs.Layout.{◌·◌, group, line, nest}
 use Rattle.cedar_tree.specs.Erased.{path_parts}
-use Rattle.cedar_document_rows.specs.Found.{has_its_tokens}
-use Rattle.cedar_document_rows.proofs.Found.{as_before, missed}
-use Rattle.cedar_document_rows.proofs.InTurn.{and_then, done, in_group, in_nest, rewritten}
-use Rattle.cedar_document_rows.specs.NodeDocuments.{as_leaf, document}
+use Rattle.cedar_documents.specs.Found.{has_its_tokens}
+use Rattle.cedar_documents.proofs.Found.{as_before, missed}
+use Rattle.cedar_documents.proofs.InTurn.{and_then, done, in_group, in_nest, rewritten}
+use Rattle.cedar_documents.specs.NodeDocuments.{as_leaf, document}
 use Rattle.cedar_laws.specs.Table.{printed}
 use Rattle.cedar_documents.proofs.WrittenParts.{line_first}
 use Rattle.cedar_documents.proofs.scopes.write_type_part.Goals as goal

@@ -9,15 +9,15 @@ use Rattle.cedar_layout.specs.Comments.{lead_of}
 use Rattle.cedar_layout.specs.Layout.{Doc, ◌·◌, nil}
 use Rattle.cedar_layout.specs.Lookups.{Shown, emptied}
 use Rattle.cedar_tree.specs.Erased.{add_parts, operator_parts, relop_text, type_parts}
-use Rattle.cedar_document_rows.specs.Found.{has_its_tokens, places}
-use Rattle.cedar_document_rows.specs.NodeDocuments.{RightAfter, IsNodeOf, WritesWhere, as_leaf, document, kind_of_shown}
-use Rattle.cedar_document_rows.specs.declared.written.NoDocument.{NoDocument}
+use Rattle.cedar_documents.specs.Found.{has_its_tokens, places}
+use Rattle.cedar_documents.specs.NodeDocuments.{RightAfter, IsNodeOf, WritesWhere, as_leaf, document, kind_of_shown}
+use Rattle.cedar_documents.specs.declared.written.NoDocument.{NoDocument}
 use Rattle.cedar_documents.specs.PartDocuments.{compared_document, part_document, span_before}
 use Rattle.cedar_laws.specs.Table.{lead, tok, trail, type_part}
-use Rattle.cedar_document_rows.proofs.Found.{as_before, finds_last, missed}
-use Rattle.cedar_document_rows.proofs.InTurn.{and_then, done, first, in_group, in_nest, in_turn, rewritten}
-use Rattle.cedar_document_rows.proofs.Keeping.{◌∘◌}
-use Rattle.cedar_document_rows.proofs.Opened.{opened_leaf, ends_here}
+use Rattle.cedar_documents.proofs.Found.{as_before, finds_last, missed}
+use Rattle.cedar_documents.proofs.InTurn.{and_then, done, first, in_group, in_nest, in_turn, rewritten}
+use Rattle.cedar_documents.proofs.Keeping.{◌∘◌}
+use Rattle.cedar_documents.proofs.Opened.{opened_leaf, ends_here}
 use Rattle.cedar_documents.proofs.PolicyParts.{not_both}
 use Rattle.cedar_documents.proofs.WrittenParts.{freely, line_first, retold, word_then, written_so}
 use Rattle.cedar_documents.proofs.ScopeTrees.{IsCompared, Operator, unbound, typed, typed_found, compared, untyped, no_operator, ends_later, document_is, word_same}

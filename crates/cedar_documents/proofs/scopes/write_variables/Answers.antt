@@ -2,15 +2,15 @@ use Rattle.std.proofs.Common.{Bool, List, true, false, refl, ap, w64}
 use Rattle.std.proofs.lemmas.Int.{to_z-of_z}
 use Rattle.std.proofs.Math.Bool.{and-true}
 use Rattle.cedar_tokens.specs.declared.token.Span.{Span}
-use Rattle.cedar_sheet.specs.Next.{next_document}
+use Rattle.cedar_documents.specs.Next.{next_document}
 use Rattle.cedar_documents.specs.PartDocuments.{variables_document}
 use Rattle.cedar_grammar.specs.TypedTrees.{part_yield}
 use Rattle.cedar_tree.specs.Erased.{variable_parts}
-use Rattle.cedar_document_rows.specs.Found.{has_its_tokens, places}
-use Rattle.cedar_document_rows.proofs.Found.{as_before, finds_last, missed}
-use Rattle.cedar_document_rows.proofs.InTurn.{and_then, in_turn, rewritten}
-use Rattle.cedar_document_rows.proofs.Keeping.{◌∘◌}
-use Rattle.cedar_document_rows.proofs.Opened.{ends_here}
+use Rattle.cedar_documents.specs.Found.{has_its_tokens, places}
+use Rattle.cedar_documents.proofs.Found.{as_before, finds_last, missed}
+use Rattle.cedar_documents.proofs.InTurn.{and_then, in_turn, rewritten}
+use Rattle.cedar_documents.proofs.Keeping.{◌∘◌}
+use Rattle.cedar_documents.proofs.Opened.{ends_here}
 use Rattle.cedar_documents.proofs.scopes.write_variables.Goals as goal
 
 pub returns-clause-writes : goal.returns-clause-writes

@@ -1,5 +1,5 @@
 use Rattle.std.proofs.Common.{◌∙◌}
-use Rattle.cedar_parser_steps.proofs.Steps.{kind_test}
+use Rattle.cedar_reading.proofs.Steps.{kind_test}
 use Rattle.cedar_expected.proofs.part.is.Goals as goal
 
 pub returns : goal.returns

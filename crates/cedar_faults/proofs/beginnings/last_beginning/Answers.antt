@@ -2,7 +2,7 @@ use Rattle.std.proofs.Common.{◌∙◌}
 use Rattle.std.specs.Prelude.{take}
 use Rattle.cedar_grammar.specs.Beginnings.{Begins}
 use Rattle.cedar_grammar.specs.Texts.{greatest_depth}
-use Rattle.cedar_parser_steps.specs.Tokens.{HasTokens}
+use Rattle.cedar_reading.specs.Tokens.{HasTokens}
 use Rattle.cedar_faults.specs.Inside.Beginnings.{IsTokenFault, RefusesInside}
 use Rattle.cedar_expected.specs.Inside.Beginnings.{TokensBegin}
 use Rattle.cedar_faults.proofs.Leaving.{start_of, start_tokens, start_splits, reaches, refused_start, refused_whole, stops_first}

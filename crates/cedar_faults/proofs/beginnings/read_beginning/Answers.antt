@@ -1,7 +1,7 @@
 use Rattle.std.proofs.Common.{◌∙◌}
 use Rattle.std.specs.Prelude.{take}
-use Rattle.cedar_parser_steps.specs.Lexemes.{AreLexemes}
-use Rattle.cedar_pieces.specs.Pieces.{IsFirstPiece}
+use Rattle.cedar_reading.specs.Lexemes.{AreLexemes}
+use Rattle.cedar_reading.specs.Pieces.{IsFirstPiece}
 use Rattle.cedar_faults.specs.Inside.Beginnings.{RefusesInside}
 use Rattle.cedar_faults.proofs.Leaving.{piece_accepted, refused_piece}
 use Rattle.cedar_faults.proofs.Passing.{from_start}

@@ -5,7 +5,7 @@ use Rattle.cedar_tokens.proofs.FirstUnit.{unit_nonempty}
 use Rattle.cedar_tokens.proofs.Scanning.{quote_kind, other_kind}
 use Rattle.cedar_tokens.proofs.UnitsSoFar.{boundary_at, one_more, place_more, so_far, stuck, whole}
 use Rattle.cedar_grammar.specs.Numbers.{is_too_large}
-use Rattle.cedar_pieces.proofs.Semicolons.{none_more}
+use Rattle.cedar_reading.proofs.Semicolons.{none_more}
 use Rattle.cedar_faults.proofs.beginnings.token_fault.Goals as goal
 
 pub returns-then-is_too_large : goal.returns-then-is_too_large

@@ -6,7 +6,7 @@ use Rattle.cedar_tokens.specs.Tokens.{comments_left}
 use Rattle.cedar_grammar.specs.Texts.{Accepted}
 use Rattle.cedar_laws.specs.Canonical.{IsOutputOf}
 use Rattle.cedar_laws.specs.Output.{closing_text}
-use Rattle.cedar_pieces.specs.Pieces.{IsFirstPiece, IsPiece}
+use Rattle.cedar_reading.specs.Pieces.{IsFirstPiece, IsPiece}
 use Rattle.cedar_cst.proofs.Readers.{front}
 use Rattle.cedar_policy_formatter.proofs.FirstPieces.{first_alone}
 use Rattle.cedar_policy_formatter.proofs.Piecewise.{laid_ends, laid_next, piece_refused, rest_refused, some_more, whole_accepted}

@@ -1,4 +1,4 @@
-use Rattle.cedar_pieces.proofs.Semicolons.{piece_whole}
+use Rattle.cedar_reading.proofs.Semicolons.{piece_whole}
 use Rattle.cedar_ranges.proofs.cuts.first_piece.Goals as goal
 
 pub returns-clause-piece : goal.returns-clause-piece

@@ -7,7 +7,7 @@ use Rattle.cedar_tokens.specs.Units.{is_token}
 use Rattle.cedar_tokens.specs.declared.lexer.UnitKind.TheVariants.{Token}
 use Rattle.cedar_tokens.proofs.Streaming.{no_token}
 use Rattle.cedar_tokens.proofs.UnitsSoFar.{place_more, so_far, one_more, boundary_at}
-use Rattle.cedar_pieces.proofs.Semicolons.{none_more, is_feed, unit_no_feed, ends_in_feed, ends_before}
+use Rattle.cedar_reading.proofs.Semicolons.{none_more, is_feed, unit_no_feed, ends_in_feed, ends_before}
 use Rattle.cedar_ranges.proofs.cuts.rest_of_line.Goals as goal
 
 pub returns-then-eq-clause-line : goal.returns-then-eq-clause-line

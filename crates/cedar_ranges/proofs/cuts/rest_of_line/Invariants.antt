@@ -3,7 +3,7 @@ use Rattle.std.specs.List.{list_any}
 use Rattle.cedar_tokens.specs.Units.{is_token}
 use Rattle.cedar_tokens.specs.UnitSteps.{text_left}
 use Rattle.cedar_tokens.proofs.UnitsSoFar.{texts}
-use Rattle.cedar_pieces.specs.Pieces.{HaveNoFeed}
+use Rattle.cedar_reading.specs.Pieces.{HaveNoFeed}
 use Rattle.cedar_ranges.proofs.cuts.rest_of_line.Given as goal
 
 abbrev pub invariant-loop-unit : goal.invariant-loop-unit

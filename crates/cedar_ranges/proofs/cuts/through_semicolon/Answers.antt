@@ -3,8 +3,8 @@ use Rattle.std.specs.Prelude.{codes}
 use Rattle.std.proofs.lemmas.Bool.Decides.{Decides-eqb}
 use Rattle.std.proofs.lemmas.Slice.Eq.{slice_eq-Decides}
 use Rattle.cedar_tokens.proofs.UnitsSoFar.{boundary_at, one_more, place_more, scans_so_far, so_far}
-use Rattle.cedar_pieces.specs.Pieces.{is_semicolon}
-use Rattle.cedar_pieces.proofs.Semicolons.{differs, none_more}
+use Rattle.cedar_reading.specs.Pieces.{is_semicolon}
+use Rattle.cedar_reading.proofs.Semicolons.{differs, none_more}
 use Rattle.cedar_ranges.proofs.Cutting.{ends_in_semicolon}
 use Rattle.cedar_ranges.proofs.cuts.through_semicolon.Goals as goal
 

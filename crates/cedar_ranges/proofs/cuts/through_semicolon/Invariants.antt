@@ -2,7 +2,7 @@ use Rattle.std.proofs.Common.{◌≡◌, ◌+◌, false, length}
 use Rattle.std.specs.List.{list_any}
 use Rattle.cedar_tokens.specs.UnitSteps.{text_left}
 use Rattle.cedar_tokens.proofs.UnitsSoFar.{texts}
-use Rattle.cedar_pieces.specs.Pieces.{is_semicolon}
+use Rattle.cedar_reading.specs.Pieces.{is_semicolon}
 use Rattle.cedar_ranges.proofs.cuts.through_semicolon.Given as goal
 
 abbrev pub invariant-loop-unit : goal.invariant-loop-unit

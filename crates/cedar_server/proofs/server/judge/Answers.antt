@@ -1,7 +1,7 @@
 use Rattle.std.proofs.Common.{◌≡◌, [], ◌∷◌, Some, string_bytes, ap, subst, sym, ◌∙◌}
 use Rattle.std.specs.Option.{option_map}
 use Rattle.cedar_server.specs.declared.documents.Document.{Document}
-use Rattle.cedar_advice.specs.Diagnoses.{AreDiagnoses}
+use Rattle.cedar_server.specs.Diagnoses.{AreDiagnoses}
 use Rattle.cedar_server.specs.Sessions.{Judges, state_in, known, state_of}
 use Rattle.cedar_server.proofs.server.judge.Goals as goal
 

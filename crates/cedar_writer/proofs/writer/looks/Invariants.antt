@@ -1,5 +1,5 @@
 use Rattle.std.proofs.Common.{◌≡◌, map, length}
-use Rattle.cedar_lines.specs.Languages.{looks}
+use Rattle.cedar_writer.specs.Languages.{looks}
 use Rattle.cedar_writer.specs.Sets.{contains}
 use Rattle.cedar_writer.proofs.writer.looks.Given as goal
 

@@ -4,11 +4,11 @@ use Rattle.cedar_tokens.specs.Kinds.{is}
 use Rattle.cedar_grammar.specs.Trees.{Label, leaf, branch, none}
 use Rattle.cedar_grammar.specs.Reader.Reading.{tree, token}
 use Rattle.cedar_grammar.proofs.Readers.Equations.{tree_done, tree_fails, both_done, both_then_fails, choice_yes, choice_no}
-use Rattle.cedar_parser_steps.specs.Reading.{kind, str_parts}
-use Rattle.cedar_parser_steps.proofs.Steps.{passes, first_begins, is_itself, token_at}
-use Rattle.cedar_parser_steps.proofs.Refusals.{refused, in_tree, in_first, in_second}
-use Rattle.cedar_parser_steps.proofs.Rows.{row_more, row_node, row_nodes, row_token, row_span}
-use Rattle.cedar_parser_steps.proofs.Followed.{followed_fails, followed_done}
+use Rattle.cedar_reading.specs.Reading.{kind, str_parts}
+use Rattle.cedar_reading.proofs.Steps.{passes, first_begins, is_itself, token_at}
+use Rattle.cedar_reading.proofs.Refusals.{refused, in_tree, in_first, in_second}
+use Rattle.cedar_reading.proofs.Rows.{row_more, row_node, row_nodes, row_token, row_span}
+use Rattle.cedar_reading.proofs.Followed.{followed_fails, followed_done}
 use Rattle.cedar_cst.proofs.cst.policies.parse_annotation.Goals as goal
 
 pub returns-in_err-key-clause-reads : goal.returns-in_err-key-clause-reads

@@ -4,11 +4,11 @@ use Rattle.cedar_tokens.specs.Kinds.{is, begins}
 use Rattle.cedar_grammar.specs.Trees.{Label}
 use Rattle.cedar_grammar.specs.Reader.Lines.{annotation_rule}
 use Rattle.cedar_grammar.proofs.Readers.Equations.{read_end, read_fails}
-use Rattle.cedar_parser_steps.specs.Reading.{kind, flat}
-use Rattle.cedar_parser_steps.proofs.Steps.{passes}
-use Rattle.cedar_parser_steps.proofs.Refusals.{refused}
-use Rattle.cedar_parser_steps.proofs.Operands.{keep_done, keep_fails, keep_shorter}
-use Rattle.cedar_parser_steps.proofs.Manys.{flat_takes, many_first, many_next}
+use Rattle.cedar_reading.specs.Reading.{kind, flat}
+use Rattle.cedar_reading.proofs.Steps.{passes}
+use Rattle.cedar_reading.proofs.Refusals.{refused}
+use Rattle.cedar_reading.proofs.Operands.{keep_done, keep_fails, keep_shorter}
+use Rattle.cedar_reading.proofs.Manys.{flat_takes, many_first, many_next}
 use Rattle.cedar_cst.proofs.cst.policies.parse_annotations.Goals as goal
 use Rattle.cedar_tree.specs.Erased.{annotation_parts}
 

@@ -3,8 +3,8 @@ use Rattle.cedar_tokens.specs.declared.kind.Kind.TheVariants as K
 use Rattle.cedar_tokens.specs.Kinds.{is, begins}
 use Rattle.cedar_grammar.specs.Trees.{Label}
 use Rattle.cedar_grammar.specs.Reader.Lines.{annotation_rule}
-use Rattle.cedar_parser_steps.specs.Reading.{kind, flat}
-use Rattle.cedar_parser_steps.proofs.Manys.{ManyRead}
+use Rattle.cedar_reading.specs.Reading.{kind, flat}
+use Rattle.cedar_reading.proofs.Manys.{ManyRead}
 use Rattle.cedar_cst.proofs.cst.policies.parse_annotations.Given as goal
 use Rattle.cedar_tree.specs.Erased.{annotation_parts}
 

@@ -5,12 +5,12 @@ use Rattle.cedar_grammar.specs.Trees.{Label}
 use Rattle.cedar_grammar.specs.Reader.Reading.{Reader}
 use Rattle.cedar_grammar.specs.Reader.Lines.{expr_to}
 use Rattle.cedar_tree.specs.Erased.{expr_parts}
-use Rattle.cedar_parser_steps.specs.Reading.{kind}
-use Rattle.cedar_parser_steps.specs.declared.lexeme.Lexeme.{Lexeme}
-use Rattle.cedar_parser_steps.proofs.Steps.{passes}
-use Rattle.cedar_parser_steps.proofs.Refusals.{refused}
-use Rattle.cedar_parser_steps.proofs.Rows.{row_span}
-use Rattle.cedar_parser_steps.proofs.Followed.{followed_fails, followed_done}
+use Rattle.cedar_reading.specs.Reading.{kind}
+use Rattle.cedar_reading.specs.declared.lexeme.Lexeme.{Lexeme}
+use Rattle.cedar_reading.proofs.Steps.{passes}
+use Rattle.cedar_reading.proofs.Refusals.{refused}
+use Rattle.cedar_reading.proofs.Rows.{row_span}
+use Rattle.cedar_reading.proofs.Followed.{followed_fails, followed_done}
 use Rattle.cedar_cst.proofs.Conds.{word_fails, brace_fails, expr_fails, cond_done, cond_stands}
 use Rattle.cedar_cst.proofs.cst.policies.parse_cond.Goals as goal
 

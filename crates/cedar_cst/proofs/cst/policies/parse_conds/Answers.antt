@@ -5,14 +5,14 @@ use Rattle.cedar_grammar.specs.Trees.{Label}
 use Rattle.cedar_grammar.specs.Reader.Reading.{Reader}
 use Rattle.cedar_grammar.specs.Reader.Lines.{cond_rule}
 use Rattle.cedar_grammar.proofs.Readers.Equations.{read_end, read_fails}
-use Rattle.cedar_parser_steps.specs.Reading.{kind}
-use Rattle.cedar_parser_expressions.specs.ReadingExprs.{at_depth}
-use Rattle.cedar_parser_steps.specs.declared.lexeme.Lexeme.{Lexeme}
-use Rattle.cedar_parser_steps.proofs.Steps.{passes}
-use Rattle.cedar_parser_steps.proofs.Refusals.{refused}
-use Rattle.cedar_parser_steps.proofs.Operands.{keep_done, keep_fails, keep_shorter}
-use Rattle.cedar_parser_steps.proofs.Manys.{many_first, many_next}
-use Rattle.cedar_parser_expressions.proofs.Depths.{depth_takes}
+use Rattle.cedar_reading.specs.Reading.{kind}
+use Rattle.cedar_cst.specs.ReadingExprs.{at_depth}
+use Rattle.cedar_reading.specs.declared.lexeme.Lexeme.{Lexeme}
+use Rattle.cedar_reading.proofs.Steps.{passes}
+use Rattle.cedar_reading.proofs.Refusals.{refused}
+use Rattle.cedar_reading.proofs.Operands.{keep_done, keep_fails, keep_shorter}
+use Rattle.cedar_reading.proofs.Manys.{many_first, many_next}
+use Rattle.cedar_cst.proofs.Depths.{depth_takes}
 use Rattle.cedar_cst.proofs.cst.policies.parse_conds.Goals as goal
 use Rattle.cedar_tree.specs.Erased.{cond_parts}
 

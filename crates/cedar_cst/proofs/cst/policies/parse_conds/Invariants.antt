@@ -3,9 +3,9 @@ use Rattle.cedar_tokens.specs.Kinds.{begins, is_cond_word}
 use Rattle.cedar_grammar.specs.Texts.{greatest_depth}
 use Rattle.cedar_grammar.specs.Trees.{Label}
 use Rattle.cedar_grammar.specs.Reader.Lines.{cond_rule}
-use Rattle.cedar_parser_steps.specs.Reading.{kind}
-use Rattle.cedar_parser_expressions.specs.ReadingExprs.{at_depth}
-use Rattle.cedar_parser_steps.proofs.Manys.{ManyRead}
+use Rattle.cedar_reading.specs.Reading.{kind}
+use Rattle.cedar_cst.specs.ReadingExprs.{at_depth}
+use Rattle.cedar_reading.proofs.Manys.{ManyRead}
 use Rattle.cedar_cst.proofs.cst.policies.parse_conds.Given as goal
 use Rattle.cedar_tree.specs.Erased.{cond_parts}
 

@@ -5,13 +5,13 @@ use Rattle.cedar_grammar.specs.Trees.{Label}
 use Rattle.cedar_grammar.specs.Reader.Reading.{Reader}
 use Rattle.cedar_grammar.specs.Reader.Rules.{star}
 use Rattle.cedar_grammar.specs.Reader.Lines.{cond_rule, policy_rule, expr_to}
-use Rattle.cedar_parser_steps.specs.Reading.{kind}
-use Rattle.cedar_parser_expressions.specs.ReadingExprs.{at_depth}
-use Rattle.cedar_parser_steps.specs.declared.lexeme.Lexeme.{Lexeme}
-use Rattle.cedar_parser_steps.proofs.Steps.{passes}
-use Rattle.cedar_parser_steps.proofs.Refusals.{refused}
-use Rattle.cedar_parser_steps.proofs.Rows.{row_span}
-use Rattle.cedar_parser_expressions.proofs.Starts.{node_starts}
+use Rattle.cedar_reading.specs.Reading.{kind}
+use Rattle.cedar_cst.specs.ReadingExprs.{at_depth}
+use Rattle.cedar_reading.specs.declared.lexeme.Lexeme.{Lexeme}
+use Rattle.cedar_reading.proofs.Steps.{passes}
+use Rattle.cedar_reading.proofs.Refusals.{refused}
+use Rattle.cedar_reading.proofs.Rows.{row_span}
+use Rattle.cedar_cst.proofs.Starts.{node_starts}
 use Rattle.cedar_cst.proofs.Policies.{many_followed_fails, many_followed_done, repeat_opens, annotations_fail, effect_fails, scope_fails, ending_fails, policy_done, policy_stands, span_ends}
 use Rattle.cedar_cst.proofs.cst.policies.parse_policy.Goals as goal
 use Rattle.cedar_tree.specs.Erased.{cond_parts}

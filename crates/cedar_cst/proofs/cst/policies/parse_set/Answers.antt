@@ -4,13 +4,13 @@ use Rattle.cedar_grammar.specs.Trees.{Label}
 use Rattle.cedar_grammar.specs.Reader.Reading.{Reader}
 use Rattle.cedar_grammar.specs.Reader.Lines.{policy_rule}
 use Rattle.cedar_tree.specs.Erased.{policy_parts}
-use Rattle.cedar_parser_expressions.specs.ReadingExprs.{at_depth}
-use Rattle.cedar_parser_steps.specs.declared.lexeme.Lexeme.{Lexeme}
-use Rattle.cedar_parser_steps.proofs.Steps.{passes}
-use Rattle.cedar_parser_steps.proofs.Refusals.{refused}
-use Rattle.cedar_parser_steps.proofs.Operands.{keep_done, keep_fails, keep_shorter}
-use Rattle.cedar_parser_steps.proofs.Manys.{many_first, many_next}
-use Rattle.cedar_parser_expressions.proofs.Depths.{depth_takes}
+use Rattle.cedar_cst.specs.ReadingExprs.{at_depth}
+use Rattle.cedar_reading.specs.declared.lexeme.Lexeme.{Lexeme}
+use Rattle.cedar_reading.proofs.Steps.{passes}
+use Rattle.cedar_reading.proofs.Refusals.{refused}
+use Rattle.cedar_reading.proofs.Operands.{keep_done, keep_fails, keep_shorter}
+use Rattle.cedar_reading.proofs.Manys.{many_first, many_next}
+use Rattle.cedar_cst.proofs.Depths.{depth_takes}
 use Rattle.cedar_cst.proofs.Sets.{starts, set_fails, set_left, set_stuck, set_done, set_given}
 use Rattle.cedar_cst.proofs.cst.policies.parse_set.Goals as goal
 

@@ -1,6 +1,6 @@
 use Rattle.std.proofs.Common.{◌≡◌, ◌<◌, ◌+◌, ℕ, zero, suc, List, [], ◌∷◌, ◌++◌, length, map, take, drop, get_or, refl, sym, ap, ◌∙◌, arith}
 use Rattle.std.specs.Prelude.{slice_set}
-use Rattle.cedar_parser_steps.specs.declared.lexeme.Lexeme.{Lexeme}
+use Rattle.cedar_reading.specs.declared.lexeme.Lexeme.{Lexeme}
 use Rattle.cedar_cst.specs.Inside.Parts.{moved_lexeme}
 use Rattle.cedar_cst.proofs.cst.reader.move_spans.Goals as goal
 

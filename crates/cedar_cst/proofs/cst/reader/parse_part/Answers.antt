@@ -1,7 +1,7 @@
 use Rattle.std.proofs.Common.{arith, subst, Ok, Err}
 use Rattle.cedar_grammar.specs.Texts.{greatest_depth}
 use Rattle.cedar_grammar.specs.Reader.Lines.{set_to}
-use Rattle.cedar_parser_steps.specs.Reading.{kind}
+use Rattle.cedar_reading.specs.Reading.{kind}
 use Rattle.cedar_cst.specs.Inside.ReadingSet.{GivesSet}
 use Rattle.cedar_cst.proofs.Moved.{lexeme_inside, part_tree, part_grammar, part_deep}
 use Rattle.cedar_cst.proofs.cst.reader.parse_part.Goals as goal

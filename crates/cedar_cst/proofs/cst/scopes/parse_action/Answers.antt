@@ -6,12 +6,12 @@ use Rattle.cedar_grammar.specs.Reader.Reading.{Reader}
 use Rattle.cedar_grammar.specs.Reader.Rules.{word_of, entity}
 use Rattle.cedar_grammar.specs.Reader.Lines.{◌∥◌, operand}
 use Rattle.cedar_grammar.proofs.Readers.Equations.{onto}
-use Rattle.cedar_parser_steps.specs.Reading.{flat}
-use Rattle.cedar_parser_steps.specs.ReadingParts.{entity_list}
-use Rattle.cedar_parser_steps.specs.declared.lexeme.Lexeme.{Lexeme}
-use Rattle.cedar_parser_steps.proofs.Steps.{passes}
-use Rattle.cedar_parser_steps.proofs.Refusals.{refused}
-use Rattle.cedar_parser_steps.proofs.Variables.{acted, acted_equal, acted_in, acted_none, variable_done, variable_fails, variable_alone, variable_equal, variable_in}
+use Rattle.cedar_reading.specs.Reading.{flat}
+use Rattle.cedar_reading.specs.ReadingParts.{entity_list}
+use Rattle.cedar_reading.specs.declared.lexeme.Lexeme.{Lexeme}
+use Rattle.cedar_reading.proofs.Steps.{passes}
+use Rattle.cedar_reading.proofs.Refusals.{refused}
+use Rattle.cedar_reading.proofs.Variables.{acted, acted_equal, acted_in, acted_none, variable_done, variable_fails, variable_alone, variable_equal, variable_in}
 use Rattle.cedar_cst.proofs.cst.scopes.parse_action.Goals as goal
 
 abbrev W : Reader Lexeme

@@ -4,7 +4,7 @@ use Rattle.cedar_tokens.specs.Kinds.{is}
 use Rattle.cedar_grammar.specs.Trees.{Label, none, leaf}
 use Rattle.cedar_grammar.proofs.KindSets.{apart_at}
 use Rattle.cedar_grammar.proofs.Readers.Equations.{tree_done}
-use Rattle.cedar_parser_steps.proofs.Steps.{word_stands, is_itself}
+use Rattle.cedar_reading.proofs.Steps.{word_stands, is_itself}
 use Rattle.cedar_cst.proofs.cst.scopes.parse_action_word.Goals as goal
 
 pub returns-clause-reads : goal.returns-clause-reads

@@ -4,14 +4,14 @@ use Rattle.cedar_grammar.specs.Trees.{Label, none, branch, join}
 use Rattle.cedar_grammar.specs.Reader.Reading.{done}
 use Rattle.cedar_grammar.specs.Reader.Lines.{entity_item}
 use Rattle.cedar_tree.specs.Erased.{expr_parts}
-use Rattle.cedar_parser_steps.specs.Reading.{flat}
-use Rattle.cedar_parser_expressions.specs.ReadingItems.{StandsItems}
+use Rattle.cedar_reading.specs.Reading.{flat}
+use Rattle.cedar_cst.specs.ReadingItems.{StandsItems}
 use Rattle.cedar_tree.specs.NodeLists.{item_trees}
-use Rattle.cedar_parser_steps.proofs.Steps.{passes}
-use Rattle.cedar_parser_steps.proofs.Refusals.{refused}
-use Rattle.cedar_parser_steps.proofs.Manys.{flat_takes}
-use Rattle.cedar_parser_steps.proofs.Operands.{keep_done, keep_fails, keep_shorter}
-use Rattle.cedar_parser_expressions.proofs.Listed.{items_next, items_last_read, items_stuck, items_end, last_item}
+use Rattle.cedar_reading.proofs.Steps.{passes}
+use Rattle.cedar_reading.proofs.Refusals.{refused}
+use Rattle.cedar_reading.proofs.Manys.{flat_takes}
+use Rattle.cedar_reading.proofs.Operands.{keep_done, keep_fails, keep_shorter}
+use Rattle.cedar_cst.proofs.Listed.{items_next, items_last_read, items_stuck, items_end, last_item}
 use Rattle.cedar_cst.proofs.cst.scopes.parse_entities.Goals as goal
 
 pub returns-in_err-keep-clause-reads : goal.returns-in_err-keep-clause-reads

@@ -2,10 +2,10 @@ use Rattle.std.proofs.Common.{refl, sym, ◌∙◌, []}
 use Rattle.cedar_grammar.specs.Trees.{Label}
 use Rattle.cedar_grammar.proofs.Readers.Equations.{choice_yes, choice_no}
 use Rattle.cedar_tree.specs.Erased.{add_parts}
-use Rattle.cedar_parser_steps.proofs.Steps.{passes, gives_as}
-use Rattle.cedar_parser_steps.proofs.Refusals.{refused}
-use Rattle.cedar_parser_steps.proofs.Rows.{row_node}
-use Rattle.cedar_parser_steps.proofs.Operands.{operand_done, operand_fails, operand_stands}
+use Rattle.cedar_reading.proofs.Steps.{passes, gives_as}
+use Rattle.cedar_reading.proofs.Refusals.{refused}
+use Rattle.cedar_reading.proofs.Rows.{row_node}
+use Rattle.cedar_reading.proofs.Operands.{operand_done, operand_fails, operand_stands}
 use Rattle.cedar_cst.proofs.cst.scopes.parse_entities_operand.Goals as goal
 
 pub returns-in_err-entities-clause-reads : goal.returns-in_err-entities-clause-reads

@@ -1,7 +1,7 @@
 use Rattle.cedar_grammar.specs.Reader.Rules.{entity}
 use Rattle.cedar_grammar.specs.Reader.Lines.{operand}
-use Rattle.cedar_parser_steps.specs.Reading.{flat}
-use Rattle.cedar_parser_steps.proofs.LoneExprs.{lone_gives}
+use Rattle.cedar_reading.specs.Reading.{flat}
+use Rattle.cedar_reading.proofs.LoneExprs.{lone_gives}
 use Rattle.cedar_cst.proofs.cst.scopes.parse_entity_expr.Goals as goal
 
 pub returns-clause-reads : goal.returns-clause-reads

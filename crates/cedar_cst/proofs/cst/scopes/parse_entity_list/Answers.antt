@@ -4,8 +4,8 @@ use Rattle.cedar_grammar.specs.Trees.{Label}
 use Rattle.cedar_grammar.specs.Reader.Rules.{items}
 use Rattle.cedar_grammar.specs.Reader.Lines.{maybe, entity_item}
 use Rattle.cedar_tree.specs.Erased.{expr_parts}
-use Rattle.cedar_parser_steps.specs.Reading.{flat}
-use Rattle.cedar_parser_expressions.proofs.Bracketed.{square, enclosed_reader, enclosed_gives, primary_gives}
+use Rattle.cedar_reading.specs.Reading.{flat}
+use Rattle.cedar_cst.proofs.Bracketed.{square, enclosed_reader, enclosed_gives, primary_gives}
 use Rattle.cedar_cst.proofs.cst.scopes.parse_entity_list.Goals as goal
 
 pub returns-clause-reads : goal.returns-clause-reads

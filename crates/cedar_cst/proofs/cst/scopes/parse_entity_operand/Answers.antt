@@ -1,7 +1,7 @@
 use Rattle.std.proofs.Common.{refl, []}
 use Rattle.cedar_grammar.specs.Trees.{Label}
-use Rattle.cedar_parser_steps.proofs.Rows.{row_node}
-use Rattle.cedar_parser_steps.proofs.Operands.{operand_done, operand_stands}
+use Rattle.cedar_reading.proofs.Rows.{row_node}
+use Rattle.cedar_reading.proofs.Operands.{operand_done, operand_stands}
 use Rattle.cedar_cst.proofs.cst.scopes.parse_entity_operand.Goals as goal
 
 pub returns-clause-reads : goal.returns-clause-reads

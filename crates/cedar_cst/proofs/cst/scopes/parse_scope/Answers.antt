@@ -3,12 +3,12 @@ use Rattle.cedar_grammar.specs.Trees.{Label}
 use Rattle.cedar_grammar.specs.Reader.Reading.{Reader}
 use Rattle.cedar_grammar.specs.Reader.Lines.{scoped, action}
 use Rattle.cedar_grammar.proofs.Readers.Equations.{both_fails, both_then_fails}
-use Rattle.cedar_parser_steps.specs.Reading.{flat}
-use Rattle.cedar_parser_steps.specs.declared.lexeme.Lexeme.{Lexeme}
-use Rattle.cedar_parser_steps.proofs.Steps.{passes}
-use Rattle.cedar_parser_steps.proofs.Refusals.{refused}
-use Rattle.cedar_parser_steps.proofs.Followed.{followed_fails, followed_done}
-use Rattle.cedar_parser_expressions.proofs.Scopes.{closing, first_fails, second_fails, action_fails, third_fails, scope_done, closed_scope, closing_stuck}
+use Rattle.cedar_reading.specs.Reading.{flat}
+use Rattle.cedar_reading.specs.declared.lexeme.Lexeme.{Lexeme}
+use Rattle.cedar_reading.proofs.Steps.{passes}
+use Rattle.cedar_reading.proofs.Refusals.{refused}
+use Rattle.cedar_reading.proofs.Followed.{followed_fails, followed_done}
+use Rattle.cedar_cst.proofs.Scopes.{closing, first_fails, second_fails, action_fails, third_fails, scope_done, closed_scope, closing_stuck}
 use Rattle.cedar_cst.proofs.cst.scopes.parse_scope.Goals as goal
 use Rattle.cedar_tree.specs.Erased.{variable_parts}
 

@@ -5,13 +5,13 @@ use Rattle.cedar_grammar.specs.Reader.Reading.{Reader}
 use Rattle.cedar_grammar.specs.Reader.Rules.{word_of}
 use Rattle.cedar_grammar.specs.Reader.Lines.{path, entity_or}
 use Rattle.cedar_grammar.proofs.Readers.Equations.{onto, both_fails}
-use Rattle.cedar_parser_steps.specs.Reading.{flat}
-use Rattle.cedar_parser_steps.specs.ReadingParts.{slot_kind, variable_kind}
-use Rattle.cedar_parser_steps.specs.declared.lexeme.Lexeme.{Lexeme}
+use Rattle.cedar_reading.specs.Reading.{flat}
+use Rattle.cedar_reading.specs.ReadingParts.{slot_kind, variable_kind}
+use Rattle.cedar_reading.specs.declared.lexeme.Lexeme.{Lexeme}
 use Rattle.cedar_tree.specs.declared.tree.Slot.{Slot}
-use Rattle.cedar_parser_steps.proofs.Steps.{passes}
-use Rattle.cedar_parser_steps.proofs.Refusals.{refused}
-use Rattle.cedar_parser_steps.proofs.Variables.{related, equal_reads, type_reads, typed_reads, member_reads, none_reads, in_reads, in_none, variable_done, variable_fails, variable_alone, variable_equal, variable_in, variable_is, variable_is_in}
+use Rattle.cedar_reading.proofs.Steps.{passes}
+use Rattle.cedar_reading.proofs.Refusals.{refused}
+use Rattle.cedar_reading.proofs.Variables.{related, equal_reads, type_reads, typed_reads, member_reads, none_reads, in_reads, in_none, variable_done, variable_fails, variable_alone, variable_equal, variable_in, variable_is, variable_is_in}
 use Rattle.cedar_cst.proofs.cst.scopes.parse_variable.Goals as goal
 
 abbrev W : Slot → Reader Lexeme

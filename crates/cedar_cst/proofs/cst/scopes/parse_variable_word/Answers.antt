@@ -3,10 +3,10 @@ use Rattle.cedar_tokens.specs.Kinds.{is}
 use Rattle.cedar_grammar.specs.Trees.{Label, none, leaf}
 use Rattle.cedar_grammar.specs.Reader.Reading.{done, one}
 use Rattle.cedar_grammar.proofs.Readers.Equations.{tree_done}
-use Rattle.cedar_parser_steps.specs.Reading.{kind}
-use Rattle.cedar_parser_steps.specs.ReadingParts.{variable_kind}
-use Rattle.cedar_parser_steps.proofs.Steps.{word_stands, is_itself}
-use Rattle.cedar_parser_steps.proofs.Variables.{variables_apart}
+use Rattle.cedar_reading.specs.Reading.{kind}
+use Rattle.cedar_reading.specs.ReadingParts.{variable_kind}
+use Rattle.cedar_reading.proofs.Steps.{word_stands, is_itself}
+use Rattle.cedar_reading.proofs.Variables.{variables_apart}
 use Rattle.cedar_cst.proofs.cst.scopes.parse_variable_word.Goals as goal
 
 pub returns-clause-reads : goal.returns-clause-reads

@@ -1,7 +1,7 @@
 use Rattle.std.proofs.Common.{◌≡◌, to_z, of_z, w64, arith, rules, refl}
 use Rattle.std.proofs.lemmas.Int.{ints}
 use Rattle.cedar_tree.specs.NodeLists.{member_parts}
-use Rattle.cedar_document_rows.specs.Found.{has_its_tokens}
+use Rattle.cedar_documents.specs.Found.{has_its_tokens}
 use Rattle.cedar_documents.proofs.Answered.{Called, kept_after, none_after, order_after, shown_row}
 use Rattle.cedar_documents.proofs.doc.MemberDoc.to_doc.Goals as goal
 

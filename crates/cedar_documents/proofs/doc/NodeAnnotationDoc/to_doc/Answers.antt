@@ -2,7 +2,7 @@ use Rattle.std.proofs.Common.{rules, refl}
 use Rattle.std.proofs.Math.Bool.{and-true}
 use Rattle.cedar_tree.specs.Erased.{node, annotation_parts}
 use Rattle.cedar_grammar.specs.Trees.{Label, none}
-use Rattle.cedar_document_rows.specs.Found.{has_its_tokens}
+use Rattle.cedar_documents.specs.Found.{has_its_tokens}
 use Rattle.cedar_documents.proofs.Answered.{Called, kept_after, none_after, order_after, shown_part}
 use Rattle.cedar_documents.proofs.OwnTokens.{signed_part}
 use Rattle.cedar_documents.proofs.doc.NodeAnnotationDoc.to_doc.Goals as goal

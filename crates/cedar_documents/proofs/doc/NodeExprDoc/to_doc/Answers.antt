@@ -3,7 +3,7 @@ use Rattle.std.proofs.lemmas.Int.{ints}
 use Rattle.std.proofs.Math.Bool.{and-true}
 use Rattle.cedar_tree.specs.Erased.{expr_parts, node}
 use Rattle.cedar_grammar.specs.Trees.{Label, none}
-use Rattle.cedar_document_rows.specs.Found.{has_its_tokens}
+use Rattle.cedar_documents.specs.Found.{has_its_tokens}
 use Rattle.cedar_documents.proofs.Answered.{Called, kept_after, none_after, order_after, shown_node}
 use Rattle.cedar_documents.proofs.OwnTokens.{signed_tree}
 use Rattle.cedar_documents.proofs.doc.NodeExprDoc.to_doc.Goals as goal

@@ -1,7 +1,7 @@
 use Rattle.std.proofs.Common.{rules, ◌∙◌}
 use Rattle.cedar_tree.specs.Erased.{literal_text, node, variant_label}
 use Rattle.cedar_grammar.specs.Trees.{leaf, none}
-use Rattle.cedar_document_rows.specs.Found.{places, starts}
+use Rattle.cedar_documents.specs.Found.{places, starts}
 use Rattle.cedar_documents.proofs.Answered.{Called, kept_after, literal_found, none_after, order_after, shown_leaf}
 use Rattle.cedar_documents.proofs.doc.NodeLiteralDoc.to_doc.Goals as goal
 

@@ -2,7 +2,7 @@ use Rattle.std.proofs.Common.{rules, refl, codes}
 use Rattle.std.proofs.Math.Bool.{and-true}
 use Rattle.cedar_tree.specs.Erased.{name_tree, ref_tree, str_tree}
 use Rattle.cedar_grammar.specs.Trees.{Label, leaf, none}
-use Rattle.cedar_document_rows.specs.Found.{has_its_tokens}
+use Rattle.cedar_documents.specs.Found.{has_its_tokens}
 use Rattle.cedar_documents.proofs.Answered.{Called, kept_after, none_after, order_after, shown_node}
 use Rattle.cedar_documents.proofs.OwnTokens.{signed_tree}
 use Rattle.cedar_documents.proofs.doc.NodeRefDoc.to_doc.Goals as goal

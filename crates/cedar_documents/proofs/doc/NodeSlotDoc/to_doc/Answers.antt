@@ -2,7 +2,7 @@ use Rattle.std.proofs.Common.{rules, ◌∙◌}
 use Rattle.std.proofs.Math.Bool.{and-true}
 use Rattle.cedar_tree.specs.Erased.{node, slot_text}
 use Rattle.cedar_grammar.specs.Trees.{Label, leaf, none}
-use Rattle.cedar_document_rows.specs.Found.{starts}
+use Rattle.cedar_documents.specs.Found.{starts}
 use Rattle.cedar_documents.proofs.Answered.{Called, kept_after, none_after, order_after, shown_leaf}
 use Rattle.cedar_documents.proofs.doc.NodeSlotDoc.to_doc.Goals as goal
 

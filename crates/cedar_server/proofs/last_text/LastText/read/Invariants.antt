@@ -1,6 +1,6 @@
 use Rattle.std.proofs.Common.{◌≡◌, ◌≤◌, ◌-◌, length}
 use Rattle.std.specs.List.{All}
-use Rattle.cedar_advice.specs.Diagnoses.{most}
+use Rattle.cedar_server.specs.Diagnoses.{most}
 use Rattle.cedar_server.proofs.Told.{Told}
 use Rattle.cedar_server.specs.Inside.Standing.{StandsAt}
 use Rattle.cedar_server.proofs.last_text.LastText.read.Given as goal

@@ -1,5 +1,5 @@
 use Rattle.std.proofs.Common.{string_bytes, ap, sym, subst, ◌∙◌}
-use Rattle.cedar_advice.specs.Diagnoses.{AreDiagnoses}
+use Rattle.cedar_server.specs.Diagnoses.{AreDiagnoses}
 use Rattle.cedar_server.proofs.server.Server.open.Goals as goal
 
 pub returns-clause-ok : goal.returns-clause-ok

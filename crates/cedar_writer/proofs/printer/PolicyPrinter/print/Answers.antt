@@ -1,5 +1,5 @@
 use Rattle.std.proofs.Common.{ap, subst, sym, ◌∙◌}
-use Rattle.cedar_slices.specs.SameTokens.{HasTheTokens}
+use Rattle.cedar_reading.specs.SameTokens.{HasTheTokens}
 use Rattle.cedar_writer.proofs.Printed.{has_tokens_read, output_of}
 use Rattle.cedar_writer.proofs.printer.PolicyPrinter.print.Goals as goal
 

@@ -3,13 +3,13 @@ use Rattle.std.specs.Prelude.{◌||◌}
 use Rattle.cedar_tokens.specs.declared.kind.Kind.TheVariants as K
 use Rattle.cedar_tokens.specs.Kinds.{is}
 use Rattle.cedar_print.specs.WrittenMarks as M
-use Rattle.cedar_lines.specs.Rules.{inner, line, maybe, nest, star, tok, end_group, ◌▸◌}
-use Rattle.cedar_lines.specs.Writing as W
+use Rattle.cedar_writer.specs.Rules.{inner, line, maybe, nest, star, tok, end_group, ◌▸◌}
+use Rattle.cedar_writer.specs.Writing as W
 use Rattle.cedar_writer.specs.Depths.{alone, at_depth, often_at}
-use Rattle.cedar_lines.specs.Lines.{below, init, str}
+use Rattle.cedar_writer.specs.Lines.{below, init, str}
 use Rattle.cedar_writer.specs.Parts.{access, accesses, add, and, call, called, grouped_member, is_in, member, mult, next_access, next_and, next_factor, next_relation, next_summand, or, relation, relation_end, some_arguments, some_exprs, some_inits, unary}
 use Rattle.cedar_writer.specs.Parts.{last_comma}
-use Rattle.cedar_lines.specs.Lines.{path}
+use Rattle.cedar_writer.specs.Lines.{path}
 use Rattle.cedar_writer.proofs.Loops.{depth_less, depth_turn, depth_over, often_at_less, often_at_turn, often_at_over}
 use Rattle.cedar_writer.proofs.Lines.{expr_by_if, expr_by_or, opened}
 use Rattle.cedar_writer.proofs.writer.Writer.+rows.Goals as goal

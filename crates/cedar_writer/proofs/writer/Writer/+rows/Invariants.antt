@@ -1,8 +1,8 @@
 use Rattle.std.proofs.Common.{◌≡◌, ◌+◌, ◌*◌}
 use Rattle.cedar_tokens.specs.declared.kind.Kind.TheVariants as K
-use Rattle.cedar_lines.specs.Rules.{inner, line, star, ◌▸◌}
-use Rattle.cedar_lines.specs.Lines.{init}
-use Rattle.cedar_lines.specs.Writing.{size}
+use Rattle.cedar_writer.specs.Rules.{inner, line, star, ◌▸◌}
+use Rattle.cedar_writer.specs.Lines.{init}
+use Rattle.cedar_writer.specs.Writing.{size}
 use Rattle.cedar_writer.specs.Depths.{at_depth, often_at}
 use Rattle.cedar_writer.specs.Parts.{next_and, next_relation, next_summand, next_factor, next_access}
 use Rattle.cedar_writer.proofs.writer.Writer.+rows.Given as goal

@@ -1,5 +1,5 @@
 use Rattle.std.proofs.Common.{refl, sym, ◌∙◌}
-use Rattle.cedar_lines.specs.Lines.{annotation}
+use Rattle.cedar_writer.specs.Lines.{annotation}
 use Rattle.cedar_writer.proofs.Loops.{alone_less, alone_turn, alone_over}
 use Rattle.cedar_writer.proofs.writer.Writer.annotations.Goals as goal
 

@@ -1,7 +1,7 @@
 use Rattle.std.proofs.Common.{◌≡◌}
-use Rattle.cedar_lines.specs.Rules.{star}
-use Rattle.cedar_lines.specs.Writing.{size}
-use Rattle.cedar_lines.specs.Lines.{annotation}
+use Rattle.cedar_writer.specs.Rules.{star}
+use Rattle.cedar_writer.specs.Writing.{size}
+use Rattle.cedar_writer.specs.Lines.{annotation}
 use Rattle.cedar_writer.specs.Depths.{alone}
 use Rattle.cedar_writer.proofs.writer.Writer.annotations.Given as goal
 

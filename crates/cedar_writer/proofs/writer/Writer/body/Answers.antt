@@ -1,7 +1,7 @@
 use Rattle.std.proofs.Common.{sym, ap, ◌∙◌}
-use Rattle.cedar_lines.specs.Rules.{◌▸◌}
-use Rattle.cedar_lines.specs.Lines.{bare}
-use Rattle.cedar_lines.specs.Writing as W
+use Rattle.cedar_writer.specs.Rules.{◌▸◌}
+use Rattle.cedar_writer.specs.Lines.{bare}
+use Rattle.cedar_writer.specs.Writing as W
 use Rattle.cedar_writer.specs.Depths.{around}
 use Rattle.cedar_writer.specs.Parts.{bare_scope, broken_scope, policy_end}
 use Rattle.cedar_writer.proofs.Lines.{taken, left}

@@ -1,6 +1,6 @@
 use Rattle.std.proofs.Common.{ap, ◌∙◌}
 use Rattle.cedar_print.specs.WrittenMarks as M
-use Rattle.cedar_lines.specs.Writing as W
+use Rattle.cedar_writer.specs.Writing as W
 use Rattle.cedar_writer.specs.Depths.{alone}
 use Rattle.cedar_writer.specs.Parts.{broken_scope, variables}
 use Rattle.cedar_writer.proofs.writer.Writer.broken_scope.Goals as goal

@@ -1,9 +1,9 @@
 use Rattle.std.proofs.Common.{ap, ◌∙◌, [], ◌∷◌}
 use Rattle.cedar_tokens.specs.Kinds.{is_cond_word}
 use Rattle.cedar_print.specs.WrittenMarks as M
-use Rattle.cedar_lines.specs.Writing as W
+use Rattle.cedar_writer.specs.Writing as W
 use Rattle.cedar_writer.specs.Depths.{around}
-use Rattle.cedar_lines.specs.Lines.{block}
+use Rattle.cedar_writer.specs.Lines.{block}
 use Rattle.cedar_writer.proofs.writer.Writer.cond.Goals as goal
 
 pub returns : goal.returns

@@ -1,7 +1,7 @@
 use Rattle.std.proofs.Common.{ap, ◌∙◌}
-use Rattle.cedar_lines.specs.Rules.{◌∥◌}
+use Rattle.cedar_writer.specs.Rules.{◌∥◌}
 use Rattle.cedar_writer.specs.Depths.{alone}
-use Rattle.cedar_lines.specs.Lines.{entity}
+use Rattle.cedar_writer.specs.Lines.{entity}
 use Rattle.cedar_writer.specs.Parts.{entities, entities_operand}
 use Rattle.cedar_writer.specs.Parts.{end_operand}
 use Rattle.cedar_writer.proofs.writer.Writer.entities_operand.Goals as goal

@@ -1,10 +1,10 @@
 use Rattle.std.proofs.Common.{ap, ◌∙◌}
 use Rattle.cedar_tokens.specs.declared.kind.Kind.TheVariants as K
 use Rattle.cedar_tokens.specs.Kinds.{is}
-use Rattle.cedar_lines.specs.Rules.{never}
-use Rattle.cedar_lines.specs.Writing as W
+use Rattle.cedar_writer.specs.Rules.{never}
+use Rattle.cedar_writer.specs.Writing as W
 use Rattle.cedar_writer.specs.Depths.{alone, often}
-use Rattle.cedar_lines.specs.Lines.{ident, str}
+use Rattle.cedar_writer.specs.Lines.{ident, str}
 use Rattle.cedar_writer.proofs.writer.Writer.entity.Goals as goal
 
 pub returns : goal.returns

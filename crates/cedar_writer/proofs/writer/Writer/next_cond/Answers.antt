@@ -1,6 +1,6 @@
 use Rattle.std.proofs.Common.{ap, ◌∙◌}
 use Rattle.cedar_writer.specs.Depths.{around}
-use Rattle.cedar_lines.specs.Lines.{cond}
+use Rattle.cedar_writer.specs.Lines.{cond}
 use Rattle.cedar_writer.proofs.writer.Writer.next_cond.Goals as goal
 
 pub returns : goal.returns

@@ -1,6 +1,6 @@
 use Rattle.std.proofs.Common.{◌≡◌}
-use Rattle.cedar_lines.specs.Rules.{star}
-use Rattle.cedar_lines.specs.Writing.{size}
+use Rattle.cedar_writer.specs.Rules.{star}
+use Rattle.cedar_writer.specs.Writing.{size}
 use Rattle.cedar_writer.specs.Depths.{around}
 use Rattle.cedar_writer.specs.Parts.{next_cond}
 use Rattle.cedar_writer.proofs.writer.Writer.next_conds.Given as goal

@@ -1,6 +1,6 @@
 use Rattle.std.proofs.Common.{sym, ◌∙◌}
 use Rattle.cedar_tokens.specs.declared.kind.Kind.TheVariants as K
-use Rattle.cedar_lines.specs.Rules.{line, ◌▸◌}
+use Rattle.cedar_writer.specs.Rules.{line, ◌▸◌}
 use Rattle.cedar_writer.specs.Parts.{entity_operand}
 use Rattle.cedar_writer.proofs.Loops.{often_less, often_turn, often_over}
 use Rattle.cedar_writer.proofs.writer.Writer.next_entities.Goals as goal

@@ -1,7 +1,7 @@
 use Rattle.std.proofs.Common.{◌≡◌}
 use Rattle.cedar_tokens.specs.declared.kind.Kind.TheVariants as K
-use Rattle.cedar_lines.specs.Writing.{size}
-use Rattle.cedar_lines.specs.Rules.{line, ◌▸◌}
+use Rattle.cedar_writer.specs.Writing.{size}
+use Rattle.cedar_writer.specs.Rules.{line, ◌▸◌}
 use Rattle.cedar_writer.specs.Parts.{entity_operand}
 use Rattle.cedar_writer.specs.Depths.{often}
 use Rattle.cedar_writer.proofs.writer.Writer.next_entities.Given as goal

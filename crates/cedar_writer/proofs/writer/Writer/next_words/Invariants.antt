@@ -1,6 +1,6 @@
 use Rattle.std.proofs.Common.{◌≡◌}
-use Rattle.cedar_lines.specs.Rules.{star}
-use Rattle.cedar_lines.specs.Writing.{size}
+use Rattle.cedar_writer.specs.Rules.{star}
+use Rattle.cedar_writer.specs.Writing.{size}
 use Rattle.cedar_writer.specs.Parts.{next_word}
 use Rattle.cedar_writer.specs.Depths.{alone}
 use Rattle.cedar_writer.proofs.writer.Writer.next_words.Given as goal

@@ -1,7 +1,7 @@
 use Rattle.std.proofs.Common.{ap, ◌∙◌, []}
 use Rattle.cedar_tokens.specs.Kinds.{is}
 use Rattle.cedar_print.specs.WrittenMarks as M
-use Rattle.cedar_lines.specs.Writing as W
+use Rattle.cedar_writer.specs.Writing as W
 use Rattle.cedar_writer.specs.Depths.{alone}
 use Rattle.cedar_writer.specs.Parts.{scoped, scoped_end}
 use Rattle.cedar_writer.proofs.writer.Writer.scoped.Goals as goal

@@ -1,8 +1,8 @@
 use Rattle.std.proofs.Common.{sym, ap, ◌∙◌}
 use Rattle.cedar_tokens.specs.declared.kind.Kind.TheVariants as K
-use Rattle.cedar_lines.specs.Rules.{line, ◌▸◌}
-use Rattle.cedar_lines.specs.Lines.{items}
-use Rattle.cedar_lines.specs.Writing.{begins}
+use Rattle.cedar_writer.specs.Rules.{line, ◌▸◌}
+use Rattle.cedar_writer.specs.Lines.{items}
+use Rattle.cedar_writer.specs.Writing.{begins}
 use Rattle.cedar_tokens.specs.Kinds.{is_ident}
 use Rattle.cedar_writer.specs.Depths.{alone, often}
 use Rattle.cedar_writer.specs.Parts.{entity_operand, last_comma, some_entities}

@@ -1,6 +1,6 @@
 use Rattle.std.proofs.Common.{sym, ◌∙◌}
 use Rattle.cedar_tokens.specs.declared.kind.Kind.TheVariants as K
-use Rattle.cedar_lines.specs.Lines.{ident}
+use Rattle.cedar_writer.specs.Lines.{ident}
 use Rattle.cedar_writer.proofs.Loops.{often_less, often_turn, often_over}
 use Rattle.cedar_writer.proofs.writer.Writer.words.Goals as goal
 

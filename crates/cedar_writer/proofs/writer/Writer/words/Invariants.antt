@@ -1,7 +1,7 @@
 use Rattle.std.proofs.Common.{◌≡◌}
 use Rattle.cedar_tokens.specs.declared.kind.Kind.TheVariants as K
-use Rattle.cedar_lines.specs.Writing.{size}
-use Rattle.cedar_lines.specs.Lines.{ident}
+use Rattle.cedar_writer.specs.Writing.{size}
+use Rattle.cedar_writer.specs.Lines.{ident}
 use Rattle.cedar_writer.specs.Depths.{often}
 use Rattle.cedar_writer.proofs.writer.Writer.words.Given as goal
 

@@ -1,5 +1,5 @@
 use Rattle.std.proofs.Common.{sym, subst, ◌∙◌}
-use Rattle.cedar_parser_steps.specs.Lexemes.{AreLexemes}
+use Rattle.cedar_reading.specs.Lexemes.{AreLexemes}
 use Rattle.cedar_cst.proofs.Moved.{unmoved}
 use Rattle.cedar_cst.specs.Inside.Parts.{IsNext}
 use Rattle.cedar_cst.specs.PolicyReaders.{Position}

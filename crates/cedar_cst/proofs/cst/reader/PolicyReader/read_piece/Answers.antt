@@ -1,9 +1,9 @@
 use Rattle.std.proofs.Common.{◌≡◌, ◌∙◌, take, drop, refl, sym, ap, subst}
 use Rattle.std.proofs.lemmas.Result.{err_from_is_err_and}
 use Rattle.cedar_tree.specs.Refusals.{OutOfMemoryOr, Refuses}
-use Rattle.cedar_parser_steps.specs.Tokens.{HasTokens}
-use Rattle.cedar_parser_steps.specs.Lexemes.{AreLexemes}
-use Rattle.cedar_pieces.specs.Pieces.{IsFirstPiece, HasNoPiece}
+use Rattle.cedar_reading.specs.Tokens.{HasTokens}
+use Rattle.cedar_reading.specs.Lexemes.{AreLexemes}
+use Rattle.cedar_reading.specs.Pieces.{IsFirstPiece, HasNoPiece}
 use Rattle.cedar_cst.specs.Inside.Parts.{HasPoliciesFrom, RefusesFrom, IsNext}
 use Rattle.cedar_cst.specs.PolicyReaders.{Position, HasEnded}
 use Rattle.cedar_cst.proofs.Readers.{front, next_piece, only_policy, piece_refuses, reader_ends, rest_refuses, tokens_join, tokens_refuse}

@@ -1,3 +1,0 @@
-mod Expecting
-pub mod Lists
-mod Mending

@@ -1,5 +1,0 @@
-pub mod Inside
-pub mod Diagnoses
-pub mod Fixes
-pub mod Completions
-pub mod Laws

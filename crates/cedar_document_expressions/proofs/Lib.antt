@@ -1,9 +1,0 @@
-pub mod LastTokens
-pub mod Commas
-pub mod Primaries
-pub mod Ifs
-pub mod Chains
-pub mod Operands
-pub mod Relations
-pub mod SignTokens
-pub mod AccessTrees

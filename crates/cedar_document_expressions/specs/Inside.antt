@@ -1,3 +1,0 @@
--- Definitions used only by contracts below the formatter's own calls.
-pub mod Signs
-pub mod Breaks

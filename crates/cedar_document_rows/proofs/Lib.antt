@@ -1,7 +1,0 @@
-pub mod Keeping
-pub mod Found
-pub mod InTurn
-pub mod LookedUp
-pub mod Opened
-pub mod PathWords
-pub mod SingleTokens

@@ -1,3 +1,0 @@
-pub mod Kept
-pub mod Found
-pub mod NodeDocuments

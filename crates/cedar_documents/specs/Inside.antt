@@ -1,0 +1,4 @@
+-- Definitions cited only by the crate's own contracts and proofs.
+pub mod Signs
+pub mod Breaks
+pub mod Documents

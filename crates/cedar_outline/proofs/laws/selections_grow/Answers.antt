@@ -1,5 +1,0 @@
-use Rattle.cedar_outline.proofs.Growing.{selections_grow}
-use Rattle.cedar_outline.proofs.laws.selections_grow.Goals as goal
-
-pub returns : goal.returns
-returns c = selections_grow

@@ -1,8 +1,0 @@
-use Rattle.std.proofs.Common.{◌≡◌, ◌++◌, List, take}
-use Rattle.cedar_outline.specs.Symbols.{AreSymbolsOf}
-use Rattle.cedar_outline.specs.declared.symbols.Symbol.{Symbol}
-use Rattle.cedar_outline.proofs.symbols.push_symbols.Given as goal
-
-abbrev pub invariant-loop-policy : goal.invariant-loop-policy
-invariant-loop-policy l = (ss : List Symbol) × AreSymbolsOf l.section l.from (take l.policy-index l.policy-items) ss
-    × (l.symbols.items ≡ l.fn.symbols.items ++ ss)

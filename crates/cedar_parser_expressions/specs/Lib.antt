@@ -1,3 +1,0 @@
-pub mod Boxed
-pub mod ReadingExprs
-pub mod ReadingItems

@@ -1,2 +1,0 @@
--- Definitions cited only by contracts below the formatter's own calls.
-pub mod Steps

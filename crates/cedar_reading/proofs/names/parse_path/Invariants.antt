@@ -1,0 +1,10 @@
+use Rattle.std.proofs.Common.{◌<◌, length}
+use Rattle.cedar_reading.proofs.Paths.{PathRead}
+use Rattle.cedar_reading.proofs.names.parse_path.Given as goal
+
+abbrev pub invariant-words : goal.invariant-words
+invariant-words l =
+    (length l.rest < length l.fn.tokens) × PathRead l.fn.tokens l.path.items l.name l.rest
+
+abbrev pub decreases-words : goal.decreases-words
+decreases-words l = length l.rest

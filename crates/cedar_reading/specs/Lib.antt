@@ -1,0 +1,10 @@
+pub mod Inside
+pub mod Lines
+pub mod PlainListing
+pub mod SameTokens
+pub mod Pieces
+pub mod Lexemes
+pub mod Reading
+pub mod ReadingParts
+pub mod ReadingSigns
+pub mod Tokens

@@ -1,4 +1,0 @@
-pub mod Marks
-pub mod Signs
-pub mod Next
-pub mod Inside

@@ -1,4 +1,0 @@
-pub mod Inside
-pub mod Lines
-pub mod PlainListing
-pub mod SameTokens
