@@ -6,7 +6,7 @@ ghost use Rattle.cedar_expected.specs.Expectations.{IsExpected, NeverLeaves};
 
 use crate::expectation::Expected;
 use crate::kinds::names_of;
-use crate::probe::{continuation, place_of};
+use crate::probe::{place_of, what_follows};
 use cedar_cst::cst::PolicyReader;
 use cedar_tokens::units::Units;
 use cedar_tree::laws::{accepted_is_not_refused, refusal_is_unique};
@@ -22,7 +22,7 @@ pub fn expected<'src>(alloc: Global, text: &'src str) -> Result<Option<Expected<
     };
     let from = text.len() - leaving.rest.len();
     let (before, after) = leaving.rest.split_at(leaving.at - from);
-    let next = continuation(alloc, before)?;
+    let next = what_follows(alloc, before)?;
     let names = names_of(alloc, &next.kinds)?;
     Ok(Some(Expected {
         at: leaving.at,

@@ -24,7 +24,7 @@ pub struct Continuation {
 }
 
 /// What can follow the tokens of `text`, which are read once.
-pub fn continuation(alloc: Global, text: &str) -> Result<Continuation, AllocError>
+pub fn what_follows(alloc: Global, text: &str) -> Result<Continuation, AllocError>
     requires { HasTokens text.now }
     ensures kinds { IfOk result (λ next. KindsFollow text.now next.kinds.items.items) }
     ensures end { IfOk result (λ next. IsTrue next.end ↔ HasTree text.now) }

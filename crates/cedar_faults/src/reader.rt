@@ -12,7 +12,7 @@ use crate::moves::{moved, place};
 use crate::recovery::resume;
 use cedar_expected::expectation::Expected;
 use cedar_expected::kinds::names_of;
-use cedar_expected::probe::continuation;
+use cedar_expected::probe::what_follows;
 use cedar_reading::lexeme::Lexeme;
 use cedar_tree::error::FormatError;
 use std::alloc::{AllocError, Global};
@@ -182,7 +182,7 @@ fn describe<'src>(
     let part = marked(text, error);
     let at = place(error);
     let before = &text[..at];
-    let next = continuation(alloc, before)?;
+    let next = what_follows(alloc, before)?;
     let names = names_of(alloc, &next.kinds)?;
     let found = if at < text.len() {
         Some(&text[part.start..part.end])

@@ -16,8 +16,8 @@ split_at-requires c =
     let b : LeavesAfter text l = rw c.in-Some.is at c.in_ok-leaving.ensures in
     at_boundary text l b (rest_is_utf8 text l b c.utf8.text)
 
-pub continuation-requires : goal.continuation-requires
-continuation-requires c =
+pub what_follows-requires : goal.what_follows-requires
+what_follows-requires c =
     let b : LeavesAfter c.args.text.now c.in-Some.leaving =
     rw c.in-Some.is at c.in_ok-leaving.ensures in
     rw c.split_at.ensures.front (front_tokens c.args.text.now c.in-Some.leaving b)

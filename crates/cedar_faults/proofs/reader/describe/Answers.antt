@@ -11,8 +11,8 @@ range-before-requires-clause-end_boundary c =
     let text = c.args.text.now in
     reached_boundary text c.place-at.result (reached text c.args.error c.place-at.result c.requires c.place-at.ensures) c.utf8.text
 
-pub continuation-requires : goal.continuation-requires
-continuation-requires c =
+pub what_follows-requires : goal.what_follows-requires
+what_follows-requires c =
     let text = c.args.text.now in
     rw (c.range-before.ensures.value ∙ from_start text c.place-at.result)
     (front_tokens text c.place-at.result (reached text c.args.error c.place-at.result c.requires c.place-at.ensures))

@@ -3,7 +3,7 @@ use Rattle.std.specs.List.{filter}
 use Rattle.cedar_expected.proofs.Afters.{kinds_of}
 use Rattle.cedar_expected.specs.Inside.Pendings.{IsAfter}
 use Rattle.cedar_expected.proofs.Following.{follows}
-use Rattle.cedar_expected.proofs.probe.continuation.Given as goal
+use Rattle.cedar_expected.proofs.probe.what_follows.Given as goal
 
 -- of the kinds so far, those that can follow
 abbrev pub invariant-loop-kind : goal.invariant-loop-kind

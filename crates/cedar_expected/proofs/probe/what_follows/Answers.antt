@@ -10,8 +10,8 @@ use Rattle.cedar_expected.specs.Samples.{all_kinds}
 use Rattle.cedar_expected.proofs.Afters.{kinds_of, none_follows, reads_follow, ends_tree, never_tree}
 use Rattle.cedar_expected.proofs.Following.{follows, grown_by, not_grown}
 use Rattle.cedar_expected.proofs.Probed.{kinds_follow}
-use Rattle.cedar_expected.proofs.probe.continuation.Goals as goal
-use Rattle.cedar_expected.proofs.probe.continuation.Goals.{then-branch+in_ok-push, else-branch}
+use Rattle.cedar_expected.proofs.probe.what_follows.Goals as goal
+use Rattle.cedar_expected.proofs.probe.what_follows.Goals.{then-branch+in_ok-push, else-branch}
 
 pub returns-in_default-clause-kinds : goal.returns-in_default-clause-kinds
 returns-in_default-clause-kinds c =
