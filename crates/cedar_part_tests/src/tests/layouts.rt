@@ -270,7 +270,7 @@ struct Large {
     layout: &'static [Part],
 }
 
-static LARGE: [Large; 5] = [
+static LARGE_NESTS: [Large; 2] = [
     Large {
         name: "1,000 nests",
         growth: Growth::Nests,
@@ -283,25 +283,28 @@ static LARGE: [Large; 5] = [
         times: 100_000,
         layout: &[Once("\n"), Times(100_000, " "), Once("x")],
     },
-    Large {
-        name: "1,000,000 sequences",
-        growth: Growth::Sequences,
-        times: 1_000_000,
-        layout: &[Once("\n"), Times(1_000_000, "x"), Once("x")],
-    },
-    Large {
-        name: "1,000,000 texts in a row",
-        growth: Growth::Texts,
-        times: 1_000_000,
-        layout: &[Once("\n"), Times(1_000_000, "x"), Once("x")],
-    },
-    Large {
-        name: "1,000,000 groups in a row",
-        growth: Growth::Groups,
-        times: 1_000_000,
-        layout: &[Once("\n"), Times(1_000_000, "x"), Once("x")],
-    },
 ];
+
+static LARGE_SEQUENCES: Large = Large {
+    name: "1,000,000 sequences",
+    growth: Growth::Sequences,
+    times: 1_000_000,
+    layout: &[Once("\n"), Times(1_000_000, "x"), Once("x")],
+};
+
+static LARGE_TEXTS: Large = Large {
+    name: "1,000,000 texts in a row",
+    growth: Growth::Texts,
+    times: 1_000_000,
+    layout: &[Once("\n"), Times(1_000_000, "x"), Once("x")],
+};
+
+static LARGE_GROUPS: Large = Large {
+    name: "1,000,000 groups in a row",
+    growth: Growth::Groups,
+    times: 1_000_000,
+    layout: &[Once("\n"), Times(1_000_000, "x"), Once("x")],
+};
 
 fn expect_large(rt: &impl Abort, alloc: Global, row: &Large) {
     let start = seq(alloc, Document::Hard, Document::Text("x"), Document::Nil);
@@ -316,10 +319,25 @@ fn expect_large(rt: &impl Abort, alloc: Global, row: &Large) {
 }
 
 #[test]
-fn large_documents(rt: HostRuntime) {
-    for row in &LARGE {
+fn large_nests(rt: HostRuntime) {
+    for row in &LARGE_NESTS {
         expect_large(&rt, rt.alloc(), row);
     }
+}
+
+#[test]
+fn large_sequences(rt: HostRuntime) {
+    expect_large(&rt, rt.alloc(), &LARGE_SEQUENCES);
+}
+
+#[test]
+fn large_rows_of_texts(rt: HostRuntime) {
+    expect_large(&rt, rt.alloc(), &LARGE_TEXTS);
+}
+
+#[test]
+fn large_rows_of_groups(rt: HostRuntime) {
+    expect_large(&rt, rt.alloc(), &LARGE_GROUPS);
 }
 
 // A chain of appends is one sequence, without what is `Nil`.
