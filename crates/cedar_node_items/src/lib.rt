@@ -1,6 +1,7 @@
-//! The tokens that a node is made of, in its own words, and where its nodes begin.
+//! What a node says of its tokens, in its own words, and the document of marks: what the documents of nodes need beside the writer.
 #![tactic(auto)]
 
+pub mod document;
 pub mod expressions;
 pub mod items;
 pub mod names;
