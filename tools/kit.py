@@ -1,7 +1,11 @@
 """Where the Rattle kit lies, for the scripts that call its programs."""
 import os
+import re
 import subprocess
 import sys
+
+# Memory that the proof of a crate may take, in bytes.
+NEEDS = 4_000_000_000
 
 ROOT = os.path.dirname(os.path.dirname(os.path.realpath(__file__)))
 
@@ -26,6 +30,13 @@ def wanted():
     """The kit that the repository is proved with."""
     with open(f"{ROOT}/KIT", encoding="utf-8") as it:
         return it.read().strip()
+
+
+def lanes():
+    """How many proofs run at once: one on each core, as far as memory allows."""
+    with open("/proc/meminfo", encoding="ascii") as it:
+        free = 1024 * int(re.search(r"MemAvailable:\s+(\d+)", it.read())[1])
+    return max(1, min(len(os.sched_getaffinity(0)), free // NEEDS))
 
 
 def warn(script):

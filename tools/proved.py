@@ -12,6 +12,7 @@ import importlib.machinery
 import importlib.util
 import json
 import os
+import shutil
 import threading
 import time
 
@@ -75,6 +76,19 @@ def write_anew(file, text):
         os.remove(file)
     with open(file, "w", encoding="utf-8") as it:
         it.write(text)
+
+
+def copy_kept(folder, to):
+    """Copies what a check has kept. What was proved is given a second name where that can be: a check replaces such a file, and
+    changes none."""
+
+    def copy(one, other):
+        if one.endswith(".oantt"):
+            with contextlib.suppress(OSError):
+                return os.link(one, other)
+        return shutil.copy2(one, other)
+
+    shutil.copytree(folder, to, copy_function=copy)
 
 
 class Records:

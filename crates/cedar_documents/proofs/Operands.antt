@@ -1,15 +1,16 @@
 -- Nodes of operands, viewed as a first operand and a list of signs and operands.
-use Rattle.std.proofs.Common.{◌≡◌, refl, sym, ap, ◌∙◌}
+use Rattle.std.proofs.Common.{◌≡◌, sym, ap, ◌∙◌}
 use Rattle.cedar_grammar.specs.Trees.{Label}
-use Rattle.cedar_tree.specs.Erased.{node, add_parts, mult_parts, or_parts, or_rest, relation_parts, unary_parts}
-use Rattle.cedar_tree.specs.NodeLists.{and_parts}
+use Rattle.cedar_tree.specs.Erased.{node, add_parts, mult_parts, or_parts, or_rest, primary_parts, relation_parts, sign_leaves, unary_parts}
+use Rattle.cedar_grammar.specs.Trees.{none}
+use Rattle.cedar_tree.specs.NodeLists.{access_items, and_parts, member_parts}
 use Rattle.cedar_tree.specs.declared.tree.Add as Add
-use Rattle.cedar_tree.specs.declared.tree.And as And
 use Rattle.cedar_tree.specs.declared.tree.Mult as Mult
 use Rattle.cedar_tree.specs.declared.tree.Or as Or
-use Rattle.cedar_tree.specs.declared.tree.Expr.TheBlock.{shown-the_row-And-extended-2-3, items_shown-the_row-And-extended-2-3, items_shown-the_row-Or-extended-2-6, items_shown-the_row-Add-extended-4-2, items_shown-the_row-Mult-extended-4-5}
-use Rattle.cedar_tree.specs.declared.tree.Expr.TheViews.{out-Or, out-Add, out-Mult}
-use Rattle.cedar_tree.proofs.Views.{add_items, add_row, and_items, and_row, mult_items, mult_row, or_row, relation_items}
+use Rattle.cedar_tree.specs.declared.tree.Unary as Unary
+use Rattle.cedar_tree.specs.declared.tree.Expr.TheBlock.{shown-the_row-And-extended-2-3, items_shown-the_row-And-extended-2-3, items_shown-the_row-Or-extended-2-6, items_shown-the_row-Add-extended-4-2, items_shown-the_row-Mult-extended-4-5, items_shown-the_row-Member-access-2-4}
+use Rattle.cedar_tree.specs.declared.tree.Expr.TheViews.{out-Or, out-Add, out-Mult, out-Unary}
+use Rattle.cedar_tree.proofs.Views.{access_row, add_items, add_row, and_items, and_row, mult_items, mult_row, or_row, relation_items}
 
 pub mult_view : (m : Mult.Mult) → mult_parts m ≡ node Label.unary (out-Mult m).initial.span
     (unary_parts (out-Mult m).initial.inner) (mult_items (out-Mult m).extended.items)
@@ -33,6 +34,10 @@ or_view (Or.Or' r s v row t w rest) =
     (relation_items (shown-the_row-And-extended-2-3 v row).items)) z) (or_row _ rest
     ∙ ap and_items (sym (items_shown-the_row-Or-extended-2-6 w rest)))
 
-pub and_view : (a : And.And) → and_parts a ≡ node Label.relation a.initial.span (relation_parts
-    a.initial.inner) (relation_items a.extended.items)
-and_view a = refl
+-- a unary viewed as its signs and its member
+pub unary_view : (u : Unary.Unary) → unary_parts u ≡ sign_leaves (out-Unary u).op (node
+    Label.member (out-Unary u).item.span (member_parts (out-Unary u).item.inner) none)
+unfolding out-Unary denote.Hole.Carrier.out
+unary_view (Unary.Unary' op p s v row t) =
+    ap (λ z. sign_leaves op (node Label.member t (node Label.primary s (primary_parts p) z) none))
+    (access_row _ row ∙ ap access_items (sym (items_shown-the_row-Member-access-2-4 v row)))

@@ -1,6 +1,6 @@
 -- A part whose own tokens are consecutive has its tokens.
 use Rattle.std.proofs.Common.{◌≡◌, ℕ, suc, cond, Bool, true, false, List, [], ◌∷◌, ◌++◌, map, length, Option, Some, None, ◌==◌, ◌||◌, refl, sym, ap, ◌∙◌, subst}
-use Rattle.std.specs.Prelude.{⊤, ◌&&◌, nat_le, if◌then◌else◌}
+use Rattle.std.specs.Prelude.{◌&&◌, nat_le, if◌then◌else◌}
 use Rattle.std.specs.List.{filter}
 use Rattle.std.proofs.lemmas.List.{append_assoc}
 use Rattle.std.proofs.Math.Bool.{or-true}
@@ -12,11 +12,16 @@ use Rattle.cedar_grammar.specs.TypedTrees.{Tree, Clause, parts, part_parts, name
 use Rattle.cedar_grammar.specs.TypedTrees as kind
 use Rattle.cedar_layout.specs.Lookups.{Shown, stands_in}
 use Rattle.cedar_tree.specs.NodeTrees.{end_of, is_node, span_of}
-use Rattle.cedar_documents.specs.Found.{count_between, has_its_tokens, has_own, signs_before, start_of_node, starts}
-use Rattle.cedar_documents.proofs.Found.{and_true}
-use Rattle.cedar_documents.proofs.SignTokens.{those_between}
-use Rattle.cedar_documents.proofs.TypedNodes.{AreTyped, IsTyped, typed_part, typed_tree}
-use Rattle.cedar_documents.specs.NodeDocuments.{kind_of_shown, nodes_of, text_of}
+use Rattle.cedar_documents.specs.Found.{count_between, has_its_tokens, has_own, starts}
+use Rattle.cedar_documents.specs.Items.{signs_before, start_of_node}
+use Rattle.cedar_documents.specs.ShownNodes.{HasToken, IsSigned, HasMember, AreSigned}
+use Rattle.cedar_documents.proofs.Between.{those_between}
+use Rattle.cedar_documents.proofs.TypedNodes.{AreTyped, IsTyped}
+use Rattle.cedar_documents.specs.Taking.{nodes_of, text_of}
+use Rattle.cedar_documents.proofs.ShownTrees.{kind_of_shown}
+
+and_true : (b c : Bool) → b ≡ true → (b && c) ≡ c
+and_true b c h = ap (λ z. z && c) h
 
 -- the tokens ts are consecutive among others, which are at these places
 pub record Within (P : List Span) (ts : List Shown) : Type 0 where
@@ -56,25 +61,6 @@ pub first_starts : {P : List Span} (x : Shown) (ts : List Shown) → Within P (x
 first_starts x ts w = ap (starts x.span.start) w.all ∙ starts_among x w.before (ts ++ w.after)
 
 -- ---- signs
-
-abbrev SomeToken : Forest Label Shown → Type 0
-SomeToken f = (x : Shown) × (ts : List Shown) × (yield f ≡ x ∷ ts)
-
--- some tokens, then a member with tokens of its own
-abbrev IsSigned : Forest Label Shown → Type 0
-IsSigned none = ⊥
-IsSigned (leaf x f) = IsSigned f
-IsSigned (branch l f g) = (l ≡ Label.member) × (g ≡ none) × SomeToken f
-
-abbrev Own : Label → Forest Label Shown → Type 0
-Own Label.unary f = IsSigned f
-Own l f = ⊤
-
--- each unary of these trees consists of signs and a member
-abbrev pub AreSigned : Forest Label Shown → Type 0
-AreSigned none = ⊤
-AreSigned (leaf x f) = AreSigned f
-AreSigned (branch l f g) = Own l f × AreSigned f × AreSigned g
 
 -- the tokens before the member, and the first token of the member
 record AtMember (f : Forest Label Shown) : Type 0 where
@@ -168,7 +154,7 @@ one_token l (x ∷ ts) w g own n f =
     f record { start = x.span.start; end = end_of text_of (λ (t : Shown). t.span) x.span ts }
     ∙ first_starts x ts w
 
-owned : {P : List Span} (l : Label) (f : Forest Label Shown) → Own l f → Within P (yield f)
+owned : {P : List Span} (l : Label) (f : Forest Label Shown) → HasMember l f → Within P (yield f)
     → has_own P l (if is_node l then span_of text_of (λ t. t.span) (yield f)
     else None) (nodes_of f) ≡ true
 owned {P = P} Label.ident f o w =
@@ -187,14 +173,14 @@ owned Label.unary f o w = signs_are_there f o w
 owned l f o w = refl
 
 -- trees whose tokens are consecutive have their tokens
-pub own : {P : List Span} (f : Forest Label Shown) → AreSigned f → Within P (yield f)
+pub has_them : {P : List Span} (f : Forest Label Shown) → AreSigned f → Within P (yield f)
     → has_its_tokens P (nodes_of f) ≡ true
-own none s w = refl
-own (leaf x f) s w = own f s (back (x ∷ []) (yield f) w)
-own {P = P} (branch l f g) s w =
+has_them none s w = refl
+has_them (leaf x f) s w = has_them f s (back (x ∷ []) (yield f) w)
+has_them {P = P} (branch l f g) s w =
     let a = owned l f s.0 (front (yield f) (yield g) w) in
-    let b = own f s.1 (front (yield f) (yield g) w) in
-    let c = own g s.2 (back (yield f) (yield g) w) in
+    let b = has_them f s.1 (front (yield f) (yield g) w) in
+    let c = has_them g s.2 (back (yield f) (yield g) w) in
     and_true (has_own P l (if is_node l then span_of text_of (λ (t : Shown). t.span) (yield f)
     else None) (nodes_of f)) _ a ∙ and_true (has_its_tokens P (nodes_of f)) _ b ∙ c
 
@@ -204,14 +190,14 @@ nonempty_front : (xs ys : List Shown) → ((x : Shown) × (ts : List Shown) × (
     → (x : Shown) × (ts : List Shown) × (xs ++ ys ≡ x ∷ ts)
 nonempty_front xs ys (x, ts, e) = (x, ts ++ ys, ap (λ z. z ++ ys) e)
 
-name_token : (t : Tree Shown kind.name) → SomeToken (parts kind_of_shown t)
+name_token : (t : Tree Shown kind.name) → HasToken (parts kind_of_shown t)
 name_token (name_one x) = (x, [], refl)
 name_token (name_more x c r) = (x, _, refl)
 
-ref_token : (t : Tree Shown kind.ref) → SomeToken (parts kind_of_shown t)
+ref_token : (t : Tree Shown kind.ref) → HasToken (parts kind_of_shown t)
 ref_token (ref_of n c s) = nonempty_front (yield (parts kind_of_shown n)) _ (name_token n)
 
-primary_token : (t : Tree Shown kind.primary) → SomeToken (parts kind_of_shown t)
+primary_token : (t : Tree Shown kind.primary) → HasToken (parts kind_of_shown t)
 primary_token (literal x) = (x, [], refl)
 primary_token (slot x) = (x, [], refl)
 primary_token (reference r) = nonempty_front (yield (parts kind_of_shown r)) [] (ref_token r)
@@ -222,7 +208,7 @@ primary_token (list_of l a r) = (l, _, refl)
 primary_token (record_empty l r) = (l, _, refl)
 primary_token (record_of l a r) = (l, _, refl)
 
-member_token : (t : Tree Shown kind.member) → SomeToken (parts kind_of_shown t)
+member_token : (t : Tree Shown kind.member) → HasToken (parts kind_of_shown t)
 member_token (member_of p m) =
     nonempty_front (yield (parts kind_of_shown p)) (yield (parts kind_of_shown m)) (primary_token p)
 
@@ -231,17 +217,11 @@ unary_signed (unsigned m) = (refl, refl, member_token m)
 unary_signed (signed s u) = unary_signed u
 
 -- the parts of a typed unary are signs and a member
-own_of : (l : Label) (f : Forest Label Shown) → IsTyped l f → Own l f
+own_of : (l : Label) (f : Forest Label Shown) → IsTyped l f → HasMember l f
 own_of Label.unary f (t, e) = subst IsSigned (sym e) (unary_signed t)
 own_of l f t = tt
 
-signed_of : (f : Forest Label Shown) → AreTyped f → AreSigned f
+pub signed_of : (f : Forest Label Shown) → AreTyped f → AreSigned f
 signed_of none t = tt
 signed_of (leaf x f) t = signed_of f t
 signed_of (branch l f g) t = (own_of l f t.0, signed_of f t.1, signed_of g t.2)
-
-pub signed_tree : {k : kind.NodeKind} (t : Tree Shown k) → AreSigned (parts kind_of_shown t)
-signed_tree t = signed_of (parts kind_of_shown t) (typed_tree t)
-
-pub signed_part : {k : kind.PartKind} (t : Clause Shown k) → AreSigned (part_parts kind_of_shown t)
-signed_part t = signed_of (part_parts kind_of_shown t) (typed_part t)

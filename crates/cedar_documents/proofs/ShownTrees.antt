@@ -17,8 +17,13 @@ use Rattle.cedar_grammar.proofs.WholeLaws.{set_complete}
 use Rattle.cedar_grammar.proofs.Trees.Relabelling.{relabel_yield, each_map}
 use Rattle.cedar_layout.specs.Lookups.{Shown}
 use Rattle.cedar_tree.specs.NodeTrees.{is_node, spanned, span_of, end_of}
-use Rattle.cedar_documents.specs.NodeDocuments.{text_of, kind_of_shown, nodes_of}
+use Rattle.cedar_tokens.specs.TokenKinds.{kind_of}
+use Rattle.cedar_tokens.specs.declared.kind.Kind.{Kind}
+use Rattle.cedar_documents.specs.Taking.{text_of, nodes_of}
 use Rattle.cedar_grammar.proofs.Typed.PlainLists.{policies_of}
+
+abbrev pub kind_of_shown : Shown → Kind
+kind_of_shown t = kind_of (text_of t)
 
 -- a token's text and its place
 abbrev pub place_of : Shown → Placed

@@ -1,13 +1,11 @@
 -- The typed policies of a text, over the tokens its stream gives once trailing commas are dropped.
-use Rattle.std.proofs.Common.{◌≡◌, ℕ, None, List, [], ◌∷◌, ◌++◌, map, length, Bool, true, false, refl, sym, ap, ◌∙◌, subst}
+use Rattle.std.proofs.Common.{◌≡◌, ℕ, None, List, [], ◌∷◌, map, length, Bool, true, false, refl, sym, ap, ◌∙◌, subst}
 use Rattle.std.specs.Prelude.{if◌then◌else◌, ◌&&◌}
 use Rattle.std.specs.List.{flat_map}
-use Rattle.std.specs.Str.{IsUtf8}
-use Rattle.std.proofs.lemmas.List.{map-append}
 use Rattle.cedar_tokens.specs.Split.{SplitsInto}
 use Rattle.cedar_tokens.specs.Listing.{Decorated, Listing, IsListing}
 use Rattle.cedar_tokens.specs.Places.{AreTokenSpans, token_spans}
-use Rattle.cedar_tokens.specs.PlainList.{plain_list, is_trailing_comma, kept_tokens}
+use Rattle.cedar_tokens.specs.PlainList.{is_trailing_comma, kept_tokens}
 use Rattle.cedar_tokens.specs.Tokens.{bare, decorated, token_text}
 use Rattle.cedar_tokens.specs.declared.token.Span.{Span}
 use Rattle.cedar_tokens.specs.declared.token.Token.{Token}
@@ -18,33 +16,24 @@ use Rattle.cedar_tokens.specs.declared.kind.Kind.TheVariants as K
 use Rattle.cedar_tokens.specs.Kinds.{is, is_closing}
 use Rattle.cedar_tokens.specs.TokenKinds.{kind_of}
 use Rattle.cedar_grammar.specs.KindGrammar.{G}
-use Rattle.cedar_grammar.specs.Laws.{kind_of_decorated}
 use Rattle.cedar_grammar.specs.Texts.{greatest_depth, only_tokens}
 use Rattle.cedar_grammar.specs.Placed.{Placed, placed, with_places, kind_of_placed}
 use Rattle.cedar_grammar.specs.TrailingCommas.{plain, drop_if, without_trailing}
 use Rattle.cedar_grammar.specs.TypedTrees.{Clause, policy, set_tree, policy_trees, part_yield}
 use Rattle.cedar_grammar.proofs.Texts.Placed.{tree_by_kinds}
 use Rattle.cedar_grammar.proofs.Plain.ByTexts.{plain_same}
-use Rattle.cedar_grammar.proofs.Rules.Maps.{relabel}
 use Rattle.cedar_grammar.proofs.Plain.Grammar.{plain_is_in_the_grammar}
 use Rattle.cedar_grammar.proofs.Plain.CommaPairs.{plain_is_plain}
 use Rattle.cedar_grammar.proofs.Texts.Kinds.{trailing_agrees}
 use Rattle.cedar_grammar.proofs.Texts.Listings.{listing_texts}
-use Rattle.cedar_grammar.proofs.Trees.Relabelling.{relabelled, plain_each, each_map, map_map, without_relabel}
+use Rattle.cedar_grammar.proofs.Trees.Relabelling.{plain_each, each_map, map_map}
 use Rattle.cedar_layout.specs.Lookups.{Shown, shown}
 use Rattle.cedar_tree.specs.Erased as erased
 use Rattle.cedar_tree.specs.NodeTrees.{spanned, IsTreeOf}
 use Rattle.cedar_tree.specs.declared.tree.Policies.{Policies}
-use Rattle.cedar_laws.specs.GrammarTrees.{IsTree}
-use Rattle.cedar_laws.specs.Leaves.{part_map}
-use Rattle.cedar_documents.specs.NodeDocuments.{kind_of_shown, as_leaf, nodes_of}
-use Rattle.cedar_laws.specs.Output.{tokens_of}
-use Rattle.cedar_laws.proofs.ByValue.{part_yield_map}
-use Rattle.cedar_laws.proofs.FittingTrees.{AllTokens}
-use Rattle.cedar_laws.proofs.GoodLists.{every_list_good, plain_list_good}
-use Rattle.cedar_laws.proofs.Grammatical.{plain_of_length, map_length, good_tokens}
-use Rattle.cedar_laws.proofs.Relabelled.{set_tree_map}
-use Rattle.cedar_documents.proofs.ShownTrees.{typed_over, place_of}
+use Rattle.cedar_documents.specs.Taking.{nodes_of}
+use Rattle.cedar_laws.proofs.Grammatical.{plain_of_length, map_length}
+use Rattle.cedar_documents.proofs.ShownTrees.{kind_of_shown, typed_over, place_of}
 
 -- ---- the tokens with their places
 
@@ -145,55 +134,4 @@ nodes_over text p l old new t is_list e spans kept =
       nodes = cc;
       grammar = r.grammar;
       plain = r.plain;
-    }
-
--- the policies over these tokens: their leaves, their nodes, and the trees of the table
-pub record PoliciesOver (p : Policies) (ts : List Shown) : Type 0 where
-  pub policies : List (Clause Shown policy)
-  pub leaves : flat_map part_yield policies ≡ ts
-  pub nodes : erased.policy_trees p.policies.items ≡ nodes_of (policy_trees kind_of_shown policies)
-  pub trees : IsTree (map (part_map as_leaf) policies)
-  pub tokens : tokens_of (map (part_map as_leaf) policies) ≡ map as_leaf ts
-
-tokens_mapped : (ps : List (Clause Shown policy))
-    → tokens_of (map (part_map as_leaf) ps) ≡ map as_leaf (flat_map part_yield ps)
-tokens_mapped [] = refl
-tokens_mapped (p ∷ ps) =
-    ap (λ z. z ++ tokens_of (map (part_map as_leaf) ps)) (part_yield_map as_leaf p)
-    ∙ ap (λ z. map as_leaf (part_yield p) ++ z) (tokens_mapped ps)
-    ∙ sym (map-append as_leaf (part_yield p) (flat_map part_yield ps))
-
-pub policies_over : (text : List ℕ) (p : Policies) (l : Listing) (old new : List WrappedToken)
-    → IsUtf8 text → IsTreeOf text p → IsListing text l → l.tokens ≡ map decorated old
-    → AreTokenSpans text (map (λ w. w.span) old)
-    → map decorated new ≡ plain_list (map decorated old) → map bare new ≡ map bare (kept_tokens old)
-    → PoliciesOver p (map shown new)
-policies_over text p l old new utf8 t is_list e spans plain_texts kept =
-    let ts = map shown new in
-    let r = nodes_over text p l old new t is_list e spans kept in
-    let leaves : tokens_of (map (part_map as_leaf) r.policies) ≡ map as_leaf ts =
-    tokens_mapped r.policies ∙ ap (map as_leaf) r.leaves in
-    let listed : map as_leaf ts ≡ plain_list l.tokens =
-    map_map as_leaf shown new ∙ plain_texts ∙ ap plain_list (sym e) in
-    let good = good_tokens (plain_list l.tokens)
-    (plain_list_good l.tokens (every_list_good text l utf8 is_list).0) in
-    let tree = set_tree_map as_leaf kind_of_shown kind_of_decorated (λ _. refl) r.policies in
-    let moved = relabelled as_leaf kind_of_shown kind_of_decorated (λ _. refl) greatest_depth
-    (set_tree kind_of_shown r.policies) ts r.grammar in
-    record {
-      policies = r.policies;
-      leaves = r.leaves;
-      nodes = r.nodes;
-      trees = record {
-        tokens = subst (λ z. AllTokens z) (sym (leaves ∙ listed)) good;
-        grammar = subst (λ z. G kind_of_decorated greatest_depth
-            (set_tree kind_of_decorated (map (part_map as_leaf) r.policies)) z) (sym leaves)
-            (subst (λ z. G kind_of_decorated greatest_depth z (map as_leaf ts)) tree
-            (subst (λ z. G kind_of_decorated greatest_depth
-            (relabel as_leaf (set_tree kind_of_shown r.policies)) z) (each_map as_leaf ts) moved));
-        plain = ap (without_trailing kind_of_decorated) (sym tree)
-            ∙ (without_relabel as_leaf kind_of_shown kind_of_decorated (λ _. refl)
-            (set_tree kind_of_shown r.policies) ∙ (ap (relabel as_leaf) r.plain ∙ tree));
-      };
-      tokens = leaves;
     }

@@ -7,7 +7,7 @@ use Rattle.cedar_grammar.specs.TypedTrees as kind
 use Rattle.cedar_tokens.specs.declared.kind.Kind.{Kind}
 use Rattle.cedar_tokens.specs.declared.kind.Kind.TheVariants as K
 use Rattle.cedar_layout.specs.Lookups.{Shown}
-use Rattle.cedar_documents.specs.NodeDocuments.{kind_of_shown}
+use Rattle.cedar_documents.proofs.ShownTrees.{kind_of_shown}
 
 -- these are the parts of a typed tree; of a typed part of a policy; of one token
 abbrev pub OfTree : kind.NodeKind → Forest Label Shown → Type 0

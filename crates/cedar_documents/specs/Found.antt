@@ -1,12 +1,11 @@
--- Which tokens a node needs, and when making its document reports that one is missing.
-use Rattle.std.specs.Prelude.{◌==◌, ◌&&◌, ◌||◌, ℕ, suc, List, Bool, true, length, map, nat_le, ⊤, Option, Some, None, Result, Ok, Err, IsTrue, IsFalse}
+-- Which tokens a node needs.
+use Rattle.std.specs.Prelude.{◌==◌, ◌&&◌, ◌||◌, ℕ, List, Bool, true, length, map, nat_le, Option, Some}
 use Rattle.std.specs.List.{filter, list_any}
 use Rattle.cedar_tokens.specs.declared.token.Span.{Span}
 use Rattle.cedar_tokens.specs.declared.token.WrappedToken.{WrappedToken}
 use Rattle.cedar_grammar.specs.Trees.{Label, none, leaf, branch}
 use Rattle.cedar_tree.specs.Erased.{Erased}
-use Rattle.cedar_documents.specs.declared.written.NoDocument.{NoDocument}
-use Rattle.cedar_documents.specs.declared.written.NoDocument.TheVariants.{NoToken, OutOfMemory}
+use Rattle.cedar_documents.specs.Items.{signs_before, start_of_node}
 
 -- where the tokens are
 abbrev pub places : List WrappedToken → List Span
@@ -19,19 +18,6 @@ starts p places = list_any (λ s. s.start == p) places
 -- how many tokens are between two bytes
 abbrev pub count_between : ℕ → ℕ → List Span → ℕ
 count_between p q places = length (filter (λ s. nat_le p s.start && nat_le s.end q) places)
-
--- the tokens before the first node of these trees: the signs of a unary
-abbrev pub signs_before : Erased → ℕ
-signs_before none = 0
-signs_before (leaf text f) = suc (signs_before f)
-signs_before (branch l f g) = 0
-
--- where the first node of these trees starts: the member of a unary
-abbrev pub start_of_node : Erased → ℕ
-start_of_node none = 0
-start_of_node (leaf text f) = start_of_node f
-start_of_node (branch (l, Some s) f g) = s.start
-start_of_node (branch (l, None) f g) = start_of_node g
 
 -- what a node itself needs: if it is one token, a token that starts where it does; if it has signs, as many tokens between its start and its member's
 abbrev pub has_own : List Span → Label → Option Span → Erased → Bool
@@ -49,13 +35,3 @@ abbrev pub has_its_tokens : List Span → Erased → Bool
 has_its_tokens places none = true
 has_its_tokens places (leaf text f) = has_its_tokens places f
 has_its_tokens places (branch l f g) = has_own places l.0 l.1 f && (has_its_tokens places f && has_its_tokens places g)
-
--- a token is reported missing only if one is
-abbrev pub Misses : NoDocument → Bool → Type 0
-Misses NoToken has = IsFalse has
-Misses OutOfMemory has = ⊤
-
--- and a document is made only if all are there
-abbrev pub Finds : {D : Type 0} → Result D NoDocument → Bool → Type 0
-Finds (Ok d) has = IsTrue has
-Finds (Err e) has = Misses e has

@@ -1,10 +1,7 @@
-pub mod Inside
-pub mod Kept
+pub mod Items
 pub mod Found
-pub mod NodeDocuments
-pub mod Marks
-pub mod Signs
-pub mod Next
-pub mod PartDocuments
+pub mod Kept
+pub mod Taking
+pub mod Inside
 pub mod ShownNodes
 pub mod OwnTokens

@@ -8,7 +8,6 @@ use Rattle.cedar_tokens.specs.Tokens.{bare, decorated}
 use Rattle.cedar_tokens.specs.declared.token.Span.{Span}
 use Rattle.cedar_tokens.specs.declared.token.WrappedToken.{WrappedToken}
 use Rattle.cedar_grammar.specs.Trees.{Label, none, leaf, branch}
-use Rattle.cedar_grammar.specs.TypedTrees as kind
 use Rattle.cedar_layout.specs.Layout.{Doc}
 use Rattle.cedar_layout.specs.Lookups.{Shown, shown}
 use Rattle.cedar_tree.specs.Erased.{Erased, policy_parts, policy_trees}
@@ -16,7 +15,7 @@ use Rattle.cedar_tree.specs.NodeTrees.{IsTreeOf}
 use Rattle.cedar_tree.specs.declared.tree.Node.{Node}
 use Rattle.cedar_tree.specs.declared.tree.Policies.{Policies}
 use Rattle.cedar_tree.specs.declared.tree.Policy.{Policy}
-use Rattle.cedar_documents.specs.ShownNodes.{IsLeafWith, IsNodeWith, IsPartWith, IsRowWith}
+use Rattle.cedar_documents.specs.ShownNodes.{IsRowOf}
 
 -- these trees contain a node with this label, span and parts, as one of them or inside one
 abbrev pub Holds : Erased → Label → Span → Erased → Type 0
@@ -24,37 +23,9 @@ Holds none l s parts = ⊥
 Holds (leaf text f) l s parts = Holds f l s parts
 Holds (branch k f g) l s parts = ((k ≡ (l, Some s)) × (f ≡ parts)) ⊎ (Holds f l s parts ⊎ Holds g l s parts)
 
--- a node of one token, whose text is its only part
-abbrev pub IsTokenWith : Span → Erased → List Shown → Doc → Type 0
-IsTokenWith s parts ts doc = (text : List ℕ) × (parts ≡ leaf text none) × IsLeafWith s text ts doc
-
 -- a node with this label is made of these tokens, and this is its document at an indentation: what `is_shown` says for its type
 abbrev pub IsShownAs : Label → Span → Erased → ℤ → List Shown → Doc → Type 0
-IsShownAs Label.policy s parts = IsPartWith kind.policy s parts
-IsShownAs Label.annotation s parts = IsPartWith kind.annotation s parts
-IsShownAs Label.variable s parts = IsPartWith kind.variable s parts
-IsShownAs Label.condition s parts = IsPartWith kind.cond s parts
-IsShownAs Label.expr s parts = IsNodeWith kind.expr s parts
-IsShownAs Label.or s parts = IsNodeWith kind.ors s parts
-IsShownAs Label.and s parts = IsNodeWith kind.ands s parts
-IsShownAs Label.relation s parts = IsNodeWith kind.relation s parts
-IsShownAs Label.add s parts = IsNodeWith kind.add s parts
-IsShownAs Label.mult s parts = IsNodeWith kind.mult s parts
-IsShownAs Label.unary s parts = IsNodeWith kind.unary s parts
-IsShownAs Label.member s parts = IsRowWith kind.member parts
-IsShownAs Label.access s parts = IsRowWith kind.accesses (branch (Label.access, Some s) parts none)
-IsShownAs Label.primary s parts = IsNodeWith kind.primary s parts
-IsShownAs Label.rec_init s parts = IsNodeWith kind.init s parts
-IsShownAs Label.name s parts = IsNodeWith kind.name s parts
-IsShownAs Label.ref s parts = IsNodeWith kind.ref s parts
-IsShownAs Label.ident s parts = λ i. IsTokenWith s parts
-IsShownAs Label.str s parts = λ i. IsTokenWith s parts
-IsShownAs Label.boolean s parts = λ i. IsTokenWith s parts
-IsShownAs Label.number s parts = λ i. IsTokenWith s parts
-IsShownAs Label.string s parts = λ i. IsTokenWith s parts
-IsShownAs Label.slot s parts = λ i. IsTokenWith s parts
--- no node with a span has one of the other labels
-IsShownAs l s parts = λ i ts doc. ⊥
+IsShownAs l s parts = IsRowOf l (branch (l, Some s) parts none)
 
 -- these are consecutive among the tokens
 abbrev pub StandTogether : List WrappedToken → List Shown → Type 0

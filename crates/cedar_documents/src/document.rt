@@ -1,67 +1,55 @@
-//! The document of a sheet.
-ghost use Rattle.std.specs.Prelude.{◌≡◌, [], ◌∷◌, List, reverse, IfOk};
-ghost use Rattle.cedar_layout.specs.Layout.{Doc, nil, ◌·◌};
+//! The document of marks.
+ghost use Rattle.std.specs.Prelude.{◌≡◌, [], ◌∷◌, ◌++◌, IfOk};
+ghost use Rattle.cedar_layout.specs.Layout.{Doc, ◌·◌};
 ghost use Rattle.cedar_layout.specs.Value.{doc_of, docs_of};
-ghost use Rattle.cedar_documents.specs.Marks.{Sign, flat};
-ghost use Rattle.cedar_documents.specs.Signs.{sign_of, signs_of};
-ghost use Rattle.cedar_documents.specs.Inside.Documents.{around, closed, document_at};
+ghost use Rattle.cedar_print.specs.Marks.{mark_of, marks_of};
+ghost use Rattle.cedar_print.specs.WrittenMarks.{AreMarks, end_nest, end_group, end_nothing};
+ghost use Rattle.cedar_documents.specs.Inside.Read.{step, state_of};
 
-use crate::sheet::{Mark, Sheet};
 use cedar_layout::layout::Document;
+use cedar_print::mark::Mark;
 use std::alloc::{AllocError, Global};
 
-/// A nest or a group that has begun, with the documents before it.
+/// What has begun, with the documents before it.
 #[derive(Drop)]
-pub(crate) enum Begun<'src> {
-    Nest(isize, Vec<Document<'src>>),
-    Group(Vec<Document<'src>>),
+pub(crate) struct Begun<'src> {
+    /// The columns of a nest; none of what may become a group.
+    pub columns: Option<isize>,
+    pub before: Vec<Document<'src>>,
 }
 
-/// The document of a sheet.
-pub fn to_document<'src>(alloc: Global, sheet: &Sheet<'src>) -> Result<Document<'src>, AllocError>
-    ensures { IfOk result (λ x. (d : Doc) → sheet.now ≡ flat d → doc_of x ≡ d) }
-{
-    document_of(alloc, &sheet.marks)
-}
-
-/// The document of marks. What has begun but doesn't end, ends after the last mark; an end of nothing is ignored.
-fn document_of<'src>(alloc: Global, marks: &[Mark<'src>]) -> Result<Document<'src>, AllocError>
-    ensures { IfOk result (λ x. doc_of x ≡ document_at [] [] (signs_of marks.now)) }
+/// The document that the marks are of.
+pub fn to_document<'src>(alloc: Global, marks: &[Mark<'src>]) -> Result<Document<'src>, AllocError>
+    ensures { IfOk result (λ x. (d : Doc) → AreMarks (marks_of marks.now) d → doc_of x ≡ d) }
 {
     let mut begun = Vec::new(alloc);
     let mut docs = Vec::new(alloc);
     for mark in marks {
         docs = take_up(alloc, mark, docs, &mut begun)?;
     }
-    all_ended(alloc, begun, docs)
+    Ok(Document::Seq(docs))
 }
 
-/// The documents of the innermost nest or group after a mark, where `docs` are those before it.
+/// The documents of what began last, after a mark; `docs` are those before it.
 fn take_up<'src>(
     alloc: Global,
     mark: &Mark<'src>,
     docs: Vec<Document<'src>>,
     begun: &mut Vec<Begun<'src>>,
 ) -> Result<Vec<Document<'src>>, AllocError>
-    ensures { IfOk result (λ v. (ms : List Sign) → document_at begun.new.items v.items ms ≡ document_at begun.old.items docs.entry.items (sign_of mark.now ∷ ms)) }
+    ensures { IfOk result (λ v. state_of begun.new.items v.items ≡ step (mark_of mark.now) (state_of begun.old.items docs.entry.items)) }
 {
     match mark {
         Mark::Text(text) => with_one_more(docs, Document::Text(text)),
+        Mark::Space => with_one_more(docs, Document::Text(" ")),
         Mark::Line => with_one_more(docs, Document::Line),
         Mark::LineOrNil => with_one_more(docs, Document::LineOrNil),
         Mark::Hard => with_one_more(docs, Document::Hard),
-        Mark::Nest(n) => {
-            begun.push(Begun::Nest(*n, docs))?;
-            Ok(Vec::new(alloc))
-        }
-        Mark::Group => {
-            begun.push(Begun::Group(docs))?;
-            Ok(Vec::new(alloc))
-        }
-        Mark::End => match begun.pop() {
-            Some(last) => ended(alloc, last, docs),
-            None => Ok(docs),
-        },
+        Mark::Nest(n) => begin(alloc, Some(n.columns), docs, begun),
+        Mark::Begin => begin(alloc, None, docs, begun),
+        Mark::EndNest => end_nest(alloc, docs, begun),
+        Mark::EndGroup => end_group(alloc, docs, begun),
+        Mark::EndNothing => end_nothing(docs, begun),
     }
 }
 
@@ -76,31 +64,65 @@ fn with_one_more<'src>(
     Ok(docs)
 }
 
-/// The documents around a nest or a group, followed by that one, which contains these documents.
-fn ended<'src>(
+/// Begins a nest or what may become a group, which has no documents yet.
+fn begin<'src>(
     alloc: Global,
-    last: Begun<'src>,
-    docs: Vec<Document<'src>>,
+    columns: Option<isize>,
+    before: Vec<Document<'src>>,
+    begun: &mut Vec<Begun<'src>>,
 ) -> Result<Vec<Document<'src>>, AllocError>
-    ensures { IfOk result (λ v. docs_of v.items ≡ around last.entry (docs_of docs.entry.items) nil) }
+    ensures { IfOk result (λ v. (begun.new.items ≡ begun.old.items ++ record { columns = columns; before = before.entry } ∷ []) × (v.items ≡ [])) }
 {
-    let inner = Box::new(alloc, Document::Seq(docs))?;
-    match last {
-        Begun::Nest(n, outer) => with_one_more(outer, Document::Nest(n, inner)),
-        Begun::Group(outer) => with_one_more(outer, Document::Group(inner)),
+    begun.push(Begun { columns, before })?;
+    Ok(Vec::new(alloc))
+}
+
+/// Ends a nest of these documents; anything else that began becomes nothing.
+fn end_nest<'src>(
+    alloc: Global,
+    docs: Vec<Document<'src>>,
+    begun: &mut Vec<Begun<'src>>,
+) -> Result<Vec<Document<'src>>, AllocError>
+    ensures { IfOk result (λ v. state_of begun.new.items v.items ≡ step end_nest (state_of begun.old.items docs.entry.items)) }
+{
+    match begun.pop() {
+        None => Ok(docs),
+        Some(Begun { columns, before }) => match columns {
+            None => with_one_more(before, Document::Seq(docs)),
+            Some(n) => {
+                let inner = Box::new(alloc, Document::Seq(docs))?;
+                with_one_more(before, Document::Nest(n, inner))
+            }
+        },
     }
 }
 
-/// The document of all nests and groups that have begun, where the innermost contains these documents.
-fn all_ended<'src>(
+/// Ends a group of these documents.
+fn end_group<'src>(
     alloc: Global,
-    mut begun: Vec<Begun<'src>>,
-    mut docs: Vec<Document<'src>>,
-) -> Result<Document<'src>, AllocError>
-    ensures { IfOk result (λ x. doc_of x ≡ closed (reverse begun.entry.items) (docs_of docs.entry.items) []) }
+    docs: Vec<Document<'src>>,
+    begun: &mut Vec<Begun<'src>>,
+) -> Result<Vec<Document<'src>>, AllocError>
+    ensures { IfOk result (λ v. state_of begun.new.items v.items ≡ step end_group (state_of begun.old.items docs.entry.items)) }
 {
-    while let Some(last) = begun.pop() {
-        docs = ended(alloc, last, docs)?;
+    match begun.pop() {
+        None => Ok(docs),
+        Some(last) => {
+            let inner = Box::new(alloc, Document::Seq(docs))?;
+            with_one_more(last.before, Document::Group(inner))
+        }
     }
-    Ok(Document::Seq(docs))
+}
+
+/// Ends what is no group.
+fn end_nothing<'src>(
+    docs: Vec<Document<'src>>,
+    begun: &mut Vec<Begun<'src>>,
+) -> Result<Vec<Document<'src>>, AllocError>
+    ensures { IfOk result (λ v. state_of begun.new.items v.items ≡ step end_nothing (state_of begun.old.items docs.entry.items)) }
+{
+    match begun.pop() {
+        None => Ok(docs),
+        Some(last) => with_one_more(last.before, Document::Seq(docs)),
+    }
 }

@@ -1,3 +1,6 @@
+pub mod LineStarts
+pub mod Walks
+pub mod Found
 pub mod Applying
 pub mod CommonLines
 pub mod Parts

@@ -6,7 +6,7 @@ use Rattle.std.proofs.lemmas.List.{drop-drop, drop-take, get_or-drop, get_or-tak
 use Rattle.std.proofs.lemmas.Str.{IsCharBoundary-after_ascii, IsCharBoundary-end, IsCharBoundary-start}
 use Rattle.cedar_tokens.specs.Bytes.{line_feed}
 use Rattle.cedar_tokens.specs.declared.token.Span.{Span}
-use Rattle.cedar_positions.specs.Laws.{CanBeNamed}
+use Rattle.cedar_edits.specs.Laws.{CanBeNamed}
 use Rattle.cedar_edits.specs.declared.edits.Edit.{Edit}
 use Rattle.cedar_edits.specs.Edits.{IsNamedPart, within}
 use Rattle.cedar_edits.specs.Lines.{BeginApart, EndApart, IsLeast, Replaces}

@@ -1,10 +1,10 @@
 -- Edits by positions, one after the other.
 use Rattle.std.proofs.Common.{◌≡◌, ◌+◌, ℕ, List, [], ◌∷◌, ◌++◌, length, sym, ap, ◌∙◌, subst, arith, append_assoc, append-nil, length-append}
 use Rattle.std.specs.Prelude.{slice_range, string_bytes}
-use Rattle.cedar_positions.specs.declared.positions.Encoding.{Encoding}
-use Rattle.cedar_positions.specs.declared.changes.Edit.{Edit as Placed}
-use Rattle.cedar_positions.specs.Changes.{PutsAll, PutsAllFrom}
-use Rattle.cedar_positions.specs.Positions.{IsOffsetOf}
+use Rattle.cedar_edits.specs.declared.positions.Encoding.{Encoding}
+use Rattle.cedar_edits.specs.declared.changes.PlacedEdit.{PlacedEdit as Placed}
+use Rattle.cedar_edits.specs.Changes.{PutsAll, PutsAllFrom}
+use Rattle.cedar_edits.specs.Positions.{IsOffsetOf}
 use Rattle.cedar_edits.specs.declared.edits.Edit.{Edit}
 use Rattle.cedar_edits.specs.Edits.{AreInOrder, edited_by, edited_from}
 

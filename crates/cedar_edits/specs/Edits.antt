@@ -2,7 +2,7 @@
 use Rattle.std.specs.Prelude.{◌≤◌, ◌-◌, ℕ, List, [], ◌∷◌, ◌++◌, length, take, drop, slice_range, string_bytes, ⊤}
 use Rattle.std.specs.Str.{IsCharBoundary}
 use Rattle.cedar_tokens.specs.declared.token.Span.{Span}
-use Rattle.cedar_positions.specs.Laws.{CanBeNamed}
+use Rattle.cedar_edits.specs.Laws.{CanBeNamed}
 use Rattle.cedar_edits.specs.declared.edits.Edit.{Edit}
 
 -- the span lies in the text, on character boundaries

@@ -1,12 +1,13 @@
 //! Edits by the positions that an editor counts in.
 ghost use Rattle.std.specs.Prelude.{◌≡◌, ◌≤◌, length, IfOk};
-ghost use Rattle.cedar_positions.specs.Changes.{PutsAll};
-ghost use Rattle.cedar_positions.specs.Laws.{CanBeNamed};
-ghost use Rattle.cedar_positions.specs.Positions.{IsLineAt, IsOffsetOf};
+ghost use Rattle.cedar_edits.specs.Changes.{PutsAll};
+ghost use Rattle.cedar_edits.specs.Laws.{CanBeNamed};
+ghost use Rattle.cedar_edits.specs.Positions.{IsLineAt, IsOffsetOf};
 ghost use Rattle.cedar_edits.specs.Edits.{AreInOrder, edited_by};
 
+use crate::changes::{PlacedEdit, Range};
 use crate::edits::Edit;
-use cedar_positions::{self as positions, Encoding, Line, Position, Range, line_from, position_on};
+use crate::positions::{Encoding, Line, Position, line_from, position_on};
 use std::alloc::{AllocError, Global};
 
 /// The edits by positions in the text, in the same order. The only error is out of memory.
@@ -18,7 +19,7 @@ pub fn place_edits(
     text: &str,
     edits: Vec<Edit>,
     encoding: Encoding,
-) -> Result<Vec<positions::Edit>, AllocError>
+) -> Result<Vec<PlacedEdit>, AllocError>
     requires { AreInOrder text.now 0 edits.items }
     ensures puts { IfOk result (λ placed. PutsAll encoding placed.items text.now (edited_by text.now edits.items)) }
     ensures count { IfOk result (λ placed. length placed.items ≡ length edits.items) }
@@ -32,7 +33,7 @@ pub fn place_edits(
             start: position_on(text, first, edit.span.start, encoding),
             end: end_on(text, line, edit.span.end, encoding),
         };
-        placed.push(positions::Edit {
+        placed.push(PlacedEdit {
             range,
             text: edit.text,
         })?;

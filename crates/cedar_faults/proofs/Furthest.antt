@@ -19,7 +19,7 @@ use Rattle.cedar_grammar.specs.Texts.{greatest_depth, only_tokens, Accepted, Lea
 use Rattle.cedar_tree.specs.declared.error.FormatError.{FormatError}
 use Rattle.cedar_tree.specs.declared.error.FormatError.TheVariants.{UnknownCharacter, UnfinishedString, NumberTooLarge, Grammar, TooDeep, NoDocument, Unsound, OutOfMemory}
 use Rattle.cedar_tree.specs.Refusals.{Refuses}
-use Rattle.cedar_expected.proofs.Begun.{begins_front, list_begins}
+use Rattle.cedar_faults.proofs.Begun.{begins_front, list_begins}
 use Rattle.cedar_faults.specs.FirstFaults.{IsFirstOf, IsNext, LeavesAt, Reaches, place_of}
 use Rattle.cedar_faults.specs.Faults.{SearchFinds}
 use Rattle.cedar_faults.specs.Faults.SearchFinds.{nothing, policy, fault}

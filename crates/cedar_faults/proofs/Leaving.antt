@@ -29,10 +29,10 @@ use Rattle.cedar_reading.proofs.Lists.{piece_splits}
 use Rattle.cedar_reading.proofs.Prefixes.{units_of}
 use Rattle.cedar_reading.proofs.PieceRefusals.{piece_tokens}
 use Rattle.cedar_reading.proofs.Sequences.{list_parts}
-use Rattle.cedar_expected.specs.Expectations.{IsList}
-use Rattle.cedar_expected.specs.Inside.Beginnings.{TokensBegin}
-use Rattle.cedar_expected.proofs.Begun.{list_accepted}
-use Rattle.cedar_expected.proofs.Probed.{of_units}
+use Rattle.cedar_faults.specs.Expectations.{IsList}
+use Rattle.cedar_faults.specs.Inside.TokenBeginnings.{TokensBegin}
+use Rattle.cedar_faults.proofs.Begun.{list_accepted}
+use Rattle.cedar_faults.proofs.Probed.{of_units}
 use Rattle.cedar_faults.specs.FirstFaults.{IsFirstOf, LeavesAt, Reaches}
 use Rattle.cedar_faults.specs.Inside.Beginnings.{RefusesInside, IsTokenFault, Stops}
 use Rattle.cedar_faults.specs.declared.beginnings.TokenFault.{TokenFault}

@@ -7,7 +7,7 @@ use Rattle.cedar_tokens.specs.declared.kind.Kind.{Kind}
 use Rattle.cedar_tokens.specs.declared.kind.Kind.TheVariants.{LParen, RParen, LBracket, RBracket, LBrace, RBrace, SemiColon}
 use Rattle.cedar_tokens.specs.Kinds.{is, is_closing}
 use Rattle.cedar_tokens.specs.TokenKinds.{kind_of}
-use Rattle.cedar_expected.specs.Samples.{sample}
+use Rattle.cedar_faults.specs.Samples.{sample}
 use Rattle.cedar_faults.specs.declared.brackets.Bracket.{Bracket}
 
 -- ( [ {

@@ -1,3 +1,9 @@
+pub mod Inside
+pub mod Samples
+pub mod Naming
+pub mod Messages
+pub mod Expectations
+pub mod Sentences
 pub mod Faults
 pub mod FirstFaults
 pub mod Recovery
@@ -6,4 +12,3 @@ pub mod Marks
 pub mod Brackets
 pub mod Tips
 pub mod Words
-pub mod Inside

@@ -4,9 +4,9 @@ use Rattle.std.specs.Borrow.{Bor}
 use Rattle.std.specs.Fmt.{digits}
 use Rattle.cedar_tree.specs.declared.error.FormatError.{FormatError}
 use Rattle.cedar_tree.specs.declared.error.FormatError.TheVariants.{UnknownCharacter, UnfinishedString, NumberTooLarge, TooDeep}
-use Rattle.cedar_expected.specs.declared.expectation.Expected.{Expected}
-use Rattle.cedar_expected.specs.Messages.{expected_text}
-use Rattle.cedar_expected.specs.Sentences.{sentence}
+use Rattle.cedar_faults.specs.declared.expectation.Expected.{Expected}
+use Rattle.cedar_faults.specs.Messages.{expected_text}
+use Rattle.cedar_faults.specs.Sentences.{sentence}
 use Rattle.cedar_faults.specs.declared.fault.Fault.{Fault}
 use Rattle.cedar_faults.specs.declared.tips.Tip.{Tip}
 use Rattle.cedar_faults.specs.Tips.{told, tip_for}

@@ -4,7 +4,7 @@ ghost use Rattle.cedar_grammar.specs.Texts.{Accepted};
 ghost use Rattle.cedar_reading.specs.Tokens.{HasTokens};
 ghost use Rattle.cedar_tree.specs.Refusals.{Refuses};
 ghost use Rattle.cedar_faults.specs.Inside.Beginnings.{Is, IsTokenFault, RefusesInside};
-ghost use Rattle.cedar_expected.specs.Inside.Beginnings.{TokensBegin};
+ghost use Rattle.cedar_faults.specs.Inside.TokenBeginnings.{TokensBegin};
 
 use cedar_cst::cst::parse_policies;
 use cedar_reading::lexeme::{Lexeme, is_too_large};

@@ -5,7 +5,7 @@ ghost use Rattle.cedar_tokens.specs.Split.{Splits};
 ghost use Rattle.cedar_faults.specs.Brackets.{if_left_open, innermost, is_bracket, is_closed_by, is_opening, leaves_open, passes_over, told_open};
 ghost use Rattle.cedar_faults.specs.Inside.Brackets.{AreBrackets, IsUnclosed};
 
-use cedar_expected::samples::sample;
+use crate::samples::sample;
 use cedar_tokens::kind::{Kind, kind_of};
 use cedar_tokens::laws::fault_prevents_split;
 use cedar_tokens::token::Span;

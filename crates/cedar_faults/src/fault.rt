@@ -1,6 +1,6 @@
 //! A fault of a text.
 use crate::brackets::Bracket;
-use cedar_expected::expectation::Expected;
+use crate::expectation::Expected;
 use cedar_tokens::token::Span;
 use cedar_tree::error::FormatError;
 

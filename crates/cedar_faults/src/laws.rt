@@ -1,4 +1,5 @@
-//! Laws of faults. They are about the definitions alone, so their bodies do nothing.
+//! Laws of faults, and of what could come at a place. They are about the definitions alone, so their bodies do nothing.
+ghost use Rattle.cedar_faults.specs.Expectations.{KindDecides};
 ghost use Rattle.cedar_faults.specs.Laws.{FirstIsBeforeRefusal, FirstIsFurthest, FirstNoneIfAccepted, NoneIfAccepted};
 
 /// An accepted text has no faults, and any other has some; so it is with its first faults, if any are asked for.
@@ -15,4 +16,9 @@ pub fn first_is_furthest()
 /// The first fault of a text is at the place of its refusal, or before it.
 pub fn first_is_before_refusal()
     ensures { FirstIsBeforeRefusal }
+{}
+
+/// Whether an accepted list continues with a token depends on the token's kind alone.
+pub fn kind_decides()
+    ensures { KindDecides }
 {}

@@ -5,8 +5,8 @@ ghost use Rattle.cedar_faults.specs.FirstFaults.{place_of};
 ghost use Rattle.cedar_faults.specs.Inside.Searches.{HasRoom, HasRoomAt};
 
 use crate::brackets::Bracket;
+use crate::expectation::Expected;
 use crate::fault::Fault;
-use cedar_expected::expectation::Expected;
 use cedar_tokens::token::Span;
 use cedar_tree::error::FormatError;
 

@@ -6,13 +6,13 @@ ghost use Rattle.cedar_faults.specs.Faults.{AreFaultsFrom, BeginsWithPolicy, Fin
 
 use crate::beginnings::{Beginning, read_beginning};
 use crate::brackets::left_open;
+use crate::expectation::Expected;
 use crate::fault::Fault;
+use crate::kinds::names_of;
 use crate::marks::marked;
 use crate::moves::{moved, place};
+use crate::probe::what_follows;
 use crate::recovery::resume;
-use cedar_expected::expectation::Expected;
-use cedar_expected::kinds::names_of;
-use cedar_expected::probe::what_follows;
 use cedar_reading::lexeme::Lexeme;
 use cedar_tree::error::FormatError;
 use std::alloc::{AllocError, Global};

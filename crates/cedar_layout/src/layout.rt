@@ -3,7 +3,6 @@ ghost use Rattle.std.specs.Prelude.{◌≡◌, map, IfOk};
 ghost use Rattle.cedar_layout.specs.Layout.{◌·◌, nest, group};
 ghost use Rattle.cedar_layout.specs.Value.{doc_of, docs_of, interspersed};
 
-pub mod breaks;
 pub mod columns;
 mod release;
 mod steps;

@@ -3,8 +3,8 @@ use crate::outline::{
     folds_value, range_value, selections_value, symbols_value, token_types, tokens_value,
 };
 use cedar_server::{
-    Answer, Code, Completions, Diagnosis, Edit, Encoding, Failure, Fault, Fix, Id, Kind, Range,
-    Related, ServerMessage, sample,
+    Answer, Code, Completions, Diagnosis, Encoding, Failure, Fault, Fix, Id, Kind, PlacedEdit,
+    Range, Related, ServerMessage, sample,
 };
 use serde_json::{Value, json};
 use std::alloc::{AllocError, Global};
@@ -132,7 +132,7 @@ fn capabilities(
     })
 }
 
-fn edits_value(alloc: Global, edits: Vec<Edit>) -> Result<Value, AllocError> {
+fn edits_value(alloc: Global, edits: Vec<PlacedEdit>) -> Result<Value, AllocError> {
     let mut values = Vec::new(alloc);
     for edit in edits {
         values.push(edit_value(alloc, edit)?)?;
@@ -140,7 +140,7 @@ fn edits_value(alloc: Global, edits: Vec<Edit>) -> Result<Value, AllocError> {
     Ok(Value::Array(values))
 }
 
-fn edit_value(alloc: Global, edit: Edit) -> Result<Value, AllocError> {
+fn edit_value(alloc: Global, edit: PlacedEdit) -> Result<Value, AllocError> {
     let range = range_value(alloc, edit.range)?;
     json!(in alloc; {"range": range, "newText": edit.text})
 }

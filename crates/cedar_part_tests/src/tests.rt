@@ -11,10 +11,10 @@ mod cleaning;
 mod layouts;
 mod line_columns;
 mod lookups;
+mod marks;
 mod parts;
 mod readers;
 mod shapes;
-mod sheets;
 mod tokens;
 mod trees;
 

@@ -14,9 +14,9 @@ pub use cedar_cst::cst;
 pub use cedar_cst::cst::FormatError;
 pub use cedar_documents::config::{Config, Context};
 pub use cedar_documents::{config, doc};
-pub use cedar_expected::expectation::Expected;
-pub use cedar_expected::expected::expected;
-pub use cedar_expected::explain::explain;
+pub use cedar_faults::expectation::Expected;
+pub use cedar_faults::expected::expected;
+pub use cedar_faults::explain::explain;
 pub use cedar_layout::utils;
 pub use cedar_tokens::{lexer, token};
 pub use fmt::{

@@ -1,17 +1,23 @@
 -- Units without blank lines, where a break is held back.
-use Rattle.std.proofs.Common.{◌≡◌, ℕ, zero, suc, ◌+◌, Bool, true, false, cond, ◌&&◌, ◌||◌, Option, Some, None, List, [], ◌∷◌, ◌++◌, replicate, refl, sym, ap, ◌∙◌, append_assoc, append-nil, arith}
+use Rattle.std.proofs.Common.{◌≡◌, ℕ, zero, suc, ◌+◌, ◌<◌, ◌≤◌, Bool, true, false, cond, ◌&&◌, ◌||◌, Option, Some, None, List, [], ◌∷◌, ◌++◌, length, get_or, drop, replicate, refl, sym, ap, ◌∙◌, append_assoc, append-nil, length-append, arith}
 use Rattle.std.specs.List.{concat, flat_map, list_any, take_while}
 use Rattle.std.specs.Str.{trim}
 use Rattle.std.proofs.lemmas.Bool.{false≢true}
+use Rattle.std.proofs.lemmas.List.{length-replicate, at_drop_more}
+use Rattle.std.proofs.lemmas.Grind.{flat_map-append}
 use Rattle.std.proofs.lemmas.List.Sums.{take_while-cons}
 use Rattle.cedar_tokens.specs.Bytes.{line_feed, space_character}
 use Rattle.cedar_layout.specs.Layout.{Doc, broken}
 use Rattle.cedar_layout.specs.Inside.Computed.{laid}
 use Rattle.cedar_layout.proofs.Rule.{rule_is_met, pieces_are_laid}
 use Rattle.cedar_written.specs.Cleaning.{is_feed}
+use Rattle.cedar_print.specs.declared.mark.Mark.{Mark}
 use Rattle.cedar_print.specs.declared.write.Held.{Held}
-use Rattle.cedar_print.specs.Clean.{space, feed, units_of, is_blank, without_blank_lines, IsTheCleanLayoutAt}
-use Rattle.cedar_print.specs.Inside.Written.{units_held, clean_after}
+use Rattle.cedar_print.specs.Marks.{mark_of, marks_of}
+use Rattle.cedar_print.specs.Clean.{space, feed, units_of, is_blank, without_blank_lines, IsUntrimmedLayoutAt, IsTheCleanLayoutAt}
+use Rattle.cedar_print.specs.Inside.Printed.{State, pieces_of, after, printed}
+use Rattle.cedar_print.specs.Inside.Written.{units_held, bytes_held, clean_after}
+use Rattle.cedar_print.proofs.Units.{concat_break}
 
 -- a line feed is among the blanks that the units begin with
 abbrev pub feeds : List (List ℕ) → Bool
@@ -122,7 +128,56 @@ pub all_written : (h : Option Held) (out new all : List ℕ) → out ++ clean_af
     → new ≡ out ++ concat (units_held h) → new ≡ all
 all_written h out new all e f = f ∙ ap (λ xs. out ++ xs) (sym (then_nothing h)) ∙ e
 
+-- ---- room for it
+
+length_held : (h : Option Held) → length (concat (units_held h)) ≡ bytes_held h
+length_held None = refl
+length_held (Some h) = ap length (concat_break (h.indent + h.spaces))
+    ∙ ap suc (length-replicate (h.indent + h.spaces) space_character) ∙ omega arith
+
+-- what is held back and a text after it are a part of what is written
+pub held_and_text : (h : Option Held) (s : List ℕ) (us : List (List ℕ)) → is_blank s ≡ false
+    → bytes_held h + length s ≤ length (clean_after h (s ∷ us))
+held_and_text h s us b =
+    let rest = without_blank_lines false us in
+    let e = ap length (then_text h s us b) in
+    let k = length-append (concat (units_held h)) (s ++ rest) in
+    let m = length-append s rest in
+    let n = length_held h in
+    omega (arith, e, k, m, n)
+
+pub held_alone : (h : Option Held) → length (clean_after h []) ≡ bytes_held h
+held_alone h = ap length (then_nothing h) ∙ length_held h
+
+-- what is written of the marks from a place on begins with what the first of them writes
+pub one_written : (w : ℕ) (ms : List Mark) (i : ℕ) (d : Mark) (p : State) (us : List (List ℕ))
+    (h : Option Held) (out all : List ℕ) → i < length ms
+    → us ≡ flat_map units_of (pieces_of (mark_of (get_or ms i d)) p.here)
+    → out ++ clean_after h (flat_map units_of (printed w (marks_of (drop i ms)) p)) ≡ all
+    → (vs : List (List ℕ)) × (length out + length (clean_after h (us ++ vs)) ≡ length all)
+one_written w ms i d p us h out all l e f =
+    let m = mark_of (get_or ms i d) in
+    let rest = printed w (marks_of (drop (i + 1) ms)) (after w m p) in
+    let vs = flat_map units_of rest in
+    let g = at_drop_more (λ xs. flat_map units_of (printed w (marks_of xs) p)) ms i d l
+    ∙ flat_map-append units_of (pieces_of m p.here) rest
+    ∙ ap (λ xs. xs ++ vs) (sym e) in (
+      vs,
+      sym (length-append out (clean_after h (us ++ vs)))
+          ∙ ap length (ap (λ xs. out ++ clean_after h xs) (sym g) ∙ f),
+    )
+
 -- ---- the layout
+
+pub laid_untrimmed : (w : ℕ) (d : Doc) → IsUntrimmedLayoutAt w d
+    (without_blank_lines false (flat_map units_of (laid w d false 0 0 0)))
+laid_untrimmed w d =
+    let C = rule_is_met w d false 0 0 [] in (
+      C.0,
+      C.1,
+      ap (λ ps. without_blank_lines false (flat_map units_of ps))
+          (sym (pieces_are_laid w d C.0 false 0 0 [] C.1)),
+    )
 
 pub laid_is_clean : (w : ℕ) (d : Doc) → IsTheCleanLayoutAt w d
     (trim (without_blank_lines false (flat_map units_of (laid w d false 0 0 0))))

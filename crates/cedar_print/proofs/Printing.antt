@@ -9,13 +9,13 @@ use Rattle.cedar_layout.proofs.Laid.{around, laid-dot}
 use Rattle.cedar_layout.proofs.Rule.{laid_is_the_layout}
 use Rattle.cedar_print.specs.declared.place.Frame.{Frame}
 use Rattle.cedar_print.specs.WrittenMarks.{Mark, end_nest, end_group, end_nothing, AreMarks}
-use Rattle.cedar_print.specs.Clean.{units_of, without_blank_lines, IsTheCleanLayoutAt}
+use Rattle.cedar_print.specs.Clean.{units_of, without_blank_lines, IsUntrimmedLayoutAt, IsTheCleanLayoutAt}
 use Rattle.cedar_print.specs.Inside.Measured.{facts, first_or}
 use Rattle.cedar_print.specs.Inside.Printed.{State, after_begin, printed, at_first}
 use Rattle.cedar_print.proofs.Beginnings.{BeginWith, nothing_first, in_turn, text_first, line_first, line_or_nil_first, hard_first, nest_first, group_first, no_group_first, begin_with_all}
 use Rattle.cedar_print.specs.Inside.Written.{units_at}
 use Rattle.cedar_print.proofs.Units.{concat_units}
-use Rattle.cedar_print.proofs.Clean.{laid_is_clean}
+use Rattle.cedar_print.proofs.Clean.{laid_untrimmed, laid_is_clean}
 use Rattle.cedar_print.proofs.Facts.{HasTail, columns_first, ends_first, tail_first, group_fits}
 
 -- the state of printing before marks
@@ -130,3 +130,10 @@ pub prints_the_clean_layout : (w : ℕ) (ms : List Mark) (d : Doc) → AreMarks 
 prints_the_clean_layout w ms d x l k = subst
     (λ ps. IsTheCleanLayoutAt w d (trim (without_blank_lines false (flat_map units_of ps))))
     (sym (printed_is_laid w ms d x l k)) (laid_is_clean w d)
+
+pub prints_the_untrimmed_layout : (w : ℕ) (ms : List Mark) (d : Doc) → AreMarks ms d → w < 2 ^ 64
+    → (facts ms).columns + 2 ^ 64 ≤ 2 ^ 128
+    → IsUntrimmedLayoutAt w d (without_blank_lines false (units_at w ms))
+prints_the_untrimmed_layout w ms d x l k = subst
+    (λ ps. IsUntrimmedLayoutAt w d (without_blank_lines false (flat_map units_of ps)))
+    (sym (printed_is_laid w ms d x l k)) (laid_untrimmed w d)

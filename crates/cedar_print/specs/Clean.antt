@@ -35,7 +35,11 @@ without_blank_lines fed (u ∷ us) = if fed && list_any is_feed (take_while is_b
     then without_blank_lines true us
     else u ++ without_blank_lines (is_feed u || (fed && is_blank u)) us
 
--- t is the layout of d at the width w, without its blank lines and trimmed
+-- u is the layout of d at the width w, without its blank lines
+abbrev pub IsUntrimmedLayoutAt : ℕ → Doc → List ℕ → Type 0
+IsUntrimmedLayoutAt w d u = (c : Choice d) × IsChoiceAt w d c × (u ≡ without_blank_lines false (flat_map units_of (pieces d c false 0)))
+
+-- t is that, trimmed
 abbrev pub IsCleanLayoutAt : ℕ → Doc → List ℕ → Type 0
 IsCleanLayoutAt w d t = (c : Choice d) × IsChoiceAt w d c × (t ≡ trim (without_blank_lines false (flat_map units_of (pieces d c false 0))))
 

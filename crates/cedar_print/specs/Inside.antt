@@ -3,3 +3,4 @@ pub mod Measured
 pub mod Printed
 pub mod Written
 pub mod Walked
+pub mod Spare

@@ -1,5 +1,6 @@
 pub mod WrittenMarks
 pub mod Marks
 pub mod Clean
+pub mod Rooms
 pub mod Laws
 pub mod Inside

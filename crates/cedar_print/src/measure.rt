@@ -1,9 +1,11 @@
 //! The first pass over marks, from the last to the first. It finds what the second one needs about groups and breaks.
-ghost use Rattle.std.specs.Prelude.{◌≡◌, ◌+◌, ◌^◌, ◌<◌, ◌≤◌, [], length, OnOk};
+ghost use Rattle.std.specs.Prelude.{◌≡◌, ◌+◌, ◌^◌, ◌<◌, ◌≤◌, [], length, OnOk, OnErr};
 ghost use Rattle.cedar_layout.specs.Nodes.{nodes};
 ghost use Rattle.cedar_layout.specs.Value.{doc_of};
 ghost use Rattle.cedar_print.specs.Marks.{mark_of, marks_of};
 ghost use Rattle.cedar_print.specs.Inside.Measured.{before, before_break, facts, facts_of};
+ghost use Rattle.cedar_print.specs.Rooms.{room_to_measure};
+ghost use Rattle.cedar_print.specs.Inside.Spare.{spare_to_measure};
 ghost use Rattle.cedar_print.specs.Inside.Walked.{marks_in};
 
 use crate::mark::Mark;
@@ -54,6 +56,8 @@ impl Known {
         steps: &mut Steps<L>,
     ) -> Result<(), AllocError>
         ensures facts { OnOk result (facts_of self.new ≡ facts (marks_of marks.now)) }
+        ensures full { OnErr result (room_to_measure self.old < length marks.now) }
+        ensures room { room_to_measure self.old ≤ room_to_measure self.new }
         ensures columns { OnOk result (self.new.columns + 2 ^ 64 ≤ 2 ^ 128) }
         ensures steps { OnOk result (steps.new ≡ steps.old + length marks.now) }
         ensures least { steps.old ≤ steps.new }
@@ -93,7 +97,9 @@ impl Known {
 
     /// Goes to the end, where nothing follows.
     fn go_to_the_end(&mut self)
-        ensures { facts_of self.new ≡ facts [] }
+        ensures facts { facts_of self.new ≡ facts [] }
+        ensures room { room_to_measure self.new ≡ room_to_measure self.old }
+        ensures spare { spare_to_measure self.new ≡ room_to_measure self.old }
     {
         self.columns = 0;
         self.stop = 0;
@@ -107,6 +113,9 @@ impl Known {
     fn take_up(&mut self, mark: &Mark<'_>) -> Result<(), AllocError>
         requires { self.old.columns + 2 ^ 64 < 2 ^ 128 }
         ensures facts { OnOk result (facts_of self.new ≡ before (mark_of mark.now) (facts_of self.old)) }
+        ensures full { OnErr result (spare_to_measure self.old ≡ 0) }
+        ensures spare { spare_to_measure self.old ≤ spare_to_measure self.new + 1 }
+        ensures room { room_to_measure self.old ≤ room_to_measure self.new }
         ensures columns { self.new.columns ≤ self.old.columns + 2 ^ 64 }
     {
         match mark {
@@ -132,6 +141,9 @@ impl Known {
     fn break_before(&mut self, columns: u128) -> Result<(), AllocError>
         requires { self.old.columns + columns < 2 ^ 128 }
         ensures facts { OnOk result (facts_of self.new ≡ before_break columns (facts_of self.old)) }
+        ensures full { OnErr result (spare_to_measure self.old ≡ 0) }
+        ensures spare { spare_to_measure self.old ≤ spare_to_measure self.new + 1 }
+        ensures room { room_to_measure self.old ≤ room_to_measure self.new }
         ensures columns { self.new.columns ≤ self.old.columns + columns }
     {
         self.breaks.push(self.columns)?;

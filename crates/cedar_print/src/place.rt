@@ -1,13 +1,15 @@
 //! The second pass over marks, from the first to the last: what each of them writes, using what the first pass found.
-ghost use Rattle.std.specs.Prelude.{◌≡◌, ◌+◌, ◌^◌, ◌≤◌, [], ◌∷◌, if◌then◌else◌, length, OnOk, IfOk};
+ghost use Rattle.std.specs.Prelude.{◌≡◌, ◌+◌, ◌^◌, ◌<◌, ◌≤◌, [], ◌∷◌, if◌then◌else◌, length, OnOk, OnErr, IfOk};
 ghost use Rattle.std.specs.List.{flat_map};
 ghost use Rattle.cedar_layout.specs.Nodes.{nodes};
 ghost use Rattle.cedar_layout.specs.Value.{doc_of};
 ghost use Rattle.cedar_print.specs.WrittenMarks.{begin};
 ghost use Rattle.cedar_print.specs.Marks.{mark_of, marks_of};
 ghost use Rattle.cedar_print.specs.Clean.{units_of};
+ghost use Rattle.cedar_print.specs.Rooms.{room_in};
 ghost use Rattle.cedar_print.specs.Inside.Measured.{facts, facts_of};
 ghost use Rattle.cedar_print.specs.Inside.Printed.{pieces_of, after_break, after_line, inside, outside, after, state_of, at_first};
+ghost use Rattle.cedar_print.specs.Inside.Spare.{spare_to_enter};
 ghost use Rattle.cedar_print.specs.Inside.Walked.{marks_in};
 ghost use Rattle.cedar_print.specs.Inside.Written.{units_in, IsSolid};
 
@@ -73,6 +75,9 @@ impl Place {
         steps: &mut Steps<L>,
     ) -> Result<(), AllocError>
         ensures state { OnOk result (state_of self.new ≡ at_first (facts (marks_of marks.now))) }
+        ensures full { OnErr result (room_in self.old < length marks.now) }
+        ensures spare { OnOk result (room_in self.old ≤ spare_to_enter self.new) }
+        ensures room { room_in self.old ≤ room_in self.new }
         ensures range { OnOk result ((facts (marks_of marks.now)).columns + 2 ^ 64 ≤ 2 ^ 128) }
         ensures steps { OnOk result (steps.new ≡ steps.old + length marks.now) }
         ensures least { steps.old ≤ steps.new }
@@ -103,7 +108,9 @@ impl Place {
 
     /// Goes to the first mark, about which everything is known.
     fn begin_anew(&mut self)
-        ensures { state_of self.new ≡ at_first (facts_of self.old.known) }
+        ensures state { state_of self.new ≡ at_first (facts_of self.old.known) }
+        ensures spare { room_in self.old ≤ spare_to_enter self.new }
+        ensures room { room_in self.new ≡ room_in self.old }
     {
         self.here = FIRST;
         self.outer.clear();
@@ -119,6 +126,9 @@ impl Place {
         ensures state { OnOk result (state_of self.new ≡ after width (mark_of mark.now) (state_of self.old)) }
         ensures units { IfOk result (λ x. units_in x ≡ flat_map units_of (pieces_of (mark_of mark.now) self.old.here)) }
         ensures solid { IfOk result IsSolid }
+        ensures full { OnErr result (spare_to_enter self.old ≡ 0) }
+        ensures spare { spare_to_enter self.old ≤ spare_to_enter self.new + 1 }
+        ensures room { room_in self.old ≤ room_in self.new }
     {
         match mark {
             Mark::Text(text) => Ok(Some(text_or_blank(text))),
@@ -149,6 +159,8 @@ impl Place {
     /// Passes a break that writes this where it is laid out flat.
     fn pass_line(&mut self, flat: Option<Written<'static>>) -> Option<Written<'static>>
         ensures state { state_of self.new ≡ after_line (state_of self.old) }
+        ensures spare { spare_to_enter self.new ≡ spare_to_enter self.old }
+        ensures room { room_in self.new ≡ room_in self.old }
         ensures value { result ≡ (if self.old.here.flat then flat.entry else Some (Written.Break self.old.here.indent)) }
     {
         if self.here.flat {
@@ -161,6 +173,8 @@ impl Place {
     /// Passes a break that is not laid out flat.
     fn pass_break(&mut self) -> Written<'static>
         ensures state { state_of self.new ≡ after_break (state_of self.old) }
+        ensures spare { spare_to_enter self.new ≡ spare_to_enter self.old }
+        ensures room { room_in self.new ≡ room_in self.old }
         ensures value { result ≡ Written.Break self.old.here.indent }
     {
         let later = self.known.breaks.pop().unwrap_or(0);
@@ -170,7 +184,10 @@ impl Place {
 
     /// Goes into the group that begins here, if it is one. It is laid out flat if it is in a flat one, or fits with its tail.
     fn begin_group(&mut self, width: usize) -> Result<(), AllocError>
-        ensures { OnOk result (state_of self.new ≡ after width begin (state_of self.old)) }
+        ensures state { OnOk result (state_of self.new ≡ after width begin (state_of self.old)) }
+        ensures full { OnErr result (spare_to_enter self.old ≡ 0) }
+        ensures spare { spare_to_enter self.old ≤ spare_to_enter self.new + 1 }
+        ensures room { room_in self.old ≤ room_in self.new }
     {
         if let Some(Some(stop)) = self.known.begins.pop() {
             let inner = Frame {
@@ -184,7 +201,10 @@ impl Place {
 
     /// Goes into a nest or a group.
     fn begin(&mut self, inner: Frame) -> Result<(), AllocError>
-        ensures { OnOk result (state_of self.new ≡ inside inner (state_of self.old)) }
+        ensures state { OnOk result (state_of self.new ≡ inside inner (state_of self.old)) }
+        ensures full { OnErr result (spare_to_enter self.old ≡ 0) }
+        ensures spare { spare_to_enter self.old ≤ spare_to_enter self.new + 1 }
+        ensures room { room_in self.old ≤ room_in self.new }
     {
         self.outer.push(self.here)?;
         self.here = inner;
@@ -193,7 +213,9 @@ impl Place {
 
     /// Goes back to what is around the nest or the group that ends here.
     fn end(&mut self)
-        ensures { state_of self.new ≡ outside (state_of self.old) }
+        ensures state { state_of self.new ≡ outside (state_of self.old) }
+        ensures spare { spare_to_enter self.old ≤ spare_to_enter self.new }
+        ensures room { room_in self.new ≡ room_in self.old }
     {
         if let Some(outer) = self.outer.pop() {
             self.here = outer;

@@ -1,5 +1,5 @@
 //! Removing the blanks at the ends of a text.
-ghost use Rattle.std.specs.Prelude.{◌≡◌, ◌++◌, drop, take, string_bytes, OnErr, OnOk};
+ghost use Rattle.std.specs.Prelude.{◌≡◌, ◌<◌, ◌≤◌, ◌++◌, drop, take, string_bytes, string_len, string_capacity, OnErr, OnOk};
 ghost use Rattle.std.specs.Str.{IsCharBoundary, trim, trim_end, trim_start};
 
 use std::alloc::AllocError;
@@ -9,6 +9,8 @@ pub(crate) fn trim_from(out: &mut String, start: usize) -> Result<(), AllocError
     requires { IsCharBoundary (string_bytes out.old) start }
     ensures ok { OnOk result (string_bytes out.new ≡ take start (string_bytes out.old) ++ trim (drop start (string_bytes out.old))) }
     ensures err { OnErr result (string_bytes out.new ≡ string_bytes out.old) }
+    ensures full { OnErr result (string_capacity out.old < string_len out.old) }
+    ensures capacity { string_capacity out.old ≤ string_capacity out.new }
 {
     let blanks = blanks_before(&out.as_str()[start..]);
     out.replace_range(start..start + blanks, "")?;

@@ -15,7 +15,7 @@ use Rattle.cedar_tokens.proofs.Heads.{no_empty_token, token_class, token_of}
 use Rattle.cedar_tokens.proofs.UnitsSoFar.{concat_length, scans_concat}
 use Rattle.cedar_reading.specs.Pieces.{BeginsNoBlank, EndInFeed, IsFirstPiece, IsPiece}
 use Rattle.cedar_reading.proofs.Prefixes.{piece_positive}
-use Rattle.cedar_positions.specs.Laws.{CanBeNamed}
+use Rattle.cedar_edits.specs.Laws.{CanBeNamed}
 use Rattle.cedar_edits.specs.Edits.{IsNamedPart, IsPartOf}
 use Rattle.cedar_ranges.specs.Inside.Growing.{Grows}
 

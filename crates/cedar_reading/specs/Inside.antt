@@ -2,3 +2,4 @@
 pub mod Lexed
 pub mod Commas
 pub mod Steps
+pub mod Leadings

@@ -23,7 +23,7 @@ use std::alloc::AllocError;
 pub fn store_tokens<'src>(
     text: &'src str,
     lexemes: &[Lexeme<'src>],
-    tokens: &mut Vec<Token<'src>>,
+    tokens: &mut Vec<Token<'src, 'src>>,
 ) -> Result<&'src str, AllocError>
     requires { AreLexemes text.now lexemes.now }
     ensures { IfOk result (λ closing. IsListing text.now (record { tokens = tokens.new.items; closing = comments closing.now })) }
@@ -47,7 +47,7 @@ pub fn store_tokens<'src>(
 pub fn store_plain_tokens<'src>(
     text: &'src str,
     lexemes: &[Lexeme<'src>],
-    tokens: &mut Vec<Token<'src>>,
+    tokens: &mut Vec<Token<'src, 'src>>,
 ) -> Result<&'src str, AllocError>
     requires { AreLexemes text.now lexemes.now }
     ensures { IfOk result (λ closing. IsPlainListing text.now (record { tokens = tokens.new.items; closing = comments closing.now })) }
@@ -84,7 +84,7 @@ pub fn store_plain_tokens<'src>(
 }
 
 /// Whether one of the tokens is a trailing comma. If none is, the list without trailing commas is the list itself.
-pub fn has_trailing_comma(tokens: &[Token<'_>]) -> bool
+pub fn has_trailing_comma(tokens: &[Token<'_, '_>]) -> bool
     ensures value { result ≡ has_trailing_comma tokens.now }
     ensures plain { OnFalse result (plain_list tokens.now ≡ tokens.now) }
 {
@@ -122,7 +122,11 @@ fn is_closing(kind: Kind) -> bool
 }
 
 // Leaves the trailing text of a comma with these comments to the last token, if nothing is between them; and whether it did.
-fn leave_to_last<'src>(tokens: &mut Vec<Token<'src>>, leading: &str, trailing: &'src str) -> bool
+fn leave_to_last<'src>(
+    tokens: &mut Vec<Token<'src, 'src>>,
+    leading: &str,
+    trailing: &'src str,
+) -> bool
     ensures { let c = comma (comments leading.now) trailing.now in MatchBool result (TakesOver tokens.old.items tokens.new.items c) (StaysApart tokens.old.items tokens.new.items c) }
 {
     let Some(at) = tokens.len().checked_sub(1) else {

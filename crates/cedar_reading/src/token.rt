@@ -1,6 +1,5 @@
 //! Tokens between their comments, as slices of a text.
-ghost use Rattle.std.specs.Prelude.{◌≡◌, ◌++◌};
-ghost use Rattle.std.specs.List.{flat_map};
+ghost use Rattle.std.specs.Prelude.{◌≡◌, ◌++◌, map};
 ghost use Rattle.cedar_tokens.specs.TokenKinds.{kind_of};
 ghost use Rattle.cedar_tokens.specs.Listing.{comments, token_value};
 ghost use Rattle.cedar_grammar.specs.Laws.{kind_of_decorated};
@@ -12,34 +11,51 @@ use crate::literals::without_zeros;
 use cedar_tokens::kind::Kind;
 use std::marker::Model;
 
-/// A token between its comments. Holds slices of the text alone, so it allocates nothing.
+/// A token between its comments. Holds slices alone, so it allocates nothing.
 #[derive(Drop)]
-pub struct Token<'src> {
+pub struct Token<'t, 'src> {
     kind: Kind,
     text: &'src str,
-    // The texts around a trailing comma that stood before the token and left its comments to it.
-    comma_leading: &'src str,
-    comma_trailing: &'src str,
-    leading: &'src str,
+    leading: Leading<'t, 'src>,
     trailing: &'src str,
 }
 
-impl<'src> Model for Token<'src> {
-    ghost use Rattle.std.specs.Prelude.{◌≡◌, ◌++◌};
-    ghost use Rattle.cedar_tokens.specs.Listing.{Decorated, comments};
+// Where the leading lines of a token are.
+#[derive(Drop)]
+enum Leading<'t, 'src> {
+    // The comments of its own text, and before them of the texts around a trailing comma that stood before the token and
+    // left its comments to it.
+    Texts {
+        comma_leading: &'src str,
+        comma_trailing: &'src str,
+        own: &'src str,
+    },
+    // These are they.
+    Given(&'t [&'src str]),
+}
+
+impl<'t, 'src> Model for Token<'t, 'src> {
+    ghost use Rattle.std.specs.Prelude.{◌≡◌};
+    ghost use Rattle.cedar_tokens.specs.Listing.{Decorated};
     ghost use Rattle.cedar_tokens.specs.TokenKinds.{kind_of};
+    ghost use Rattle.cedar_reading.specs.Inside.Leadings.{lines_of};
 
     ghost Value = { Decorated };
 
-    ghost view = { λ t. record { text = t.text.now; leading = comments t.comma_leading.now ++ (comments t.comma_trailing.now ++ comments t.leading.now); trailing = t.trailing.now } };
+    ghost view = { λ t. record { text = t.text.now; leading = lines_of t.leading; trailing = t.trailing.now } };
 
     ghost invariant = { λ t. t.kind ≡ kind_of t.text.now };
 }
 
-impl<'src> Token<'src> {
+impl<'t, 'src> Token<'t, 'src> {
     /// The token with this source text, the comments of the text `leading`, and the trailing text `trailing`. `kind` is the
     /// kind of its text.
-    pub fn new(kind: Kind, text: &'src str, leading: &'src str, trailing: &'src str) -> Token<'src>
+    pub fn new(
+        kind: Kind,
+        text: &'src str,
+        leading: &'src str,
+        trailing: &'src str,
+    ) -> Token<'t, 'src>
         requires { kind ≡ kind_of text.now }
         ensures { result ≡ record { text = text.now; leading = comments leading.now; trailing = trailing.now } }
     {
@@ -54,16 +70,36 @@ impl<'src> Token<'src> {
         comma_trailing: &'src str,
         leading: &'src str,
         trailing: &'src str,
-    ) -> Token<'src>
+    ) -> Token<'t, 'src>
         requires { kind ≡ kind_of text.now }
         ensures { result ≡ record { text = text.now; leading = comments comma_leading.now ++ (comments comma_trailing.now ++ comments leading.now); trailing = trailing.now } }
     {
         Token {
             kind,
             text,
-            comma_leading,
-            comma_trailing,
-            leading,
+            leading: Leading::Texts {
+                comma_leading,
+                comma_trailing,
+                own: leading,
+            },
+            trailing,
+        }
+    }
+
+    /// The token with this source text, these leading lines and this trailing text. `kind` is the kind of its text.
+    pub fn with_lines(
+        kind: Kind,
+        text: &'src str,
+        lines: &'t [&'src str],
+        trailing: &'src str,
+    ) -> Token<'t, 'src>
+        requires { kind ≡ kind_of text.now }
+        ensures { result ≡ record { text = text.now; leading = map (λ l. l.now) lines.now; trailing = trailing.now } }
+    {
+        Token {
+            kind,
+            text,
+            leading: Leading::Given(lines),
             trailing,
         }
     }
@@ -82,18 +118,18 @@ impl<'src> Token<'src> {
         self.text
     }
 
-    /// The texts whose comments, one after the other, are its leading lines.
-    pub fn leading(&self) -> [&'src str; 3]
-        ensures { flat_map (λ t. comments t.now) result ≡ self.now.leading }
-    {
-        [self.comma_leading, self.comma_trailing, self.leading]
-    }
-
     /// Its leading lines.
-    pub fn lines(&self) -> Lines<'src>
+    pub fn lines(&self) -> Lines<'t, 'src>
         ensures { lines_left result ≡ self.now.leading }
     {
-        Lines::new(self.comma_leading, self.comma_trailing, self.leading)
+        match self.leading {
+            Leading::Texts {
+                comma_leading,
+                comma_trailing,
+                own,
+            } => Lines::of_texts(comma_leading, comma_trailing, own),
+            Leading::Given(lines) => Lines::given(lines),
+        }
     }
 
     /// Its trailing text.

@@ -8,7 +8,7 @@ use cedar_tokens::lexer::UnitKind;
 use cedar_tokens::units::Units;
 
 /// Whether `text` splits and its tokens are `tokens`, numbers by value. Ignores comments, and allocates nothing.
-pub fn has_tokens(text: &str, tokens: &[Token<'_>]) -> bool
+pub fn has_tokens(text: &str, tokens: &[Token<'_, '_>]) -> bool
     ensures { IsTrue result ↔ HasTheTokens text.now tokens.now }
 {
     let mut found = 0;

@@ -3,7 +3,7 @@ use Rattle.std.proofs.Common.{◌≡◌, ℕ, List, [], ◌∷◌, ◌++◌, ref
 use Rattle.std.proofs.lemmas.List.{append-nil}
 use Rattle.cedar_tokens.specs.declared.token.Span.{Span}
 use Rattle.cedar_faults.specs.declared.fault.Fault.{Fault}
-use Rattle.cedar_positions.specs.declared.positions.Encoding.{Encoding}
+use Rattle.cedar_edits.specs.declared.positions.Encoding.{Encoding}
 use Rattle.cedar_server.specs.declared.diagnoses.Diagnosis.{Diagnosis}
 use Rattle.cedar_server.specs.declared.fixes.Fix.{Fix}
 use Rattle.cedar_server.specs.Diagnoses.{TellAll, Tells}

@@ -11,10 +11,10 @@ use Rattle.std.proofs.lemmas.List.Elements.{All-nil, All-cons}
 use Rattle.std.proofs.lemmas.Map.Text.{is_eq-slice_cmp}
 use Rattle.std.proofs.lemmas.Bool.Decides.{same_from_decides}
 use Rattle.std.proofs.lemmas.Slice.Eq.{bytes_eq-Decides}
-use Rattle.cedar_positions.specs.declared.changes.Change.{Change}
-use Rattle.cedar_positions.specs.declared.changes.Change.TheVariants.{Whole, Part}
-use Rattle.cedar_positions.specs.declared.positions.Encoding.{Encoding}
-use Rattle.cedar_positions.specs.Changes.{MakeInTurn}
+use Rattle.cedar_edits.specs.declared.changes.Change.{Change}
+use Rattle.cedar_edits.specs.declared.changes.Change.TheVariants.{Whole, Part}
+use Rattle.cedar_edits.specs.declared.positions.Encoding.{Encoding}
+use Rattle.cedar_edits.specs.Changes.{MakeInTurn}
 use Rattle.cedar_server.specs.declared.documents.Document.{Document}
 use Rattle.cedar_server.specs.declared.documents.Document.TheVariants.{Lost}
 use Rattle.cedar_server.specs.declared.messages.ServerMessage.{ServerMessage}

@@ -3,7 +3,7 @@ use Rattle.std.proofs.Common.{◌≡◌, ◌≢◌, ◌+◌, ℕ, Bool, true, fa
 use Rattle.std.proofs.lemmas.Bool.Decides.{nat_tests}
 use Rattle.cedar_tokens.specs.declared.kind.Kind.{Kind}
 use Rattle.cedar_tokens.specs.declared.token.Span.{Span}
-use Rattle.cedar_expected.specs.Samples.{sample}
+use Rattle.cedar_faults.specs.Samples.{sample}
 use Rattle.cedar_faults.specs.declared.fault.Fault.{Fault}
 use Rattle.cedar_faults.specs.Faults.{AreFirstFaults}
 use Rattle.cedar_server.specs.Diagnoses.{most}

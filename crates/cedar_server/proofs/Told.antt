@@ -5,7 +5,7 @@ use Rattle.cedar_faults.specs.declared.fault.Fault.{Fault}
 use Rattle.cedar_faults.specs.Faults.{BeginsWithPolicy, SearchFinds}
 use Rattle.cedar_faults.specs.Faults.SearchFinds.{nothing, policy}
 use Rattle.cedar_faults.proofs.Searching.{finds_on}
-use Rattle.cedar_positions.specs.declared.positions.Encoding.{Encoding}
+use Rattle.cedar_edits.specs.declared.positions.Encoding.{Encoding}
 use Rattle.cedar_server.specs.declared.diagnoses.Diagnosis.{Diagnosis}
 use Rattle.cedar_server.specs.Diagnoses.{AreDiagnoses, TellAll, Tells, TellsMore, most}
 use Rattle.cedar_server.proofs.Lists.{tell_more}

@@ -1,8 +1,8 @@
 -- The answers to requests about faults, and about what could come.
 use Rattle.std.specs.Prelude.{◌≡◌, ℕ, List, string_bytes}
-use Rattle.cedar_positions.specs.declared.positions.Encoding.{Encoding}
-use Rattle.cedar_positions.specs.declared.positions.Position.{Position}
-use Rattle.cedar_positions.specs.declared.changes.Range.{Range}
+use Rattle.cedar_edits.specs.declared.positions.Encoding.{Encoding}
+use Rattle.cedar_edits.specs.declared.positions.Position.{Position}
+use Rattle.cedar_edits.specs.declared.changes.Range.{Range}
 use Rattle.cedar_server.specs.Completions.{AreCompletions}
 use Rattle.cedar_server.specs.Fixes.{AreFixes}
 use Rattle.cedar_server.specs.declared.messages.Answer.{Answer}

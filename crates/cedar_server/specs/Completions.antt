@@ -10,9 +10,9 @@ use Rattle.cedar_tree.specs.declared.error.FormatError.TheVariants as error
 use Rattle.cedar_faults.specs.declared.fault.Fault.{Fault}
 use Rattle.cedar_faults.specs.Faults.{AreFirstFaults}
 use Rattle.cedar_server.specs.Diagnoses.{most}
-use Rattle.cedar_positions.specs.declared.positions.Encoding.{Encoding}
-use Rattle.cedar_positions.specs.declared.positions.Position.{Position}
-use Rattle.cedar_positions.specs.Positions.{IsOffsetOf}
+use Rattle.cedar_edits.specs.declared.positions.Encoding.{Encoding}
+use Rattle.cedar_edits.specs.declared.positions.Position.{Position}
+use Rattle.cedar_edits.specs.Positions.{IsOffsetOf}
 use Rattle.cedar_server.specs.declared.completions.Completions.{Completions}
 use Rattle.cedar_server.specs.Diagnoses.{IsRangeOf}
 

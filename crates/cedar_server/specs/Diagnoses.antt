@@ -8,9 +8,9 @@ use Rattle.cedar_faults.specs.declared.fault.Fault.{Fault}
 use Rattle.cedar_faults.specs.Brackets.{told_open}
 use Rattle.cedar_faults.specs.Faults.{AreFaults, SearchFinds}
 use Rattle.cedar_faults.specs.Words.{message}
-use Rattle.cedar_positions.specs.declared.positions.Encoding.{Encoding}
-use Rattle.cedar_positions.specs.declared.changes.Range.{Range}
-use Rattle.cedar_positions.specs.Positions.{IsPositionAt}
+use Rattle.cedar_edits.specs.declared.positions.Encoding.{Encoding}
+use Rattle.cedar_edits.specs.declared.changes.Range.{Range}
+use Rattle.cedar_edits.specs.Positions.{IsPositionAt}
 use Rattle.cedar_server.specs.declared.diagnoses.Code.{Code}
 use Rattle.cedar_server.specs.declared.diagnoses.Code.TheVariants as code
 use Rattle.cedar_server.specs.declared.diagnoses.Diagnosis.{Diagnosis}

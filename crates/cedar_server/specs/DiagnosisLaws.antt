@@ -1,7 +1,7 @@
 -- Laws of what is reported to an editor.
 use Rattle.std.specs.Prelude.{◌≡◌, ◌↔◌, ℕ, List, []}
 use Rattle.cedar_grammar.specs.Texts.{Accepted}
-use Rattle.cedar_positions.specs.declared.positions.Encoding.{Encoding}
+use Rattle.cedar_edits.specs.declared.positions.Encoding.{Encoding}
 use Rattle.cedar_server.specs.declared.diagnoses.Diagnosis.{Diagnosis}
 use Rattle.cedar_server.specs.Diagnoses.{AreDiagnoses}
 

@@ -3,15 +3,15 @@ use Rattle.std.specs.Prelude.{◌≡◌, ◌≢◌, ◌+◌, ◌⊎◌, ℕ, Boo
 use Rattle.std.specs.Str.{IsCharBoundary}
 use Rattle.cedar_tokens.specs.declared.kind.Kind.{Kind}
 use Rattle.cedar_tokens.specs.declared.token.Span.{Span}
-use Rattle.cedar_expected.specs.Samples.{sample}
+use Rattle.cedar_faults.specs.Samples.{sample}
 use Rattle.cedar_faults.specs.declared.fault.Fault.{Fault}
 use Rattle.cedar_faults.specs.declared.tips.Tip.{Tip}
 use Rattle.cedar_faults.specs.declared.tips.Tip.TheVariants.{Meant}
 use Rattle.cedar_faults.specs.Faults.{AreFirstFaults}
 use Rattle.cedar_faults.specs.Tips.{tip_for}
-use Rattle.cedar_positions.specs.declared.positions.Encoding.{Encoding}
-use Rattle.cedar_positions.specs.declared.changes.Range.{Range}
-use Rattle.cedar_positions.specs.Positions.{IsOffsetOf}
+use Rattle.cedar_edits.specs.declared.positions.Encoding.{Encoding}
+use Rattle.cedar_edits.specs.declared.changes.Range.{Range}
+use Rattle.cedar_edits.specs.Positions.{IsOffsetOf}
 use Rattle.cedar_server.specs.declared.fixes.Fix.{Fix}
 use Rattle.cedar_server.specs.Diagnoses.{Tells, most}
 

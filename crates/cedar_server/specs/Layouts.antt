@@ -5,17 +5,17 @@ use Rattle.cedar_ranges.specs.Edits.{IsFormattedAt, IsFormattedOf, IsRefusedAt}
 use Rattle.cedar_ranges.specs.Keeping.{Keeps}
 use Rattle.cedar_tree.specs.Refusals.{Refuses}
 use Rattle.cedar_tree.specs.declared.error.FormatError.{FormatError}
-use Rattle.cedar_positions.specs.declared.positions.Encoding.{Encoding}
-use Rattle.cedar_positions.specs.declared.changes.Edit.{Edit}
-use Rattle.cedar_positions.specs.declared.changes.Range.{Range}
-use Rattle.cedar_positions.specs.Changes.{PutsAll}
-use Rattle.cedar_positions.specs.Positions.{IsOffsetOf}
+use Rattle.cedar_edits.specs.declared.positions.Encoding.{Encoding}
+use Rattle.cedar_edits.specs.declared.changes.PlacedEdit.{PlacedEdit}
+use Rattle.cedar_edits.specs.declared.changes.Range.{Range}
+use Rattle.cedar_edits.specs.Changes.{PutsAll}
+use Rattle.cedar_edits.specs.Positions.{IsOffsetOf}
 use Rattle.cedar_server.specs.declared.messages.Answer.{Answer}
 use Rattle.cedar_server.specs.declared.messages.Answer.TheVariants as answer
 
 -- by these edits at positions, each in the old text and in order, the client makes the new text; there are none if
 -- nothing changes
-pub record EditsTo (e : Encoding) (edits : List Edit) (old new : List ℕ) : Type 0 where
+pub record EditsTo (e : Encoding) (edits : List PlacedEdit) (old new : List ℕ) : Type 0 where
   pub puts : PutsAll e edits old new
   pub none : new ≡ old → edits ≡ []
 

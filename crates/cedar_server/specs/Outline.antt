@@ -1,7 +1,7 @@
 -- The answers to requests for what an editor shows of a document.
 use Rattle.std.specs.Prelude.{ℕ, List}
-use Rattle.cedar_positions.specs.declared.positions.Encoding.{Encoding}
-use Rattle.cedar_positions.specs.declared.positions.Position.{Position}
+use Rattle.cedar_edits.specs.declared.positions.Encoding.{Encoding}
+use Rattle.cedar_edits.specs.declared.positions.Position.{Position}
 use Rattle.cedar_server.specs.Placed.{ArePlacedFolds, ArePlacedSelections, ArePlacedSymbols, ArePlacedTokens}
 use Rattle.cedar_server.specs.declared.messages.Answer.{Answer}
 use Rattle.cedar_server.specs.declared.messages.Answer.TheVariants as answer

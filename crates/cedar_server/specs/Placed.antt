@@ -1,10 +1,10 @@
 -- What an editor shows of a text, by the positions that it counts in.
 use Rattle.std.specs.Prelude.{◌≡◌, ℕ, List, [], ◌∷◌, string_bytes, ⊤}
 use Rattle.cedar_tokens.specs.declared.token.Span.{Span}
-use Rattle.cedar_positions.specs.declared.positions.Encoding.{Encoding}
-use Rattle.cedar_positions.specs.declared.changes.Range.{Range}
-use Rattle.cedar_positions.specs.declared.positions.Position.{Position}
-use Rattle.cedar_positions.specs.Positions.{IsOffsetOf, IsPositionAt}
+use Rattle.cedar_edits.specs.declared.positions.Encoding.{Encoding}
+use Rattle.cedar_edits.specs.declared.changes.Range.{Range}
+use Rattle.cedar_edits.specs.declared.positions.Position.{Position}
+use Rattle.cedar_edits.specs.Positions.{IsOffsetOf, IsPositionAt}
 use Rattle.cedar_server.specs.Semantic.{AreSemanticTokens}
 use Rattle.cedar_server.specs.Symbols.{AreSymbols}
 use Rattle.cedar_server.specs.Folds.{AreFolds}

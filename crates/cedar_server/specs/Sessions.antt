@@ -5,11 +5,11 @@ use Rattle.std.specs.BTreeMap.{BTreeMap, get_by_text}
 use Rattle.std.specs.declared.vec.Vec.{Vec}
 use Rattle.cedar_server.specs.declared.diagnoses.Diagnosis.{Diagnosis}
 use Rattle.cedar_server.specs.Diagnoses.{AreDiagnoses}
-use Rattle.cedar_positions.specs.declared.positions.Encoding.{Encoding}
-use Rattle.cedar_positions.specs.declared.positions.Encoding.TheVariants.{Utf16}
-use Rattle.cedar_positions.specs.declared.changes.Change.{Change}
-use Rattle.cedar_positions.specs.declared.changes.Change.TheVariants.{Whole, Part}
-use Rattle.cedar_positions.specs.Changes.{MakeInTurn}
+use Rattle.cedar_edits.specs.declared.positions.Encoding.{Encoding}
+use Rattle.cedar_edits.specs.declared.positions.Encoding.TheVariants.{Utf16}
+use Rattle.cedar_edits.specs.declared.changes.Change.{Change}
+use Rattle.cedar_edits.specs.declared.changes.Change.TheVariants.{Whole, Part}
+use Rattle.cedar_edits.specs.Changes.{MakeInTurn}
 use Rattle.cedar_server.specs.declared.messages.Answer.{Answer}
 use Rattle.cedar_server.specs.declared.messages.Answer.TheVariants as answer
 use Rattle.cedar_server.specs.declared.messages.ClientMessage.{ClientMessage}

@@ -5,7 +5,7 @@ ghost use Rattle.cedar_server.specs.Advice.{Completes, GivesFixes};
 use crate::completions::complete;
 use crate::fixes::find_fixes;
 use crate::messages::Answer;
-use cedar_positions::{Encoding, Position, Range};
+use cedar_edits::{Encoding, Position, Range};
 use std::alloc::{AllocError, Global};
 
 /// The fixes of the faults of a document that a range touches.

@@ -6,8 +6,8 @@ ghost use Rattle.cedar_server.specs.Completions.{AreCompletions, BeginsWord, Cou
 
 use crate::diagnoses::MOST;
 use crate::ranges::range_of;
+use cedar_edits::{Encoding, Position, Range, offset_at};
 use cedar_faults::listing::first_faults;
-use cedar_positions::{Encoding, Position, Range, offset_at};
 use cedar_tokens::kind::Kind;
 use cedar_tokens::token::Span;
 use cedar_tree::error::FormatError;

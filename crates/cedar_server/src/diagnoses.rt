@@ -3,9 +3,9 @@ ghost use Rattle.std.specs.Prelude.{◌≡◌, IfOk};
 ghost use Rattle.cedar_server.specs.Diagnoses.{Relates, Tells, TellsMore, code_of};
 
 use crate::ranges::range_of;
+use cedar_edits::{Encoding, Range};
 use cedar_faults::brackets::Bracket;
 use cedar_faults::fault::Fault;
-use cedar_positions::{Encoding, Range};
 use cedar_tree::error::FormatError;
 use std::alloc::{AllocError, Global};
 

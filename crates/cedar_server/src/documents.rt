@@ -4,7 +4,7 @@ ghost use Rattle.cedar_server.specs.Sessions.{AreAllLost, AreCleared, AreSame, C
 
 use crate::diagnoses::Diagnosis;
 use crate::messages::ServerMessage;
-use cedar_positions::{Change, Encoding, changed_text};
+use cedar_edits::{Change, Encoding, changed_text};
 use std::alloc::{AllocError, Global};
 use std::collections::BTreeMap;
 

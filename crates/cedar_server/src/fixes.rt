@@ -4,11 +4,11 @@ ghost use Rattle.cedar_server.specs.Inside.Offers.{Offers};
 ghost use Rattle.cedar_server.specs.Fixes.{AreFixes, AreFixesIn, Fails, HasNoFix, IsFix, IsPart, Mends, faults_before, meant_by, touches};
 
 use crate::diagnoses::{Diagnosis, MOST, tell};
-use cedar_expected::samples::sample;
+use cedar_edits::{Encoding, Range, offset_at};
 use cedar_faults::fault::Fault;
 use cedar_faults::listing::first_faults;
+use cedar_faults::samples::sample;
 use cedar_faults::tips::Tip;
-use cedar_positions::{Encoding, Range, offset_at};
 use cedar_tokens::kind::Kind;
 use cedar_tokens::token::Span;
 use std::alloc::{AllocError, Global};

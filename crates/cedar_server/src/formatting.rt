@@ -3,10 +3,9 @@ ghost use Rattle.std.specs.Prelude.{IfOk};
 ghost use Rattle.cedar_server.specs.Layouts.{LaysOut, LaysOutPart};
 
 use crate::messages::Answer;
-use cedar_edits::place_edits;
+use cedar_edits::{Encoding, Range, offset_at, place_edits};
 use cedar_policy_formatter::token::Span;
 use cedar_policy_formatter::{Config, FormatError};
-use cedar_positions::{Encoding, Range, offset_at};
 use cedar_ranges::{format_range, format_text};
 use std::alloc::{AllocError, Global};
 

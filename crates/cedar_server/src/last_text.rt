@@ -6,8 +6,8 @@ ghost use Rattle.cedar_server.specs.Diagnoses.{AreDiagnoses};
 ghost use Rattle.cedar_server.specs.Inside.Standing.{StandsAt};
 
 use crate::diagnoses::{Diagnosis, MOST, tell, tell_more};
+use cedar_edits::Encoding;
 use cedar_faults::reader::{FaultReader, Step};
-use cedar_positions::Encoding;
 use cedar_tokens::token::Span;
 use std::alloc::{AllocError, Global};
 use std::marker::Model;

@@ -23,8 +23,8 @@ mod server;
 mod session;
 pub mod symbols;
 
-pub use cedar_expected::samples::sample;
-pub use cedar_positions::{Change, Edit, Encoding, Position, Range, offset_at, position_at};
+pub use cedar_edits::{Change, Encoding, PlacedEdit, Position, Range, offset_at, position_at};
+pub use cedar_faults::samples::sample;
 pub use cedar_tokens::kind::Kind;
 pub use classes::Class;
 pub use completions::Completions;

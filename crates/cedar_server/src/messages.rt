@@ -3,7 +3,7 @@ use crate::completions::Completions;
 use crate::diagnoses::Diagnosis;
 use crate::fixes::Fix;
 use crate::placed::{PlacedFold, PlacedSelection, PlacedSymbol, PlacedToken};
-use cedar_positions::{Change, Edit, Encoding, Position, Range};
+use cedar_edits::{Change, Encoding, PlacedEdit, Position, Range};
 
 /// The id of a request, as its client chose it.
 #[derive(Debug, PartialEq, Drop)]
@@ -162,7 +162,7 @@ pub enum Answer {
     /// There is nothing to say: after `shutdown`, and if what is to be formatted is refused.
     Nothing,
     /// These edits format the document, or a part of it; there are none if it is formatted.
-    Edits(Vec<Edit>),
+    Edits(Vec<PlacedEdit>),
     /// Each of these mends a fault of the document with this URI.
     Fixes {
         uri: String,

@@ -4,7 +4,7 @@ ghost use Rattle.cedar_server.specs.Outline.{ShowsFolds, ShowsSelections, ShowsS
 
 use crate::messages::Answer;
 use crate::placed::{placed_folds, placed_selections, placed_symbols, placed_tokens};
-use cedar_positions::{Encoding, Position};
+use cedar_edits::{Encoding, Position};
 use std::alloc::{AllocError, Global};
 
 /// The classes of the tokens and comments of a text.

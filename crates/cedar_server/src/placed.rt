@@ -1,6 +1,6 @@
 //! What an editor shows of a text, by the positions that it counts in.
 ghost use Rattle.std.specs.Prelude.{IfOk};
-ghost use Rattle.cedar_positions.specs.Positions.{BeginsLine, IsPositionAt};
+ghost use Rattle.cedar_edits.specs.Positions.{BeginsLine, IsPositionAt};
 ghost use Rattle.cedar_server.specs.Placed.{ArePlacedFolds, ArePlacedSelections, ArePlacedSymbols, ArePlacedTokens, IsPlacedSelection, IsRangeOf, PlacesFold, PlacesSymbol, PlacesToken};
 ghost use Rattle.cedar_server.specs.Selections.{AreBlocks};
 
@@ -9,7 +9,7 @@ use crate::folds::{Fold, FoldKind, folds};
 use crate::selections::{blocks, blocks_around};
 use crate::semantic::{SemanticToken, semantic_tokens};
 use crate::symbols::{Symbol, symbols};
-use cedar_positions::{Encoding, Line, Position, Range, line_from, offset_at, position_on};
+use cedar_edits::{Encoding, Line, Position, Range, line_from, offset_at, position_on};
 use cedar_tokens::token::Span;
 use std::alloc::{AllocError, Global};
 

@@ -1,7 +1,7 @@
 //! Parts of a text at positions.
 ghost use Rattle.cedar_server.specs.Diagnoses.{IsRangeOf};
 
-use cedar_positions::{Encoding, Range, position_at};
+use cedar_edits::{Encoding, Range, position_at};
 use cedar_tokens::token::Span;
 
 /// The part of the text at the positions of its bytes.

@@ -16,8 +16,8 @@ use crate::messages::{
     Unread, Wishes,
 };
 use crate::outline::{folds_of, selections_of, symbols_of, tokens_of};
+use cedar_edits::{Change, Encoding, Position, Range, changed_text};
 use cedar_policy_formatter::Config;
-use cedar_positions::{Change, Encoding, Position, Range, changed_text};
 use std::alloc::{AllocError, Global};
 use std::collections::BTreeMap;
 

@@ -189,7 +189,7 @@ not_none r = grind (arith, nat_tests)
 one_less : (r : ℕ) → suc r - 1 ≡ r
 one_less r = omega arith
 
-add_room : (x : Mark) (l : List Decorated) (m : List Mark) (k r : ℕ) → k ≡ suc r
+pub add_room : (x : Mark) (l : List Decorated) (m : List Mark) (k r : ℕ) → k ≡ suc r
     → add x (going l m k) ≡ going l (m ++ (x ∷ [])) r
 add_room x l m k r e = rw (e, not_none r, one_less r) refl
 
@@ -623,7 +623,7 @@ module _ (i : ℤ) where
   begun_expr (t ∷ ts) b = within_at (first (lines.expr i)) expr_first (expr_begins i)
       (kind_of_decorated t) b
 
-  no_rows : Starts Never false expr_first
+  pub no_rows : Starts Never false expr_first
   no_rows ts d x = absurd x
 
   pub expr_begun : (n : ℕ) → Starts (Expr i n) false expr_first

@@ -23,3 +23,6 @@ pub mod Flat
 mod Cutting
 pub mod OnePolicy
 pub mod Printed
+pub mod MoreRoom
+pub mod NotBare
+pub mod NodeLaws

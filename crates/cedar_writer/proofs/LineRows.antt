@@ -55,7 +55,7 @@ ident = token_same (λ t. IsTrue (is_identifier t)) is_ident [] nil none
     (λ t h. ident_agrees t (ident_is_token t h) ∙ h) (λ t k h. sym (ident_agrees t k) ∙ h)
 
 -- what is followed by nothing
-alone : {X : L.Lang} {Y : Lang} → Same X Y → Same X (Y ⋄ Put [])
+pub alone : {X : L.Lang} {Y : Lang} → Same X Y → Same X (Y ⋄ Put [])
 alone {X} {Y} x = written off on x
   where
     off : G.Into (Y ⋄ Put []) Y
@@ -67,7 +67,7 @@ alone {X} {Y} x = written off on x
     on ts ms y = (ts, [], ms, [], sym (append-nil ts), sym (append-nil ms), y, (refl, refl))
 
 -- a second alternative without rows
-or_never : {X : L.Lang} {Y : Lang} → Same X Y → Same X (Y ∪ Never)
+pub or_never : {X : L.Lang} {Y : Lang} → Same X Y → Same X (Y ∪ Never)
 or_never x = written (λ ts ms y. elim y [ inl z ↦ z | inr z ↦ absurd z ]) (λ ts ms y. inl y) x
 
 pub comma : Same (W.Tok ",") (Token (is K.Comma) [] [])
@@ -85,10 +85,10 @@ module _ (i : ℤ) (room : Bool) {Rows : L.Lang} {E : Lang} (inner : Same Rows E
   abbrev Means : R.Rule → Lang
   Means r = means room E r
 
-  path : Same W.Path (Means l.path)
+  pub path : Same W.Path (Means l.path)
   path = ident then many (colons then ident)
 
-  entity : Same W.Entity (Means l.entity)
+  pub entity : Same W.Entity (Means l.entity)
   entity = within (G.right _ _ _) (G.left _ _ _)
       (ident then many (colons then ident) then or_never (colons then str))
 
@@ -96,7 +96,7 @@ module _ (i : ℤ) (room : Bool) {Rows : L.Lang} {E : Lang} (inner : Same Rows E
   annotation = tok "@" K.At refl then any_word
       then (tok "(" K.LParen refl then str then tok_then ")" K.RParen _ D.hard a_hard refl or hard)
 
-  field : Same W.Field (Means l.field)
+  pub field : Same W.Field (Means l.field)
   field = tok "." K.Dot refl then ident
 
   signs : (s : String) (k : Kind) → has_text k (codes s) ≡ true
@@ -125,18 +125,18 @@ module _ (i : ℤ) (room : Bool) {Rows : L.Lang} {E : Lang} (inner : Same Rows E
       (L.Maybe (X ⊙ L.Many (L.Put D.line_or_nil ⊙ X)))) (AccessesOf Y)
   accesses x = nest i (maybe (x then many (line_or_nil then x)))
 
-  accessed : {F X : L.Lang} {Y Z : Lang} → Same F Y → Same X Z
+  pub accessed : {F X : L.Lang} {Y Z : Lang} → Same F Y → Same X Z
       → Same (W.Accessed i F X) (Between begin end_group (Y ⋄ AccessesOf Z))
   accessed f x = group (f then accesses x)
 
-  no_accesses : Same (L.Maybe (L.Never ⊙ L.Many (L.Put D.line_or_nil ⊙ L.Never))) (Put [])
+  pub no_accesses : Same (L.Maybe (L.Never ⊙ L.Many (L.Put D.line_or_nil ⊙ L.Never))) (Put [])
   no_accesses = within to (λ ts d y. inr y) (put [] nil none)
     where
       to : G.To (L.Maybe (L.Never ⊙ L.Many (L.Put D.line_or_nil ⊙ L.Never))) (L.Put nil)
       to ts d (inl (us, vs, e, f, s, c, x, y)) = absurd x
       to ts d (inr y) = y
 
-  operand : {X : L.Lang} {Y : Lang} → Same X Y → Same (W.Operand i X) (OperandOf Y)
+  pub operand : {X : L.Lang} {Y : Lang} → Same X Y → Same (W.Operand i X) (OperandOf Y)
   operand x = group (group (group (x then nest i no_accesses)))
 
   -- ---- the scope
@@ -164,7 +164,7 @@ module _ (i : ℤ) (room : Bool) {Rows : L.Lang} {E : Lang} (inner : Same Rows E
       (G.lifted_into _ _ (G.grouped _ _ _))
       (led_group (group (x then line then tok op k h) then nest i (line then y)))
 
-  scoped : (v slot : String) (k s : Kind) → has_text k (codes v) ≡ true
+  pub scoped : (v slot : String) (k s : Kind) → has_text k (codes v) ≡ true
       → has_text s (codes slot) ≡ true
       → Same (W.Scoped i v slot) (Means (l.scoped i k s))
   scoped v slot k s h j = written (G.typed_back _ _ _ _ _) (G.typed _ _ _ _ _)
@@ -172,7 +172,7 @@ module _ (i : ℤ) (room : Bool) {Rows : L.Lang} {E : Lang} (inner : Same Rows E
       or compared "in" K.In refl (tok v k h then maybe type_part)
       (operand (tok slot s j or entity)))
 
-  action : Same (W.Action i) (Means (l.action i))
+  pub action : Same (W.Action i) (Means (l.action i))
   action = written (G.untyped_back _ _ _ _) (G.untyped _ _ _ _)
       (bare "action" K.Action refl or compared "==" K.Equal refl (tok "action" K.Action refl)
       (operand entity)
@@ -264,34 +264,34 @@ module _ (i : ℤ) (room : Bool) {Rows : L.Lang} {E : Lang} (inner : Same Rows E
   group_opening t x = with_room room (written (G.second _ _ _ (G.unassoc _ _ _))
       (G.second _ _ _ (G.assoc _ _ _)) (group (t then x)))
 
-  call : Same (W.Call i room Rows) (Means (l.call i))
+  pub call : Same (W.Call i room Rows) (Means (l.call i))
   call = opening (tok "(" K.LParen refl
       then maybe (nest i (line_or_nil then items inner) then line_or_nil) then tok ")" K.RParen
       refl)
 
-  init : Same (W.Init i room Rows) (Means (l.init i))
+  pub init : Same (W.Init i room Rows) (Means (l.init i))
   init = (ident or str) then tok ":" K.Colon refl then blank then inner
 
-  parens : Same (W.Deeper i room Rows (L.Group (W.Tok "(" ⊙ L.Nested (pos 1) Rows ⊙ W.Tok ")")))
+  pub parens : Same (W.Deeper i room Rows (L.Group (W.Tok "(" ⊙ L.Nested (pos 1) Rows ⊙ W.Tok ")")))
       (Means (l.parens i))
   parens = group_opening (tok "(" K.LParen refl) (nest (pos 1) inner then tok ")" K.RParen refl)
 
-  list : Same (W.Deeper i room Rows (W.Tok "[" ⊙ L.Nested (pos 1) (L.Maybe (W.Items Rows)) ⊙ W.Tok
+  pub list : Same (W.Deeper i room Rows (W.Tok "[" ⊙ L.Nested (pos 1) (L.Maybe (W.Items Rows)) ⊙ W.Tok
       "]")) (Means (l.list i))
   list = opening (tok "[" K.LBracket refl then nest (pos 1) (maybe (items inner)) then tok "]"
       K.RBracket refl)
 
-  fields : Same (W.Deeper i room Rows (W.Tok "{"
+  pub fields : Same (W.Deeper i room Rows (W.Tok "{"
       ⊙ L.Maybe (L.Nested i (L.Group (L.Put D.line ⊙ W.Items (W.Init i room Rows) ⊙ L.Put D.line)))
       ⊙ W.Tok "}")) (Means (l.fields i))
   fields = opening (tok "{" K.LBrace refl then maybe (nest i
       (group (line then items init then line)))
       then tok "}" K.RBrace refl)
 
-  access : Same (W.Access i room Rows) (Means (l.access i))
+  pub access : Same (W.Access i room Rows) (Means (l.access i))
   access = field then maybe call or tok "[" K.LBracket refl then str then tok "]" K.RBracket refl
 
-  member : Same (W.Member i room Rows) (Means (l.member i))
+  pub member : Same (W.Member i room Rows) (Means (l.member i))
   member = within (G.members _ _ _ _ _ _ _ _ _ _ _ _ _) (G.members_back _ _ _ _ _ _ _ _ _ _ _ _ _)
       (group (written (G.words_back _ _ _) (G.words _ _ _)
       (((word "true" K.True refl either word "false" K.False refl).same or number or str or parens
@@ -303,17 +303,17 @@ module _ (i : ℤ) (room : Bool) {Rows : L.Lang} {E : Lang} (inner : Same Rows E
       or ident then many (colons then ident) then (colons then str then accesses access
       or nest i (call then many (line_or_nil then access))))))
 
-  unary : Same (W.Unary i room Rows) (Means (l.unary i))
+  pub unary : Same (W.Unary i room Rows) (Means (l.unary i))
   unary = maybe (signs "!" K.Neg refl or signs "-" K.Dash refl) then member
 
-  mult : Same (W.Mult i room Rows) (Means (l.mult i))
+  pub mult : Same (W.Mult i room Rows) (Means (l.mult i))
   mult = group (unary then many (blank then tok "*" K.Mul refl then line then unary))
 
-  add : Same (W.Add i room Rows) (Means (l.add i))
+  pub add : Same (W.Add i room Rows) (Means (l.add i))
   add = group (mult then many (blank then (word "+" K.Add refl either word "-" K.Dash refl).same
       then line then mult))
 
-  relation : Same (W.Relation i room Rows) (Means (l.relation i))
+  pub relation : Same (W.Relation i room Rows) (Means (l.relation i))
   relation = within (G.relations _ _ _ _ _) (G.relations_back _ _ _ _ _)
       (G.late add (line then tok "has" K.Has refl then line then nest i
       (operand str or group (group (accessed ident field)))
@@ -322,16 +322,16 @@ module _ (i : ℤ) (room : Bool) {Rows : L.Lang} {E : Lang} (inner : Same Rows E
       then maybe (line then tok "in" K.In refl then blank then nest i add))
       (maybe (blank then relop then blank then add)))
 
-  and : Same (W.And i room Rows) (Means (l.and i))
+  pub and : Same (W.And i room Rows) (Means (l.and i))
   and = relation then many (blank then tok_then "&&" K.And _ D.line a_line refl then relation)
 
-  or_chain : Same (W.Or i room Rows) (Means (l.or i))
+  pub or_chain : Same (W.Or i room Rows) (Means (l.or i))
   or_chain = and then many (blank then tok_then "||" K.Or _ D.line a_line refl then and)
 
   below : Same (W.Below i room Rows) (Means (l.below i))
   below = nest i (line then inner)
 
-  expr_in : Same (W.ExprIn i room Rows) (Means (l.expr i))
+  pub expr_in : Same (W.ExprIn i room Rows) (Means (l.expr i))
   expr_in = group_opening (tok "if" K.If refl) (below then line then tok "then" K.Then refl then
       below
       then line then tok "else" K.Else refl then below) or or_chain

@@ -25,19 +25,19 @@ opened i zero k ms a s t e h g = absurd (omega arith)
 opened i (suc n) k ms a s t e h g = rw e g
 
 module _ (i : ℤ) where
-  member_is : member i ≡ lines.member i
+  pub member_is : member i ≡ lines.member i
   unfolding some_arguments some_exprs some_inits accesses member
   member_is = refl
 
-  unary_is : unary i ≡ lines.unary i
+  pub unary_is : unary i ≡ lines.unary i
   unfolding unary
   unary_is = ap (λ m. P.some_signs ▸ m) member_is
 
-  mult_is : mult i ≡ lines.mult i
+  pub mult_is : mult i ≡ lines.mult i
   unfolding mult
   mult_is = ap (λ u. group (u ▸ star (space ▸ tok K.Mul ▸ line ▸ u))) unary_is
 
-  add_is : add i ≡ lines.add i
+  pub add_is : add i ≡ lines.add i
   unfolding add
   add_is = ap (λ m. group (m ▸ star (space ▸ one_of (λ k. is K.Add k || is K.Dash k) ▸ line ▸ m))) mult_is
 
@@ -47,19 +47,19 @@ module _ (i : ℤ) where
       ∥ space ▸ tok K.Is ▸ space ▸ nest i lines.path ▸ maybe (line ▸ tok K.In ▸ space ▸ nest i a)) ▸ end_group
       ∥ maybe (space ▸ lines.relop ▸ space ▸ a) ▸ end_nothing)
 
-  relation_is : relation i ≡ lines.relation i
+  pub relation_is : relation i ≡ lines.relation i
   unfolding relation
   relation_is = ap relation_of add_is
 
-  and_is : and i ≡ lines.and i
+  pub and_is : and i ≡ lines.and i
   unfolding and
   and_is = ap (λ r. r ▸ star (space ▸ tok_then K.And M.line ▸ r)) relation_is
 
-  or_is : or i ≡ lines.or i
+  pub or_is : or i ≡ lines.or i
   unfolding or
   or_is = ap (λ a. a ▸ star (space ▸ tok_then K.Or M.line ▸ a)) and_is
 
-  expr_is : P.expr i ≡ lines.expr i
+  pub expr_is : P.expr i ≡ lines.expr i
   expr_is = ap (λ o. P.if_expr i ∥ o) or_is
 
   depth_expr : (n : ℕ) (s : State) → at_depth i n (P.expr i) s ≡ expr_to i n s

@@ -72,11 +72,11 @@ often_over k x s {w} e i = over (goes (is k) (first x)) (goes_test (is k) (first
 module _ (i : ℤ) where
   -- ---- lines of expressions
 
-  inside_keeps : (n : ℕ) → Keeps (inside i n)
+  pub inside_keeps : (n : ℕ) → Keeps (inside i n)
   inside_keeps zero = refuse_keeps true
   inside_keeps (suc n) = expr_keeps i n
 
-  inside_moves : (n : ℕ) → Moves (inside i n)
+  pub inside_moves : (n : ℕ) → Moves (inside i n)
   inside_moves zero = refuse_moves true
   inside_moves (suc n) = expr_moves i n
 

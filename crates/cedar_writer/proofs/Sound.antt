@@ -525,7 +525,7 @@ module _ (room : Bool) (E : State → State) (X : Lang) (steady : IsSteady E) (k
   run_sound (lifted a) h = lifted_read a (not-true (nullable a) (and_second (decided a) _ h))
       (run_sound a (and_first (decided a) _ h))
 
-too_deep_sound : Sound (refuse true) Never
+pub too_deep_sound : Sound (refuse true) Never
 too_deep_sound ts us m n r q e = absurd (refused_going e)
 
 pub too_deep_steady : IsSteady (refuse true)

@@ -6,7 +6,7 @@ use Rattle.cedar_tokens.specs.declared.kind.Kind.{Kind}
 use Rattle.cedar_grammar.specs.Laws.{kind_of_decorated}
 use Rattle.cedar_writer.specs.Languages.{looks}
 use Rattle.cedar_print.specs.WrittenMarks as M
-use Rattle.cedar_writer.specs.Writing.{State, second, looking, going, lost}
+use Rattle.cedar_writer.specs.Writing.{State, begins, second, looking, going, lost}
 use Rattle.cedar_writer.specs.declared.writer.Stop.{Stop}
 use Rattle.cedar_writer.specs.declared.writer.Stop.TheVariants.{Refused, OutOfRoom}
 use Rattle.cedar_writer.specs.Outcomes.{IsRefusedBefore, HasEnded, outcome_of}
@@ -46,6 +46,12 @@ pub ended_state : (led : Bool) (stop : Option Stop) (ts : List Decorated) (ms : 
     → state_of led stop ts ms r ≡ s → stop ≡ Some x → n ≡ length ts → HasEnded s ms (outcome_of x n)
 ended_state led stop ts ms n r (Refused deep) v e h = refused_state led stop ts ms n r deep v e h
 ended_state led stop ts ms n r OutOfRoom v e h = lost_state led stop ts ms r v e
+
+pub first_left : (p : Kind → Bool) (led : Bool) (stop : Option Stop) (ms : List M.Mark) (r : ℕ) {x : Bool} {l rest : List Decorated}
+    {t : Decorated} {s : State} → is_some stop ≡ false → l ≡ t ∷ rest → state_of led stop l ms r ≡ s
+    → x ≡ p (kind_of_decorated t) → x ≡ begins p s
+first_left p led None ms r e f v h = rw (← v, f) h
+first_left p led (Some y) ms r e f v h = absurd cc
 
 pub second_left : (p : Kind → Bool) (led : Bool) (stop : Option Stop) (ms : List M.Mark) (r : ℕ) {x : Bool} {l rest after : List Decorated}
     {t u : Decorated} {s : State} → is_some stop ≡ false → l ≡ t ∷ rest → rest ≡ u ∷ after → state_of led stop l ms r ≡ s

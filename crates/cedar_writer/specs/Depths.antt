@@ -1,14 +1,10 @@
 -- What rules do where so many ifs and brackets may still be nested.
-use Rattle.std.specs.Prelude.{ℕ, zero, suc, ℤ, Bool, true, false}
+use Rattle.std.specs.Prelude.{ℕ, zero, suc, ℤ, true, false}
 use Rattle.cedar_tokens.specs.declared.kind.Kind.{Kind}
 use Rattle.cedar_tokens.specs.Kinds.{is}
+pub use Rattle.cedar_written.specs.NodeLines.{has_room}
 use Rattle.cedar_writer.specs.Rules.{Rule, tok, ◌▸◌}
 use Rattle.cedar_writer.specs.Writing.{State, first, goes, refuse, size, turns, run, expr_to}
-
--- one more level is allowed
-abbrev pub has_room : ℕ → Bool
-has_room zero = false
-has_room (suc n) = true
 
 -- what may be inside a bracket or an if
 abbrev pub inside : ℤ → ℕ → State → State

@@ -10,3 +10,5 @@ pub mod Depths
 pub mod Parts
 pub mod Outcomes
 pub mod Printed
+pub mod Bare
+pub mod NodeRules

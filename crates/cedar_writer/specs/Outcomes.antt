@@ -5,6 +5,9 @@ use Rattle.cedar_layout.specs.Layout.{Doc}
 use Rattle.cedar_print.specs.WrittenMarks.{Mark, AreMarks}
 use Rattle.cedar_written.specs.Written as written
 use Rattle.cedar_writer.specs.Writing.{State, going, refused, lost, policy_to}
+use Rattle.cedar_writer.specs.NodeRules.{node_to}
+use Rattle.cedar_writer.specs.declared.node.Line.{Line}
+use Rattle.cedar_writer.specs.declared.node.Line.TheVariants as V
 use Rattle.cedar_writer.specs.declared.writer.Outcome.{Outcome}
 use Rattle.cedar_writer.specs.declared.writer.Outcome.TheVariants as Ended
 use Rattle.cedar_writer.specs.declared.writer.Stop.{Stop}
@@ -31,6 +34,19 @@ HasEnded s ms (Ended.Written n) = IsWritten s ms n
 HasEnded s ms (Ended.Refused deep n) = IsRefusedBefore s deep n
 HasEnded s ms Ended.OutOfRoom = s ≡ lost
 
+-- it isn't want of room
+abbrev pub HasRoom : Outcome → Type 0
+HasRoom Ended.OutOfRoom = ⊥
+HasRoom o = ⊤
+
+-- so much room is too little for the marks of these tokens, up to a refusal if there is one
+abbrev pub IsTooLong : ℤ → ℕ → Line → Bool → List Decorated → ℕ → Type 0
+IsTooLong i n line bare ts room = node_to i n line bare (going ts [] room) ≡ lost
+
+-- with some room, the tokens of a node end so, with these marks
+abbrev pub EndsSo : ℤ → ℕ → Line → Bool → List Decorated → List Mark → Outcome → Type 0
+EndsSo i n line bare ts ms o = (room : ℕ) × HasEnded (node_to i n line bare (going ts [] room)) ms o
+
 -- with some room, what is read of the tokens is written so
 abbrev pub IsRead : ℤ → ℕ → List Decorated → List Mark → ℕ → Type 0
 IsRead i n ts ms left = (room : ℕ) × IsWritten (policy_to i n (going ts [] room)) ms left
@@ -40,11 +56,11 @@ abbrev pub refusal_of : Bool → ℕ → Refusal
 refusal_of true n = TooDeep n
 refusal_of false n = Grammar n
 
--- with some room, they are refused so; memory may be refused at any time
-abbrev pub IsRefused : ℤ → ℕ → List Decorated → Refusal → Type 0
-IsRefused i n ts (Grammar left) = (room : ℕ) × IsRefusedBefore (policy_to i n (going ts [] room)) false left
-IsRefused i n ts (TooDeep left) = (room : ℕ) × IsRefusedBefore (policy_to i n (going ts [] room)) true left
-IsRefused i n ts OutOfMemory = ⊤
+-- with some room, they are refused so; or memory is refused, and there was none for all of the marks
+abbrev pub IsRefused : ℤ → ℕ → List Decorated → ℕ → Refusal → Type 0
+IsRefused i n ts had (Grammar left) = (room : ℕ) × IsRefusedBefore (policy_to i n (going ts [] room)) false left
+IsRefused i n ts had (TooDeep left) = (room : ℕ) × IsRefusedBefore (policy_to i n (going ts [] room)) true left
+IsRefused i n ts had OutOfMemory = IsTooLong i n V.Policy false ts had
 
 -- all of the tokens were read, unless out of memory
 abbrev pub ReadsAll : Result ℕ Refusal → Type 0

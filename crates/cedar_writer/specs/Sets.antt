@@ -5,8 +5,9 @@ use Rattle.cedar_tokens.specs.declared.kind.Kind.TheVariants as K
 use Rattle.cedar_tokens.specs.Kinds.{is, is_any_word, is_ident, is_variable, is_boolean, is_comparison, is_effect, is_cond_word}
 use Rattle.cedar_grammar.specs.Reader.Rules.{expr_first}
 use Rattle.cedar_writer.specs.Lines.{is_name}
+use Rattle.cedar_writer.specs.Bare.{any_kind, is_slot}
 use Rattle.cedar_writer.specs.declared.sets.Set.{Set}
-use Rattle.cedar_writer.specs.declared.sets.Set.TheVariants.{Only, Ident, AnyWord, Variable, Name, Boolean, Comparison, Effect, Condition, SumSign, Key, Accessing, Testing, Literal, Referring, Expression, AfterScope}
+use Rattle.cedar_writer.specs.declared.sets.Set.TheVariants.{Only, Ident, AnyWord, Variable, Name, Boolean, Comparison, Effect, Condition, SumSign, Key, Accessing, Testing, Literal, Referring, Expression, AfterScope, Slot, Any}
 
 -- the kind is in the set
 abbrev pub contains : Set → Kind → Bool
@@ -27,3 +28,5 @@ contains Literal = λ k. is_boolean k || (is K.Number k || (is K.Str k || (is K.
 contains Referring = λ k. is K.DoubleColon k || is K.LParen k
 contains Expression = expr_first
 contains AfterScope = λ k. is K.Comma k || is K.RParen k
+contains Slot = is_slot
+contains Any = any_kind

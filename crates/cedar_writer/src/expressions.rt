@@ -13,7 +13,7 @@ use crate::writer::Writer;
 use cedar_print::mark::{Indent, Mark};
 use cedar_tokens::kind::Kind;
 
-impl Writer<'_, '_> {
+impl Writer<'_, '_, '_> {
     /// Expr = 'if' Expr 'then' Expr 'else' Expr | Or
     #[cycle(rows)]
     pub(crate) fn expr(&mut self, indent: Indent, depth: usize)
@@ -74,7 +74,7 @@ impl Writer<'_, '_> {
     // Or = And {'||' And}
     #[cycle(rows)]
     #[tactic(auto, unfolding(crate::specs::Parts::or))]
-    fn or(&mut self, indent: Indent, depth: usize)
+    pub(crate) fn or(&mut self, indent: Indent, depth: usize)
         ensures { self.new ≡ at_depth indent.columns depth (or indent.columns) self.old }
     {
         self.and(indent, depth);
@@ -104,7 +104,7 @@ impl Writer<'_, '_> {
     // And = Relation {'&&' Relation}
     #[cycle(rows)]
     #[tactic(auto, unfolding(crate::specs::Parts::and))]
-    fn and(&mut self, indent: Indent, depth: usize)
+    pub(crate) fn and(&mut self, indent: Indent, depth: usize)
         ensures { self.new ≡ at_depth indent.columns depth (and indent.columns) self.old }
     {
         self.relation(indent, depth);
@@ -134,7 +134,7 @@ impl Writer<'_, '_> {
     // Relation = Add [relop Add] | Add 'has' (STR | IDENT {'.' IDENT}) | Add 'like' STR | Add 'is' Path ['in' Add]
     #[cycle(rows)]
     #[tactic(auto, unfolding(crate::specs::Parts::relation))]
-    fn relation(&mut self, indent: Indent, depth: usize)
+    pub(crate) fn relation(&mut self, indent: Indent, depth: usize)
         ensures { self.new ≡ at_depth indent.columns depth (relation indent.columns) self.old }
     {
         self.put(Mark::Begin);
@@ -215,7 +215,7 @@ impl Writer<'_, '_> {
     // Add = Mult {('+'|'-') Mult}
     #[cycle(rows)]
     #[tactic(auto, unfolding(crate::specs::Parts::add))]
-    fn add(&mut self, indent: Indent, depth: usize)
+    pub(crate) fn add(&mut self, indent: Indent, depth: usize)
         ensures { self.new ≡ at_depth indent.columns depth (add indent.columns) self.old }
     {
         self.put(Mark::Begin);
@@ -248,7 +248,7 @@ impl Writer<'_, '_> {
     // Mult = Unary {'*' Unary}
     #[cycle(rows)]
     #[tactic(auto, unfolding(crate::specs::Parts::mult))]
-    fn mult(&mut self, indent: Indent, depth: usize)
+    pub(crate) fn mult(&mut self, indent: Indent, depth: usize)
         ensures { self.new ≡ at_depth indent.columns depth (mult indent.columns) self.old }
     {
         self.put(Mark::Begin);
@@ -281,7 +281,7 @@ impl Writer<'_, '_> {
     // Unary = [one to four '!', or one to four '-'] Member
     #[cycle(rows)]
     #[tactic(auto, unfolding(crate::specs::Parts::unary))]
-    fn unary(&mut self, indent: Indent, depth: usize)
+    pub(crate) fn unary(&mut self, indent: Indent, depth: usize)
         ensures { self.new ≡ at_depth indent.columns depth (unary indent.columns) self.old }
     {
         self.some_signs();
@@ -291,7 +291,7 @@ impl Writer<'_, '_> {
     // Member = Primary {Access} | Path '(' [Exprs] ')' {Access}
     #[cycle(rows)]
     #[tactic(auto, unfolding(crate::specs::Parts::member))]
-    fn member(&mut self, indent: Indent, depth: usize)
+    pub(crate) fn member(&mut self, indent: Indent, depth: usize)
         ensures { self.new ≡ at_depth indent.columns depth (member indent.columns) self.old }
     {
         self.put(Mark::Begin);
@@ -424,7 +424,7 @@ impl Writer<'_, '_> {
 
     // '(' [Exprs] ')' after a path or a field
     #[cycle(rows)]
-    fn call(&mut self, indent: Indent, depth: usize)
+    pub(crate) fn call(&mut self, indent: Indent, depth: usize)
         ensures { self.new ≡ at_depth indent.columns depth (call indent.columns) self.old }
     {
         if !self.begins(Set::Only(Kind::LParen)) {
@@ -457,7 +457,7 @@ impl Writer<'_, '_> {
 
     // Primary but for what begins with a word
     #[cycle(rows)]
-    fn literal(&mut self, indent: Indent, depth: usize)
+    pub(crate) fn literal(&mut self, indent: Indent, depth: usize)
         ensures { self.new ≡ at_depth indent.columns depth (literal indent.columns) self.old }
     {
         if self.begins(Set::Boolean) {
@@ -578,7 +578,7 @@ impl Writer<'_, '_> {
 
     // Init = (IDENT | STR) ':' Expr
     #[cycle(rows)]
-    fn init(&mut self, indent: Indent, depth: usize)
+    pub(crate) fn init(&mut self, indent: Indent, depth: usize)
         ensures { self.new ≡ at_depth indent.columns depth (init indent.columns) self.old }
     {
         self.key();

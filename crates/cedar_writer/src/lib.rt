@@ -5,6 +5,7 @@
 mod expressions;
 pub mod laws;
 mod names;
+pub mod node;
 mod operands;
 mod policies;
 pub mod policy;

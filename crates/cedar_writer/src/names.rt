@@ -13,7 +13,7 @@ use crate::writer::Writer;
 use cedar_print::mark::Mark;
 use cedar_tokens::kind::Kind;
 
-impl Writer<'_, '_> {
+impl Writer<'_, '_, '_> {
     // Path = IDENT {'::' IDENT}
     pub(crate) fn path(&mut self)
         ensures { self.new ≡ alone path self.old }
@@ -143,7 +143,7 @@ impl Writer<'_, '_> {
     }
 
     // Annotation = '@' anyword ['(' STR ')']
-    fn annotation(&mut self)
+    pub(crate) fn annotation(&mut self)
         ensures { self.new ≡ alone annotation self.old }
     {
         self.take(Set::Only(Kind::At));

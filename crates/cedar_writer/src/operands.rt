@@ -11,7 +11,7 @@ use crate::writer::Writer;
 use cedar_print::mark::{Indent, Mark};
 use cedar_tokens::kind::Kind;
 
-impl Writer<'_, '_> {
+impl Writer<'_, '_, '_> {
     // three groups begin
     pub(crate) fn begin_operand(&mut self)
         ensures { self.new ≡ alone begin_operand self.old }
@@ -61,7 +61,7 @@ impl Writer<'_, '_> {
     }
 
     // {'.' IDENT}
-    fn some_fields(&mut self)
+    pub(crate) fn some_fields(&mut self)
         ensures { self.new ≡ alone (maybe (field ▸ star next_field)) self.old }
     {
         if self.begins(Set::Only(Kind::Dot)) {

@@ -21,7 +21,7 @@ const BARE: &[Set] = &[
     Set::AfterScope,
 ];
 
-impl Writer<'_, '_> {
+impl Writer<'_, '_, '_> {
     // Policy = {Annotation} ('permit'|'forbid') '(' Principal ',' Action ',' Resource [','] ')' {Cond} ';'
     pub(crate) fn policy(&mut self, indent: Indent, depth: usize)
         ensures { self.new ≡ policy_to indent.columns depth self.old }
@@ -104,7 +104,7 @@ impl Writer<'_, '_> {
     }
 
     // Cond = ('when'|'unless') '{' Expr '}'
-    fn cond(&mut self, indent: Indent, depth: usize)
+    pub(crate) fn cond(&mut self, indent: Indent, depth: usize)
         ensures { self.new ≡ around indent.columns depth (cond indent.columns) self.old }
     {
         self.lift();

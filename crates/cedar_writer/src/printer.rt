@@ -11,6 +11,7 @@ ghost use Rattle.cedar_written.specs.Output.{IsOutputOf};
 ghost use Rattle.cedar_writer.specs.Printed.{HasMarks, IsLaidOut, IsNotPolicy, IsNotPrinted, IsPolicyRead};
 
 use crate::policy::{Refusal, write_policy};
+use cedar_grammar::MAX_NESTING;
 use cedar_print::mark::{Indent, Mark};
 use cedar_print::printer::Printer;
 use cedar_reading::lexeme::Lexeme;
@@ -18,9 +19,6 @@ use cedar_reading::listing::{has_trailing_comma, store_plain_tokens, store_token
 use cedar_reading::token::Token;
 use cedar_reading::token_check::has_tokens;
 use std::alloc::{AllocError, Global};
-
-/// How many ifs and brackets may be nested.
-const MAX_NESTING: usize = 128;
 
 /// Why a policy is not printed.
 #[derive(Clone, Copy, Debug, PartialEq, Eq)]
@@ -47,7 +45,7 @@ impl From<AllocError> for NotPrinted {
 /// Reads and lays out policies. Between two calls it only holds memory for reuse.
 #[derive(Drop)]
 pub struct PolicyPrinter<'src> {
-    tokens: Vec<Token<'src>>,
+    tokens: Vec<Token<'src, 'src>>,
     marks: Vec<Mark<'src>>,
     printer: Printer,
 }

@@ -12,7 +12,7 @@ use crate::writer::Writer;
 use cedar_print::mark::{Indent, Mark};
 use cedar_tokens::kind::Kind;
 
-impl<'src> Writer<'_, 'src> {
+impl<'src> Writer<'_, '_, 'src> {
     // 'is' Path
     fn type_part(&mut self, indent: Indent)
         ensures { self.new ≡ alone (type_part indent.columns) self.old }
@@ -121,7 +121,7 @@ impl<'src> Writer<'_, 'src> {
     // Principal = 'principal' [ '==' PE | 'is' Path ['in' PE] | 'in' PE ]      PE = Entity | '?principal'
     // Resource = 'resource' [ '==' RE | 'is' Path ['in' RE] | 'in' RE ]      RE = Entity | '?resource'
     #[tactic(auto, unfolding(crate::specs::Parts::scoped))]
-    fn scoped(&mut self, indent: Indent, variable: Kind, slot: Kind)
+    pub(crate) fn scoped(&mut self, indent: Indent, variable: Kind, slot: Kind)
         ensures { self.new ≡ alone (scoped indent.columns variable slot) self.old }
     {
         self.lift();
@@ -235,7 +235,7 @@ impl<'src> Writer<'_, 'src> {
 
     // Action = 'action' [ '==' Entity | 'in' (Entity | '[' [Entity {',' Entity} [',']] ']') ]
     #[tactic(auto, unfolding(crate::specs::Parts::action))]
-    fn action(&mut self, indent: Indent)
+    pub(crate) fn action(&mut self, indent: Indent)
         ensures { self.new ≡ alone (action indent.columns) self.old }
     {
         self.lift();

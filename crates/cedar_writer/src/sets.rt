@@ -36,6 +36,9 @@ pub(crate) enum Set {
     Expression,
     /// `,` and `)`.
     AfterScope,
+    /// What a template has in place of an entity.
+    Slot,
+    Any,
 }
 
 impl Set {
@@ -61,6 +64,8 @@ impl Set {
             Set::Referring => matches!(kind, Kind::DoubleColon | Kind::LParen),
             Set::Expression => begins_expression(kind),
             Set::AfterScope => matches!(kind, Kind::Comma | Kind::RParen),
+            Set::Slot => matches!(kind, Kind::PrincipalSlot | Kind::ResourceSlot),
+            Set::Any => true,
         }
     }
 }

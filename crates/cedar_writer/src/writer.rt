@@ -1,5 +1,5 @@
 //! A writer: the tokens of a policy that are left, and the marks that are written.
-ghost use Rattle.std.specs.Prelude.{◌≡◌, IfOk, ◌<◌, length, [], ◌∷◌, map, false};
+ghost use Rattle.std.specs.Prelude.{◌≡◌, IfOk, OnErr, ◌<◌, length, [], ◌∷◌, map, false, vec_capacity};
 ghost use Rattle.cedar_tokens.specs.Listing.{token_value};
 ghost use Rattle.cedar_print.specs.Marks.{mark_of, marks_of};
 ghost use Rattle.cedar_print.specs.WrittenMarks as M;
@@ -43,15 +43,15 @@ pub(crate) enum Stop {
 
 /// The tokens that are left, and the marks so far, with room for some more. After a stop nothing is read or written.
 #[derive(Drop)]
-pub(crate) struct Writer<'t, 'src> {
-    left: &'t [Token<'src>],
+pub(crate) struct Writer<'t, 'l, 'src> {
+    left: &'t [Token<'l, 'src>],
     led: bool,
     marks: Vec<Mark<'src>>,
     free: usize,
     stop: Option<Stop>,
 }
 
-impl<'t, 'src> Model for Writer<'t, 'src> {
+impl<'t, 'l, 'src> Model for Writer<'t, 'l, 'src> {
     ghost use Rattle.std.specs.Prelude.{◌+◌, ◌≤◌, length, vec_capacity};
     ghost use Rattle.cedar_writer.specs.Writing.{State};
     ghost use Rattle.cedar_print.specs.Marks.{marks_of};
@@ -64,14 +64,15 @@ impl<'t, 'src> Model for Writer<'t, 'src> {
     ghost invariant = { λ w. length w.marks.items + w.free ≤ vec_capacity w.marks };
 }
 
-impl<'t, 'src> Writer<'t, 'src> {
+impl<'t, 'l, 'src> Writer<'t, 'l, 'src> {
     /// Nothing is written yet, and there is room for so many marks. The given ones are dropped, and their memory is used.
     pub(crate) fn new(
         mut marks: Vec<Mark<'src>>,
-        left: &'t [Token<'src>],
+        left: &'t [Token<'l, 'src>],
         room: usize,
-    ) -> Result<Writer<'t, 'src>, AllocError>
-        ensures { IfOk result (λ w. w ≡ going (tokens_left false left.now) [] room) }
+    ) -> Result<Writer<'t, 'l, 'src>, AllocError>
+        ensures begun { IfOk result (λ w. w ≡ going (tokens_left false left.now) [] room) }
+        ensures full { OnErr result (vec_capacity marks.entry < room) }
     {
         marks.clear();
         marks.reserve(room)?;
@@ -273,21 +274,15 @@ impl<'t, 'src> Writer<'t, 'src> {
     }
 
     // Each line on a line of its own.
-    fn lead(&mut self, mut lines: Lines<'src>)
+    fn lead(&mut self, lines: Lines<'_, 'src>)
         ensures { self.new ≡ add_all (lead_of (lines_left lines.entry)) self.old }
     {
-        if let Some(line) = lines.next() {
-            self.put(Mark::Hard);
-            self.put(Mark::Text(line));
-            self.put(Mark::Hard);
-            self.more_lines(lines);
-        }
-    }
-
-    fn more_lines(&mut self, lines: Lines<'src>)
-        ensures { self.new ≡ add_all (broken_lines (lines_left lines.entry)) self.old }
-    {
+        let mut is_first = true;
         for line in lines {
+            if is_first {
+                self.put(Mark::Hard);
+                is_first = false;
+            }
             self.put(Mark::Text(line));
             self.put(Mark::Hard);
         }
@@ -305,7 +300,7 @@ fn outcome_of(stop: Stop, left: usize) -> Outcome
 }
 
 // The tokens after the first.
-fn after_first<'t, 'src>(tokens: &'t [Token<'src>]) -> &'t [Token<'src>]
+fn after_first<'t, 'l, 'src>(tokens: &'t [Token<'l, 'src>]) -> &'t [Token<'l, 'src>]
     requires { 0 < length tokens.now }
     ensures { result.now ≡ after_first tokens.now }
 {
@@ -313,7 +308,7 @@ fn after_first<'t, 'src>(tokens: &'t [Token<'src>]) -> &'t [Token<'src>]
 }
 
 // Whether the kinds of the first tokens are in these sets.
-fn looks(tokens: &[Token<'_>], sets: &[Set]) -> bool
+fn looks(tokens: &[Token<'_, '_>], sets: &[Set]) -> bool
     ensures { result ≡ looks (map contains sets.now) tokens.now }
 {
     let mut left = tokens;

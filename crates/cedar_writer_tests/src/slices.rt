@@ -86,7 +86,7 @@ fn push_marked(out: &mut String, before: &str, text: &str, after: &str) -> Resul
     out.push_str(after)
 }
 
-fn push_token(out: &mut String, token: &Token<'_>) -> Result<(), AllocError> {
+fn push_token(out: &mut String, token: &Token<'_, '_>) -> Result<(), AllocError> {
     for line in token.lines() {
         push_marked(out, "[", line, "]")?;
     }
@@ -97,7 +97,7 @@ fn push_token(out: &mut String, token: &Token<'_>) -> Result<(), AllocError> {
     out.push_str(" ")
 }
 
-fn shown(alloc: Global, tokens: &[Token<'_>], closing: &str) -> Result<String, AllocError> {
+fn shown(alloc: Global, tokens: &[Token<'_, '_>], closing: &str) -> Result<String, AllocError> {
     let mut out = String::new(alloc);
     for token in tokens {
         push_token(&mut out, token)?;
@@ -111,9 +111,9 @@ fn shown(alloc: Global, tokens: &[Token<'_>], closing: &str) -> Result<String, A
 // The tokens of a text without a `;`, as they are and without trailing commas.
 #[derive(Drop)]
 struct Lists<'src> {
-    tokens: Vec<Token<'src>>,
+    tokens: Vec<Token<'src, 'src>>,
     closing: &'src str,
-    plain: Vec<Token<'src>>,
+    plain: Vec<Token<'src, 'src>>,
     plain_closing: &'src str,
 }
 
@@ -159,13 +159,13 @@ fn tokens_with_comments(rt: HostRuntime) -> Result<(), Fail> {
 
 // The texts whose comments lead a token are those of a dropped comma, and its own.
 #[test]
-fn leading_texts(rt: HostRuntime) -> Result<(), Fail> {
+fn leading_lines_of_a_comma(rt: HostRuntime) -> Result<(), Fail> {
     let lists = lists_of(rt.alloc(), "(// x\n, // t\n // b\n)")?.ok_or("no tokens")?;
     assert_eq!(rt; lists.plain.len(), 2);
-    let [first, second, last] = lists.plain[1].leading();
-    assert_eq!(rt; first, "");
-    assert_eq!(rt; second, "// t");
-    assert_eq!(rt; last, " // b\n");
+    let mut lines = lists.plain[1].lines();
+    assert_eq!(rt; lines.next(), Some("// t"));
+    assert_eq!(rt; lines.next(), Some("// b"));
+    assert_eq!(rt; lines.next(), None);
     Ok(())
 }
 

@@ -124,7 +124,7 @@ static ROWS: [Row; 7] = [
     },
 ];
 
-fn tokens_of(alloc: Global, row: &Row) -> Result<Vec<Token<'static>>, AllocError> {
+fn tokens_of(alloc: Global, row: &Row) -> Result<Vec<Token<'static, 'static>>, AllocError> {
     let mut tokens = Vec::new(alloc);
     for word in row.words.split(' ') {
         let leading = if word == row.led { row.leading } else { "" };

@@ -20,7 +20,7 @@ module _ (i : ℤ) where
   tok_then : (s : String) (next : Doc) → Matches (T.Tok text s) (W.TokThen s next)
   tok_then s next = token (λ t. t ≡ codes s) next
 
-  tok : (s : String) → Matches (T.Tok text s) (W.Tok s)
+  pub tok : (s : String) → Matches (T.Tok text s) (W.Tok s)
   tok s = tok_then s nil
 
   number : Matches (T.NUMBER text) W.NUMBER
@@ -29,13 +29,13 @@ module _ (i : ℤ) where
   literal : Matches (T.Literal text) W.STR
   literal = token (λ t. IsTrue (is_string t)) nil
 
-  str : Matches (T.STR text) W.STR
+  pub str : Matches (T.STR text) W.STR
   str = branch Label.str literal
 
   any_word : Matches (T.AnyWord text) W.AnyWord
   any_word = branch Label.ident (token (λ t. IsTrue (is_word t)) nil)
 
-  ident : Matches (T.Ident text) W.Ident
+  pub ident : Matches (T.Ident text) W.Ident
   ident = branch Label.ident (token (λ t. IsTrue (T.is_identifier t)) nil)
 
   items : {Y : Lang (List ℕ)} {X : L.Lang} → Matches Y X → Matches (T.Items text Y) (W.Items X)
@@ -44,17 +44,17 @@ module _ (i : ℤ) where
   names : Matches (T.Ident text ⋄ Many (T.Tok text "::" ⋄ T.Ident text)) W.Path
   names = ident then many (tok "::" then ident)
 
-  path : Matches (T.Path text) W.Path
+  pub path : Matches (T.Path text) W.Path
   path = branch Label.name names
 
-  entity : Matches (T.Entity text) W.Entity
+  pub entity : Matches (T.Entity text) W.Entity
   entity = branch Label.primary (branch Label.ref (path then tok "::" then str))
 
   signs : (s : String) → Matches (T.Signs text s) (W.Signs s)
   signs s = let t = tok s in t then maybe (t then maybe (t then maybe t))
 
   -- accesses, and a node alone
-  accessed : {Y Z : Lang (List ℕ)} {F X : L.Lang} → Matches Y F → Matches Z X
+  pub accessed : {Y Z : Lang (List ℕ)} {F X : L.Lang} → Matches Y F → Matches Z X
       → Matches (Y ⋄ Many Z) (W.Accessed i F X)
   accessed {Z = Z} y z = mapped group
       (y then mapped (nest i) (within (R.unrolled Z) (R.rolled Z)
@@ -65,14 +65,16 @@ module _ (i : ℤ) where
   operand_of x = branch Label.add
       (mapped group (branch Label.mult (mapped group (branch Label.unary (branch Label.member x)))))
 
+  pub unaccessed : {Y : Lang (List ℕ)} {X : L.Lang} → Matches Y X → Matches Y (W.Accessed i X L.Never)
+  unaccessed {Y} x = within (R.alone Y) (R.only Y)
+      (mapped group (x then mapped (nest i)
+      (or_never (λ ts d (us, vs, e, f, s, h, n, m). n) (put nil))))
+
   operand : {Y : Lang (List ℕ)} {X : L.Lang} → Matches Y X
       → Matches (T.Operand text Y) (W.Operand i X)
-  operand {Y} x =
-      operand_of (within (R.alone Y) (R.only Y)
-      (mapped group (x then mapped (nest i)
-      (or_never (λ ts d (us, vs, e, f, s, h, n, m). n) (put nil)))))
+  operand x = operand_of (unaccessed x)
 
-  field : Matches (T.Field text) W.Field
+  pub field : Matches (T.Field text) W.Field
   field = branch Label.access (tok "." then ident)
 
   has_field : Matches (T.HasField text) (L.Group (L.Group (W.Accessed i W.Ident W.Field)))
@@ -84,22 +86,22 @@ module _ (i : ℤ) where
   relop : Matches (T.Relop text) W.Relop
   relop = tok "<" or tok "<=" or tok ">" or tok ">=" or tok "!=" or tok "==" or tok "in"
 
-  annotation : Matches (T.Annotation text) W.Annotation
+  pub annotation : Matches (T.Annotation text) W.Annotation
   annotation = branch Label.annotation
       (tok "@" then any_word then (tok "(" then str then tok_then ")" hard or put hard))
 
   module _ (room : Bool) {Inner : Lang (List ℕ)} {Rows : L.Lang} (inner : Matches Inner Rows) where
-    call : Matches (T.Call text room Inner) (W.Call i room Rows)
+    pub call : Matches (T.Call text room Inner) (W.Call i room Rows)
     call = branch Label.access (with_room room (tok "("
         then maybe (before_put line_or_nil (mapped (nest i) (after_put line_or_nil (items inner))))
         then tok ")"))
 
-    init : Matches (T.Init text room Inner) (W.Init i room Rows)
+    pub init : Matches (T.Init text room Inner) (W.Init i room Rows)
     init = branch Label.rec_init ((branch Label.primary (branch Label.name ident)
         or branch Label.primary (branch Label.string literal)) then tok ":"
         then after_put space inner)
 
-    primary : Matches (R.Primaries text room Inner) (W.Primary i room Rows)
+    pub primary : Matches (R.Primaries text room Inner) (W.Primary i room Rows)
     primary = node (branch Label.boolean (tok "true" or tok "false"))
         or node (branch Label.number number)
         or node (branch Label.string literal)
@@ -117,10 +119,10 @@ module _ (i : ℤ) where
         node : {Y : Lang (List ℕ)} {X : L.Lang} → Matches Y X → Matches (Branch Label.primary Y) X
         node x = branch Label.primary x
 
-    access : Matches (T.Access text room Inner) (W.Access i room Rows)
+    pub access : Matches (T.Access text room Inner) (W.Access i room Rows)
     access = field then maybe call or branch Label.access (tok "[" then str then tok "]")
 
-    member : Matches (T.Member text room Inner) (W.Member i room Rows)
+    pub member : Matches (T.Member text room Inner) (W.Member i room Rows)
     member = branch Label.member (within
         (R.members (T.Primary text room Inner) _ _ _ (T.Access text room Inner)
         (R.primaries text room Inner))
@@ -130,18 +132,18 @@ module _ (i : ℤ) where
         (branch Label.primary path then mapped (nest i)
         (call then many (after_put line_or_nil access)))))
 
-    unary : Matches (T.Unary text room Inner) (W.Unary i room Rows)
+    pub unary : Matches (T.Unary text room Inner) (W.Unary i room Rows)
     unary = branch Label.unary (maybe (signs "!" or signs "-") then member)
 
-    mult : Matches (T.Mult text room Inner) (W.Mult i room Rows)
+    pub mult : Matches (T.Mult text room Inner) (W.Mult i room Rows)
     mult = branch Label.mult (mapped group
         (unary then many (after_put space (tok "*" then after_put line unary))))
 
-    add : Matches (T.Add text room Inner) (W.Add i room Rows)
+    pub add : Matches (T.Add text room Inner) (W.Add i room Rows)
     add = branch Label.add (mapped group
         (mult then many (after_put space ((tok "+" or tok "-") then after_put line mult))))
 
-    relation : Matches (T.Relation text room Inner) (W.Relation i room Rows)
+    pub relation : Matches (T.Relation text room Inner) (W.Relation i room Rows)
     relation = branch Label.relation
         (within (R.relations (T.Add text room Inner) _ _ _ _)
         (R.relations_back (T.Add text room Inner) _ _ _ _)
@@ -156,23 +158,23 @@ module _ (i : ℤ) where
         (branch Label.is_type (tok "is" then after_put space (mapped (nest i) path
         then maybe (after_put line (tok "in" then after_put space (mapped (nest i) add)))))))))
 
-    and : Matches (T.And text room Inner) (W.And i room Rows)
+    pub and : Matches (T.And text room Inner) (W.And i room Rows)
     and = branch Label.and (relation then many (after_put space (tok_then "&&" line then relation)))
 
-    or_chain : Matches (T.Or text room Inner) (W.Or i room Rows)
+    pub or_chain : Matches (T.Or text room Inner) (W.Or i room Rows)
     or_chain = branch Label.or (and then many (after_put space (tok_then "||" line then and)))
 
     below : Matches Inner (W.Below i room Rows)
     below = mapped (nest i) (after_put line inner)
 
-    expr_in : Matches (T.ExprIn text room Inner) (W.ExprIn i room Rows)
+    pub expr_in : Matches (T.ExprIn text room Inner) (W.ExprIn i room Rows)
     expr_in =
         branch Label.expr (with_room room
         (mapped group (tok "if" then below
         then after_put line (tok "then" then below then after_put line (tok "else" then below))))
         or or_chain)
 
-  expr : (n : ℕ) → Matches (T.Expr text n) (W.Expr i n)
+  pub expr : (n : ℕ) → Matches (T.Expr text n) (W.Expr i n)
   expr zero = expr_in false never
   expr (suc n) = expr_in true (expr n)
 
@@ -185,7 +187,7 @@ module _ (i : ℤ) where
       mapped group (mapped (nest i) (mapped group (after_put line (tok "is"))
       then after_put line path))
 
-  scoped : (v slot : String) → Matches (T.Scoped text v slot) (W.Scoped i v slot)
+  pub scoped : (v slot : String) → Matches (T.Scoped text v slot) (W.Scoped i v slot)
   scoped v slot = branch Label.variable
       (within (R.variables (Branch Label.ident (T.Tok text v)) _ _ _ _ _)
       (R.variables_back (Branch Label.ident (T.Tok text v)) _ _ _ _ _)
@@ -200,7 +202,7 @@ module _ (i : ℤ) where
       name : Matches (Branch Label.ident (T.Tok text v)) (W.Tok v)
       name = branch Label.ident (tok v)
 
-  action : Matches (T.Action text) (W.Action i)
+  pub action : Matches (T.Action text) (W.Action i)
   action = branch Label.variable
       (within (R.actions (Branch Label.ident (T.Tok text "action")) _ _ _ _)
       (R.actions_back (Branch Label.ident (T.Tok text "action")) _ _ _ _)
@@ -284,7 +286,7 @@ module _ (i : ℤ) where
         ),
       )
 
-  cond : (n : ℕ) → Matches (T.Cond text n) (W.Cond i n)
+  pub cond : (n : ℕ) → Matches (T.Cond text n) (W.Cond i n)
   cond n = branch Label.condition (led_group (F.first (F.either (F.token _ _) (F.token _ _))).none
       (branch Label.ident (tok_then "when" line or tok_then "unless" line) then block n))
 

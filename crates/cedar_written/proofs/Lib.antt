@@ -7,6 +7,9 @@ pub mod Regrouped
 pub mod NonEmpty
 pub mod SameRows
 pub mod GrammarRows
+pub mod Covered
+pub mod NodeRows
+pub mod NodeLines
 pub mod Reading
 pub mod ReadExpressions
 pub mod FirstTokens

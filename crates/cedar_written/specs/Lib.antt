@@ -1,6 +1,7 @@
 pub mod Bounds
 pub mod Languages
 pub mod Written
+pub mod NodeLines
 pub mod Layout
 pub mod Cleaning
 pub mod Texts

@@ -13,6 +13,7 @@ ghost use Rattle.cedar_reading.specs.Reading.{kind, flat, GivesNode, GivesMany};
 
 use crate::cst::scopes::parse_scope;
 use crate::expressions::parse_expr;
+use cedar_grammar::MAX_NESTING;
 use cedar_reading::lexeme::Lexeme;
 use cedar_reading::literals::parse_str;
 use cedar_reading::names::parse_word;
@@ -23,9 +24,6 @@ use cedar_tokens::kind::{Kind, Words};
 use cedar_tokens::token::Span;
 use cedar_tree::tree::{Annotation, Cond, Node, Policies, Policy};
 use std::alloc::Global;
-
-/// How many brackets and `if`s may be nested in a condition.
-const MAX_NESTING: usize = 128;
 
 /// The policies that the tokens are.
 pub fn parse_set<'src>(alloc: Global, tokens: &[Lexeme<'src>]) -> Result<Policies<'src>, Refusal>

@@ -1,11 +1,13 @@
 //! The documents of parts, each rendered by itself.
 use super::*;
 use cedar_policy_formatter::Context;
-use cedar_policy_formatter::cst::{Add, Expr, Mult, Node, Or, Policy, Primary, Relation};
+use cedar_policy_formatter::cst::{
+    Add, Expr, Ident, Mult, Name, Node, Or, Policy, Primary, Relation,
+};
 use cedar_policy_formatter::doc::Doc;
 use cedar_policy_formatter::layout::{Document, render};
 use cedar_policy_formatter::lexer::{drop_trailing_commas, get_token_stream};
-use cedar_policy_formatter::token::WrappedToken;
+use cedar_policy_formatter::token::{Span, WrappedToken};
 use cedar_policy_formatter::utils::in_order;
 
 // The text's tokens without trailing commas.
@@ -1003,5 +1005,86 @@ fn expect_parts(rt: &impl Abort, alloc: Global, row: &Visit) {
 fn nodes(rt: HostRuntime) {
     for row in &NODES {
         expect_parts(&rt, rt.alloc(), row);
+    }
+}
+
+// A text of two words with `::` between, and what a path of these words, built by hand, is rendered to.
+struct Path {
+    name: &'static str,
+    text: &'static str,
+    first: Word,
+    last: Word,
+    layout: &'static str,
+}
+
+struct Word {
+    text: &'static str,
+    start: usize,
+}
+
+static PATHS: [Path; 2] = [
+    Path {
+        name: "a path of the grammar",
+        text: "a::b",
+        first: Word {
+            text: "a",
+            start: 0,
+        },
+        last: Word {
+            text: "b",
+            start: 3,
+        },
+        layout: "a::b",
+    },
+    Path {
+        name: "a keyword in a path",
+        text: "in::b",
+        first: Word {
+            text: "in",
+            start: 0,
+        },
+        last: Word {
+            text: "b",
+            start: 4,
+        },
+        layout: "in :: b",
+    },
+];
+
+fn node_of(word: &Word) -> Node<Ident<'static>> {
+    let end = word.start.saturating_add(word.text.len());
+    Node {
+        inner: Ident(word.text),
+        span: Span {
+            start: word.start,
+            end,
+        },
+    }
+}
+
+fn expect_path(rt: &impl Abort, alloc: Global, row: &Path) {
+    let mut path = Vec::new(alloc);
+    path.push(node_of(&row.first)).expect(rt, row.name);
+    let name = node_of(&row.last);
+    let span = Span {
+        start: row.first.start,
+        end: name.span.end,
+    };
+    let inner = Name { path, name };
+    let node = Node { inner, span };
+    let config = Config::default();
+    let mut context = Context {
+        config: &config,
+        tokens: tokens_of(rt, alloc, row.text),
+    };
+    assert!(rt; in_order(&context.tokens));
+    let doc = node.to_doc(alloc, &mut context).expect(rt, row.name);
+    expect_document(rt, alloc, doc, 80, row.layout, row.name);
+}
+
+#[test]
+fn paths_built_by_hand(rt: HostRuntime) {
+    for row in &PATHS {
+        expect_path(&rt, rt.alloc(), row);
     }
 }

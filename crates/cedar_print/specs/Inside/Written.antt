@@ -30,6 +30,11 @@ abbrev pub units_held : Option Held → List (List ℕ)
 units_held None = []
 units_held (Some h) = feed ∷ replicate (h.indent + h.spaces) space
 
+-- the bytes of that
+abbrev pub bytes_held : Option Held → ℕ
+bytes_held None = 0
+bytes_held (Some h) = 1 + h.indent + h.spaces
+
 abbrev pub spaces_held : Option Held → ℕ
 spaces_held None = 0
 spaces_held (Some h) = h.spaces

@@ -1,11 +1,15 @@
-use Rattle.std.proofs.Common.{ap, ◌∙◌}
-use Rattle.std.proofs.lemmas.Result.{IfOk-weaker}
-use Rattle.cedar_documents.specs.Signs.{signs_of}
-use Rattle.cedar_documents.proofs.Documents.{document_of_flat}
+use Rattle.std.proofs.Common.{sym, ap, ◌∙◌, arith}
+use Rattle.std.proofs.lemmas.List.{drop_all}
+use Rattle.cedar_layout.proofs.Values.{doc_of_seq}
+use Rattle.cedar_print.specs.Marks.{marks_of}
+use Rattle.cedar_documents.specs.Inside.Read.{State, walk, state_of}
+use Rattle.cedar_documents.proofs.Read.{read_all}
 use Rattle.cedar_documents.proofs.document.to_document.Goals as goal
 
 pub returns : goal.returns
-returns c =
-    let same = ap signs_of c.deref.ensures.value ∙ c.sheet.view_is in
-    IfOk-weaker c.document_of.result _ _ (λ x h d e.
-    h ∙ document_of_flat d (signs_of c.deref.result.now) (same ∙ e)) c.document_of.ensures
+returns c = λ d x.
+    let l = c.loop-mark in
+    let ms = c.args.marks.now in
+    doc_of_seq l.docs ∙ ap (λ (s : State). s.here)
+    (ap (λ xs. walk (marks_of xs) (state_of l.begun.items l.docs.items))
+    (sym (drop_all l.mark-index ms (omega arith))) ∙ l.invariant ∙ read_all (marks_of ms) d x)

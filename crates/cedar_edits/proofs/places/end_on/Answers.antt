@@ -1,6 +1,6 @@
 use Rattle.std.proofs.Common.{◌≤◌, ◌+◌, arith, rules}
-use Rattle.cedar_positions.proofs.Lines.{lines_before-within}
-use Rattle.cedar_positions.proofs.Found.{own_place}
+use Rattle.cedar_edits.proofs.LineStarts.{lines_before-within}
+use Rattle.cedar_edits.proofs.Found.{own_place}
 use Rattle.cedar_edits.proofs.places.end_on.Goals as goal
 
 pub overflow_add-result : goal.overflow_add-result

@@ -2,9 +2,9 @@ use Rattle.std.proofs.Common.{◌≡◌, [], ◌∷◌, ◌∙◌, sym, subst, r
 use Rattle.std.proofs.lemmas.List.{nil_from_length}
 use Rattle.std.specs.Vec.Iter.{into_iter_items}
 use Rattle.cedar_edits.specs.Edits.{AreInOrder}
-use Rattle.cedar_positions.specs.declared.changes.Edit.{Edit as Placed}
+use Rattle.cedar_edits.specs.declared.changes.PlacedEdit.{PlacedEdit as Placed}
 use Rattle.cedar_edits.proofs.Placing.{ArePlaced, all_placed, one_more_placed}
-use Rattle.cedar_positions.proofs.Found.{own_place}
+use Rattle.cedar_edits.proofs.Found.{own_place}
 use Rattle.cedar_edits.proofs.places.place_edits.Goals as goal
 
 pub loop-edit-preserved : goal.loop-edit-preserved

@@ -1,5 +1,5 @@
 use Rattle.std.specs.Vec.Iter.{into_iter_items}
-use Rattle.cedar_positions.specs.Positions.{BeginsLine}
+use Rattle.cedar_edits.specs.Positions.{BeginsLine}
 use Rattle.cedar_edits.proofs.Placing.{ArePlaced}
 use Rattle.cedar_edits.proofs.places.place_edits.Given as goal
 

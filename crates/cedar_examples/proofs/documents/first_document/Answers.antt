@@ -1,5 +1,5 @@
 use Rattle.cedar_examples.proofs.PolicyDocuments.{documented, no_first, the_first}
-use Rattle.std.proofs.Common.{sym, ◌∙◌}
+use Rattle.std.proofs.Common.{sym, ◌∙◌, inl}
 use Rattle.cedar_examples.specs.Documents.{ArePlainTokensOf}
 use Rattle.cedar_examples.proofs.documents.first_document.Goals as goal
 
@@ -27,4 +27,5 @@ returns-clause-document c =
     documented c.own_tokens_are_met.ensures.policies c.args.text.now c.in_ok-tree.tree
     c.drop_trailing_commas.new.tokens.items c.to_doc.new.context.tokens.items plain
     c.args.config.now.indent_width policy.now first.0 c.in_ok-to_doc.field-0
-    c.in_ok-tree.ensures.tree (sym c.deref.ensures.value ∙ first.1) c.in_ok-to_doc.ensures.shows
+    c.in_ok-tree.ensures.tree (sym c.deref.ensures.value ∙ first.1)
+    (λ own doc s. c.in_ok-to_doc.ensures.shows own doc (s.0, inl s.1))

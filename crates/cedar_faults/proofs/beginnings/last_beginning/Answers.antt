@@ -4,10 +4,10 @@ use Rattle.cedar_grammar.specs.Beginnings.{Begins}
 use Rattle.cedar_grammar.specs.Texts.{greatest_depth}
 use Rattle.cedar_reading.specs.Tokens.{HasTokens}
 use Rattle.cedar_faults.specs.Inside.Beginnings.{IsTokenFault, RefusesInside}
-use Rattle.cedar_expected.specs.Inside.Beginnings.{TokensBegin}
+use Rattle.cedar_faults.specs.Inside.TokenBeginnings.{TokensBegin}
 use Rattle.cedar_faults.proofs.Leaving.{start_of, start_tokens, start_splits, reaches, refused_start, refused_whole, stops_first}
 use Rattle.cedar_faults.proofs.Passing.{from_start}
-use Rattle.cedar_expected.proofs.Probed.{of_units}
+use Rattle.cedar_faults.proofs.Probed.{of_units}
 use Rattle.cedar_faults.proofs.beginnings.last_beginning.Goals as goal
 
 pub returns-in-Some-2 : goal.returns-in-Some-2

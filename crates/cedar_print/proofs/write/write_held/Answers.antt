@@ -11,6 +11,6 @@ returns-after-loop-i-clause-ok c =
     let e : c.loop-i._i ≡ c.in-Some.field-0.spaces = omega arith in
     break_written out (string_bytes c.write_break.new.out) (string_bytes c.loop-i.out)
     c.in-Some.field-0.indent c.in-Some.field-0.spaces c.in_ok-write_break.ensures.ok
-    (c.loop-i.invariant
+    (c.loop-i.invariant.bytes
     ∙ ap (λ n. string_bytes c.write_break.new.out ++ replicate n space_character) e)
     ∙ ap (λ h. out ++ concat (units_held h)) (sym c.in-Some.is)

@@ -6,7 +6,7 @@ use Rattle.std.proofs.Math.Seq.{take-length}
 use Rattle.std.proofs.lemmas.Slice.Eq.{bytes_eq-Decides}
 use Rattle.std.proofs.lemmas.Str.{IsCharBoundary-from_rest, IsCharBoundary-start}
 use Rattle.cedar_reading.specs.Pieces.{IsFirstPiece}
-use Rattle.cedar_positions.specs.Laws.{CanBeNamed}
+use Rattle.cedar_edits.specs.Laws.{CanBeNamed}
 use Rattle.cedar_tokens.specs.declared.token.Span.{Span}
 use Rattle.cedar_edits.specs.Edits.{IsNamedPart, edited_by}
 use Rattle.cedar_ranges.specs.Inside.Growing.{Adds}

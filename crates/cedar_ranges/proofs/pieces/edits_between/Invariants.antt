@@ -1,6 +1,6 @@
 use Rattle.std.proofs.Common.{◌-◌, ◌≤◌, drop}
 use Rattle.std.specs.Str.{IsCharBoundary}
-use Rattle.cedar_positions.specs.Laws.{CanBeNamed}
+use Rattle.cedar_edits.specs.Laws.{CanBeNamed}
 use Rattle.cedar_edits.proofs.Turning.{IsTurned}
 use Rattle.cedar_ranges.proofs.pieces.edits_between.Given as goal
 

@@ -1,7 +1,7 @@
 use Rattle.std.proofs.Common.{◌≡◌, ◌≤◌, ◌+◌, length, drop, subst, refl}
 use Rattle.std.specs.Str.{IsCharBoundary}
 use Rattle.cedar_reading.specs.Pieces.{IsFirstPiece}
-use Rattle.cedar_positions.specs.Laws.{CanBeNamed}
+use Rattle.cedar_edits.specs.Laws.{CanBeNamed}
 use Rattle.cedar_ranges.proofs.Named.{grown_named, rest_piece_named, start_named}
 use Rattle.cedar_ranges.proofs.Progress.{none_touched, touched_piece}
 use Rattle.cedar_ranges.proofs.touched.touched_span.Goals as goal

@@ -1,5 +1,5 @@
 use Rattle.std.proofs.Common.{◌-◌, length}
-use Rattle.cedar_positions.specs.Laws.{CanBeNamed}
+use Rattle.cedar_edits.specs.Laws.{CanBeNamed}
 use Rattle.cedar_ranges.proofs.Progress.{TouchedSoFar}
 use Rattle.cedar_ranges.proofs.touched.touched_span.Given as goal
 

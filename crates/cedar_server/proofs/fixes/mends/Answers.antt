@@ -1,7 +1,7 @@
 use Rattle.std.proofs.Common.{◌≡◌, ◌+◌, ◌++◌, length, take, drop, refl, ap, sym, subst, append_assoc, ◌∙◌}
 use Rattle.std.specs.Prelude.{string_bytes}
 use Rattle.std.proofs.lemmas.List.{length-take-le}
-use Rattle.cedar_expected.specs.Samples.{sample}
+use Rattle.cedar_faults.specs.Samples.{sample}
 use Rattle.cedar_faults.specs.Faults.{AreFirstFaults}
 use Rattle.cedar_server.specs.Diagnoses.{most}
 use Rattle.cedar_server.specs.Fixes.{faults_before, mended}

@@ -1,7 +1,7 @@
 use Rattle.std.proofs.Common.{◌≡◌, ◌+◌, ◌↔◌, ℕ, List, [], ◌∷◌, ◌++◌, length, inl, inr, arith, sym, ◌∙◌, length-append}
 use Rattle.std.specs.Prelude.{◌⊎◌}
 use Rattle.cedar_grammar.specs.Texts.{Accepted}
-use Rattle.cedar_positions.specs.declared.positions.Encoding.{Encoding}
+use Rattle.cedar_edits.specs.declared.positions.Encoding.{Encoding}
 use Rattle.cedar_faults.specs.Laws.{FirstNoneIfAccepted}
 use Rattle.cedar_server.specs.declared.diagnoses.Diagnosis.{Diagnosis}
 use Rattle.cedar_server.specs.Diagnoses.{most, TellsEach, TellsFirst}

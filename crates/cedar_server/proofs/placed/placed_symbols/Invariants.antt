@@ -1,5 +1,5 @@
 use Rattle.std.proofs.Common.{take}
-use Rattle.cedar_positions.specs.Positions.{BeginsLine}
+use Rattle.cedar_edits.specs.Positions.{BeginsLine}
 use Rattle.cedar_server.specs.Placed.{InTurn, PlacesSymbol}
 use Rattle.cedar_server.proofs.placed.placed_symbols.Given as goal
 

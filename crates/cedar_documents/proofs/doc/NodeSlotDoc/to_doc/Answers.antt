@@ -1,37 +1,18 @@
-use Rattle.std.proofs.Common.{rules, ◌∙◌}
-use Rattle.std.proofs.Math.Bool.{and-true}
-use Rattle.cedar_tree.specs.Erased.{node, slot_text}
 use Rattle.cedar_grammar.specs.Trees.{Label, leaf, none}
-use Rattle.cedar_documents.specs.Found.{starts}
-use Rattle.cedar_documents.proofs.Answered.{Called, kept_after, none_after, order_after, shown_leaf}
+use Rattle.cedar_tree.specs.Erased.{Erased, node, slot_text}
+use Rattle.std.proofs.Common.{◌≡◌}
+use Rattle.cedar_documents.specs.Items.{items_of, listed}
+use Rattle.cedar_documents.proofs.Shown.{listed_alone, apart_alone}
 use Rattle.cedar_documents.proofs.doc.NodeSlotDoc.to_doc.Goals as goal
 
-called : (c : goal.After-drop-sheet-inside)
-    → Called c.write_leaf-wrote.result c.answer.result (node Label.slot c.args.self.now.span
-    (leaf (slot_text c.args.self.now.inner) none) none) (starts c.args.self.now.span.start)
-    c.args.context.now.tokens.len c.new-sheet.result c.write_leaf-wrote.new.sheet
-    c.args.context.now.tokens.items c.as_mut_slice.result.now c.write_leaf-wrote.new.tokens
-called c = record {
-  len = search rules;
-  given = c.as_mut_slice.ensures.value;
-  order = c.requires;
-  kept = c.write_leaf-wrote.ensures.kept;
-  found = c.write_leaf-wrote.ensures.found;
-  same = and-true _;
-  empty = c.new-sheet.ensures;
-  told = c.answer.ensures.found;
-  answered = c.answer.ensures.document;
-}
+abbrev nodes : goal.After-drop-items-2 → Erased
+nodes c = node Label.slot c.args.self.now.span (leaf (slot_text c.args.self.now.inner) none) none
 
-pub returns-clause-order : goal.returns-clause-order
-returns-clause-order c = order_after (called c)
-
-pub returns-clause-kept : goal.returns-clause-kept
-returns-clause-kept c = kept_after (called c)
+items : (c : goal.After-drop-items-2) → items_of c.deref.result.now ≡ listed (nodes c)
+items c = listed_alone _ _ _ (nodes c) c.deref.ensures.value c.in_ok-list_slot.ensures c.new-items.ensures.items
 
 pub returns-clause-none : goal.returns-clause-none
-returns-clause-none c = none_after (called c)
+returns-clause-none c = c.document_of.ensures.none (nodes c) (items c)
 
 pub returns-clause-shows : goal.returns-clause-shows
-returns-clause-shows c = shown_leaf _ _ (called c)
-    (λ t s n. c.write_leaf-wrote.ensures.writes t s (c.slot_text.ensures ∙ n))
+returns-clause-shows c = λ ts doc (made, row). c.document_of.ensures.shows (nodes c) ts doc (items c) tt made (apart_alone _ doc row)

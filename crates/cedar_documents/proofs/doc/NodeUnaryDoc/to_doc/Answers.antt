@@ -1,46 +1,18 @@
-use Rattle.std.proofs.Common.{◌≡◌, to_z, of_z, w64, arith, rules, refl, ap, Some}
-use Rattle.std.proofs.lemmas.Int.{ints}
-use Rattle.std.specs.Prelude.{◌&&◌}
-use Rattle.std.proofs.Math.Bool.{and-true}
-use Rattle.cedar_tree.specs.Erased.{node, unary_parts}
 use Rattle.cedar_grammar.specs.Trees.{Label, none}
-use Rattle.cedar_documents.specs.Found.{has_its_tokens, has_own, places}
-use Rattle.cedar_documents.proofs.Answered.{Called, kept_after, none_after, order_after, shown_node}
-use Rattle.cedar_documents.proofs.OwnTokens.{signed_tree, unary_signed}
+use Rattle.cedar_tree.specs.Erased.{Erased, node, unary_parts}
+use Rattle.std.proofs.Common.{◌≡◌}
+use Rattle.cedar_documents.specs.Items.{items_of, listed}
+use Rattle.cedar_documents.proofs.Shown.{listed_alone}
 use Rattle.cedar_documents.proofs.doc.NodeUnaryDoc.to_doc.Goals as goal
 
-called : (c : goal.After-drop-sheet-inside) → Called c.write_unary-wrote.result c.answer.result
-    (node Label.unary c.args.self.now.span (unary_parts c.args.self.now.inner) none)
-    (λ P. has_own P Label.unary (Some c.args.self.now.span) (unary_parts c.args.self.now.inner)
-    && has_its_tokens P (unary_parts c.args.self.now.inner)) c.args.context.now.tokens.len
-    c.new-sheet.result c.write_unary-wrote.new.sheet c.args.context.now.tokens.items
-    c.as_mut_slice.result.now c.write_unary-wrote.new.tokens
-called c = record {
-  len = search rules;
-  given = c.as_mut_slice.ensures.value;
-  order = c.requires;
-  kept = c.write_unary-wrote.ensures.kept;
-  found = c.write_unary-wrote.ensures.found;
-  same = ap (λ z. has_own (places c.args.context.now.tokens.items) Label.unary
-      (Some c.args.self.now.span) (unary_parts c.args.self.now.inner) && z) (and-true _);
-  empty = c.new-sheet.ensures;
-  told = c.answer.ensures.found;
-  answered = c.answer.ensures.document;
-}
+abbrev nodes : goal.After-drop-items-2 → Erased
+nodes c = node Label.unary c.args.self.now.span (unary_parts c.args.self.now.inner) none
 
-pub returns-clause-order : goal.returns-clause-order
-returns-clause-order c = order_after (called c)
-
-pub returns-clause-kept : goal.returns-clause-kept
-returns-clause-kept c = kept_after (called c)
+items : (c : goal.After-drop-items-2) → items_of c.deref.result.now ≡ listed (nodes c)
+items c = listed_alone _ _ _ (nodes c) c.deref.ensures.value c.in_ok-list_unary.ensures c.new-items.ensures.items
 
 pub returns-clause-none : goal.returns-clause-none
-returns-clause-none c = none_after (called c)
+returns-clause-none c = c.document_of.ensures.none (nodes c) (items c)
 
 pub returns-clause-shows : goal.returns-clause-shows
-returns-clause-shows c =
-    let width : to_z w64 (of_z w64 c.args.context.now.config.now.indent_width)
-    ≡ c.args.context.now.config.now.indent_width = omega (arith, ints) in
-    shown_node c.args.context.now.config.now.indent_width width Label.unary c.args.self.now.span
-    (unary_parts c.args.self.now.inner) refl (λ t. (unary_signed t, signed_tree t, tt)) (called c)
-    (λ t s n. c.write_unary-wrote.ensures.writes t s n)
+returns-clause-shows c = λ ts doc (made, row). c.document_of.ensures.shows (nodes c) ts doc (items c) tt made row

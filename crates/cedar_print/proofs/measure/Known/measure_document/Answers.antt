@@ -9,7 +9,7 @@ use Rattle.cedar_print.proofs.measure.Known.measure_document.Goals as goal
 pub loop-walk-init : goal.loop-walk-init
 loop-walk-init g c =
     let ms = marks_in (doc_of c.args.doc.now) in
-    let k = c.go_to_the_end.ensures in
+    let k = c.go_to_the_end.ensures.facts in
     let none = ap (λ (f : Facts). f.columns) k in
     record {
       facts = ap (λ xs. before_all xs (facts_of c.go_to_the_end.new.self)) c.in_ok-walk.ensures.marks

@@ -1,7 +1,9 @@
-use Rattle.std.proofs.Common.{◌≡◌, ◌+◌, ◌≤◌, ◌++◌, false, drop, length, take, string_bytes}
+use Rattle.std.proofs.Common.{◌≡◌, ◌+◌, ◌≤◌, ◌++◌, false, drop, length, take, string_bytes, string_capacity}
 use Rattle.std.specs.List.{flat_map}
 use Rattle.cedar_print.specs.Marks.{marks_of}
 use Rattle.cedar_print.specs.Clean.{units_of, without_blank_lines}
+use Rattle.cedar_print.specs.Rooms.{room_of}
+use Rattle.cedar_print.specs.Inside.Spare.{spare_to_enter}
 use Rattle.cedar_print.specs.Inside.Printed.{printed, state_of}
 use Rattle.cedar_print.specs.Inside.Written.{clean_after, spaces_held}
 use Rattle.cedar_print.proofs.printer.Printer.print_lines.Given as goal
@@ -14,7 +16,10 @@ invariant-loop-mark g l = record {
       (marks_of (drop l.mark-index l.marks)) (state_of l.self.place))) ≡ string_bytes l.fn.out
       ++ without_blank_lines false (flat_map units_of (printed l.width (marks_of l.marks)
       (state_of l.initial.self.place)));
-  room : spaces_held l.held ≤ l.mark-index;
+  held : spaces_held l.held ≤ l.mark-index;
+  spare : room_of l.fn.self ≤ spare_to_enter l.self.place + l.mark-index;
+  room : room_of l.fn.self ≤ room_of l.self;
+  capacity : string_capacity l.fn.out ≤ string_capacity l.out;
   steps : l.steps ≡ l.fn.steps + length l.marks + l.mark-index;
   kept : take (length (string_bytes l.fn.out)) (string_bytes l.out) ≡ string_bytes l.fn.out;
 }

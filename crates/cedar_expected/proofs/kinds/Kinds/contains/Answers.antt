@@ -1,6 +1,0 @@
-use Rattle.cedar_expected.proofs.KindLists.{contains_answer}
-use Rattle.cedar_expected.proofs.kinds.Kinds.contains.Goals as goal
-
-pub returns : goal.returns
-returns c = contains_answer c.args.self.now.items.items c.args.kind c.contains.result
-    (rw c.deref.ensures.value at c.contains.ensures.cases)

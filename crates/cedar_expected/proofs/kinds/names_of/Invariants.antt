@@ -1,5 +1,0 @@
-use Rattle.cedar_expected.proofs.NameLists.{SoFar}
-use Rattle.cedar_expected.proofs.kinds.names_of.Given as goal
-
-abbrev pub invariant-loop-kind : goal.invariant-loop-kind
-invariant-loop-kind l = SoFar l.kinds.items.items l.names.items l.kind-index

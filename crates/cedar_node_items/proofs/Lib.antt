@@ -1,3 +1,0 @@
-pub mod Listing
-pub mod Operands
-pub mod Read

@@ -1,6 +1,0 @@
-use Rattle.std.proofs.Common.{rules}
-use Rattle.cedar_node_items.proofs.Listing.{listed_signs}
-use Rattle.cedar_node_items.proofs.items.list_signs.Goals as goal
-
-pub returns : goal.returns
-returns c = search (rules, listed_signs)

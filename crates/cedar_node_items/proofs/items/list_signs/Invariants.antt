@@ -1,8 +1,0 @@
-use Rattle.std.proofs.Common.{◌≡◌, ◌++◌, replicate}
-use Rattle.cedar_node_items.specs.Items.{items_of, token}
-use Rattle.cedar_node_items.proofs.items.list_signs.Given as goal
-
--- so many signs are listed
-abbrev pub invariant-loop-i : goal.invariant-loop-i
-invariant-loop-i l =
-    items_of l.out.items ≡ items_of l.fn.out.items ++ replicate l._i (token l.sign)

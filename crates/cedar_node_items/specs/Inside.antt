@@ -1,2 +1,0 @@
--- Definitions cited only by the crate's own contracts and proofs.
-pub mod Read

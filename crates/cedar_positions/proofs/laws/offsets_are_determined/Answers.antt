@@ -1,5 +1,0 @@
-use Rattle.cedar_positions.proofs.Found.{IsOffsetOf-unique}
-use Rattle.cedar_positions.proofs.laws.offsets_are_determined.Goals as goal
-
-pub returns : goal.returns
-returns c = IsOffsetOf-unique

@@ -1,9 +1,0 @@
-use Rattle.std.proofs.Common.{◌≤◌, ◌-◌}
-use Rattle.cedar_positions.specs.Positions.{BeginsLine}
-use Rattle.cedar_positions.proofs.positions.walk.Given as goal
-
-abbrev pub invariant-lines : goal.invariant-lines
-invariant-lines l = BeginsLine l.bytes l.line.number l.line.start × (l.line.start ≤ l.at)
-
-abbrev pub decreases-lines : goal.decreases-lines
-decreases-lines l = l.at - l.line.start

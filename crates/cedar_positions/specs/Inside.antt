@@ -1,2 +1,0 @@
--- Definitions used only by private contracts.
-pub mod Ends

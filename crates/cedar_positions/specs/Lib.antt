@@ -1,4 +1,0 @@
-pub mod Inside
-pub mod Changes
-pub mod Laws
-pub mod Positions

@@ -1,0 +1,10 @@
+use Rattle.std.proofs.Common.{◌≡◌, ◌+◌, ◌≤◌, ◌++◌, ◌∷◌, replicate, string_bytes, string_len, string_capacity}
+use Rattle.cedar_tokens.specs.Bytes.{line_feed, space_character}
+use Rattle.cedar_print.proofs.write.write_break.Given as goal
+
+abbrev pub invariant-loop-i : goal.invariant-loop-i
+invariant-loop-i l = record {
+  bytes : string_bytes l.out ≡ string_bytes l.fn.out ++ line_feed ∷ replicate l._i space_character;
+  len : string_len l.out ≡ string_len l.fn.out + 1 + l._i;
+  capacity : string_capacity l.fn.out ≤ string_capacity l.out;
+}
