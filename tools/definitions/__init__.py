@@ -161,9 +161,10 @@ class Definitions:
         is_token, is_number = (self.get(f"{TOKENS}.Units", it) for it in ("is_token", "is_number"))
         starts = [start for start, unit in zip(ends, units) if is_token(unit)]
         tokens = [unit for unit in units if is_token(unit)]
-        place = [*starts, len(text)][self.read(tokens)]
+        # (after a token that is read no relation need end, as after `{`)
+        places = [*starts, len(text)][self.read(tokens) :]
         numbers = [("NumberTooLarge", start) for start, unit in zip(starts, tokens) if is_number(unit)]
-        return [*numbers, ("Grammar", place), ("TooDeep", place)]
+        return numbers + [(name, place) for place in places for name in ("Grammar", "TooDeep")]
 
     def forget(self):
         """Forgets what was found for a text."""
