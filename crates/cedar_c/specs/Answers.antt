@@ -2,9 +2,9 @@
 use Rattle.std.specs.Prelude.{◌≡◌, ◌+◌, ◌<◌, ◌≤◌, ◌⊎◌, ◌++◌, ℕ, ℤ, List, [], ◌∷◌, length, drop, Option, Some, None, Result, Ok, Err}
 use Rattle.std.specs.Str.{IsUtf8}
 use Rattle.cedar_tokens.specs.declared.token.Span.{Span}
-use Rattle.cedar_tree.specs.Refusals.{OutOfMemoryOr}
-use Rattle.cedar_tree.specs.declared.error.FormatError.{FormatError}
-use Rattle.cedar_tree.specs.declared.error.FormatError.TheVariants.{UnknownCharacter, UnfinishedString, NumberTooLarge, Grammar, TooDeep, NoDocument, Unsound, OutOfMemory}
+use Rattle.cedar_grammar.specs.Refusals.{OutOfMemoryOr}
+use Rattle.cedar_grammar.specs.declared.error.FormatError.{FormatError}
+use Rattle.cedar_grammar.specs.declared.error.FormatError.TheVariants.{UnknownCharacter, UnfinishedString, NumberTooLarge, Grammar, TooDeep, NoDocument, Unsound, OutOfMemory}
 use Rattle.cedar_written.specs.Lists.{HaveEqualLists}
 use Rattle.cedar_written.specs.Output.{IsOutputOf}
 use Rattle.cedar_written.specs.Refusals.{Refuses}

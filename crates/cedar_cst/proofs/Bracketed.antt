@@ -11,19 +11,19 @@ use Rattle.cedar_grammar.specs.Trees.{Label, Forest, none, leaf, branch, join, y
 use Rattle.cedar_grammar.specs.TrailingCommas.{without_trailing, drop_if, closes_next}
 use Rattle.cedar_grammar.specs.Reader.Reading.{Answer, Reader, done, stuck, both, tree, one}
 use Rattle.cedar_grammar.proofs.Readers.Equations.{both_done, both_fails, both_then_fails, tree_done, tree_fails}
-use Rattle.cedar_tree.specs.Erased.{Erased, access_parts, primary_parts}
+use Rattle.cedar_grammar.specs.Erased.{Erased, access_parts, primary_parts}
 use Rattle.cedar_reading.specs.Lexemes.{lexeme_nodes}
-use Rattle.cedar_tree.specs.NodeTrees.{is_node, span_of}
+use Rattle.cedar_grammar.specs.NodeTrees.{is_node, span_of}
 use Rattle.cedar_reading.specs.Reading.{kind, Fails, Stands, IsMade, PassesOn, FollowedBy, GivesNode}
 use Rattle.cedar_cst.specs.Boxed.{unboxed}
 use Rattle.cedar_cst.specs.ReadingItems.{Boxed, StandsItems, GivesItems, bracketed, IsBracketsOf}
-use Rattle.cedar_tree.specs.NodeLists.{item_trees}
+use Rattle.cedar_grammar.specs.NodeLists.{item_trees}
 use Rattle.cedar_reading.specs.ReadingParts.{Makes}
 use Rattle.cedar_reading.specs.declared.lexeme.Lexeme.{Lexeme}
 use Rattle.cedar_reading.specs.declared.reading.Refusal.{Refusal}
-use Rattle.cedar_tree.specs.declared.tree.Node.{Node}
-use Rattle.cedar_tree.specs.declared.tree.MemAccess as MemAccess
-use Rattle.cedar_tree.specs.declared.tree.Primary as Primary
+use Rattle.cedar_grammar.specs.declared.tree.Node.{Node}
+use Rattle.cedar_grammar.specs.declared.tree.MemAccess as MemAccess
+use Rattle.cedar_grammar.specs.declared.tree.Primary as Primary
 use Rattle.cedar_reading.proofs.LeafTexts.{kept, from_to, nodes_fixed, covers_node, kept_leaf, end_append}
 use Rattle.cedar_reading.proofs.Rows.{right_join, row_span, row_parts}
 use Rattle.cedar_reading.proofs.Steps.{passes}

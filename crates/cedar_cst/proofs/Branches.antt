@@ -8,21 +8,21 @@ use Rattle.cedar_tokens.specs.Kinds.{is, begins}
 use Rattle.cedar_grammar.specs.Trees.{Label, Forest, none, leaf, branch}
 use Rattle.cedar_grammar.specs.Reader.Reading.{Answer, Reader, done, stuck, choice, both, skip, tree, one}
 use Rattle.cedar_grammar.proofs.Readers.Equations.{tree_done, tree_fails, both_first, both_done, both_fails, both_then_fails, choice_yes, choice_no, token_yes, token_no, token_end, onto}
-use Rattle.cedar_tree.specs.Erased.{expr_parts, add_parts, primary_parts}
+use Rattle.cedar_grammar.specs.Erased.{expr_parts, add_parts, primary_parts}
 use Rattle.cedar_reading.specs.Reading.{kind, Stands, PassesOn, FollowedBy, GivesNode, GivesAfter, first_place, name_parts}
 use Rattle.cedar_reading.specs.ReadingParts.{Makes}
 use Rattle.cedar_cst.specs.Boxed.{unboxed}
 use Rattle.cedar_cst.specs.ReadingItems.{Boxed}
 use Rattle.cedar_cst.specs.ReadingExprs.{IsIfOf, IsParensOf, IsInitOf, IsTyped, GivesTypeTest}
-use Rattle.cedar_tree.specs.NodeLists.{init_parts}
+use Rattle.cedar_grammar.specs.NodeLists.{init_parts}
 use Rattle.cedar_reading.specs.declared.lexeme.Lexeme.{Lexeme}
 use Rattle.cedar_reading.specs.declared.reading.Refusal.{Refusal}
-use Rattle.cedar_tree.specs.declared.tree.Node.{Node}
-use Rattle.cedar_tree.specs.declared.tree.Name.{Name}
-use Rattle.cedar_tree.specs.declared.tree.Expr as Expr
-use Rattle.cedar_tree.specs.declared.tree.Add as Add
-use Rattle.cedar_tree.specs.declared.tree.Primary as Primary
-use Rattle.cedar_tree.specs.declared.tree.RecInit as RecInit
+use Rattle.cedar_grammar.specs.declared.tree.Node.{Node}
+use Rattle.cedar_grammar.specs.declared.tree.Name.{Name}
+use Rattle.cedar_grammar.specs.declared.tree.Expr as Expr
+use Rattle.cedar_grammar.specs.declared.tree.Add as Add
+use Rattle.cedar_grammar.specs.declared.tree.Primary as Primary
+use Rattle.cedar_grammar.specs.declared.tree.RecInit as RecInit
 use Rattle.cedar_reading.proofs.LeafTexts.{from_to}
 use Rattle.cedar_reading.proofs.Steps.{passes, token_at, first_begins, is_itself}
 use Rattle.cedar_reading.proofs.Rows.{row_token, row_node, row_nodes, row_more, row_parts, row_span}

@@ -8,17 +8,17 @@ use Rattle.cedar_tokens.specs.Kinds.{is, is_closing, begins}
 use Rattle.cedar_grammar.specs.Trees.{Label, Forest, none, leaf, branch, join}
 use Rattle.cedar_grammar.specs.Reader.Reading.{Answer, Reader, done, stuck, both, tree, repeat, token}
 use Rattle.cedar_grammar.proofs.Readers.Equations.{Takes, both_done, both_then_fails, both_takes, token_takes}
-use Rattle.cedar_tree.specs.Erased.{Erased, node, addop_text}
-use Rattle.cedar_tree.specs.NodeTrees.{is_node}
+use Rattle.cedar_grammar.specs.Erased.{Erased, node, addop_text}
+use Rattle.cedar_grammar.specs.NodeTrees.{is_node}
 use Rattle.cedar_reading.specs.Reading.{kind, Keeps, Fails, Stands, GivesNode, addop_kind}
 use Rattle.cedar_cst.specs.Boxed.{mapped, unboxed, signed}
 use Rattle.cedar_cst.specs.ReadingItems.{Boxed}
 use Rattle.cedar_cst.specs.ReadingExprs.{operands_end, IsChainOf}
-use Rattle.cedar_tree.specs.NodeLists.{operand_trees}
+use Rattle.cedar_grammar.specs.NodeLists.{operand_trees}
 use Rattle.cedar_reading.specs.declared.lexeme.Lexeme.{Lexeme}
 use Rattle.cedar_reading.specs.declared.reading.Refusal.{Refusal}
-use Rattle.cedar_tree.specs.declared.tree.Node.{Node}
-use Rattle.cedar_tree.specs.declared.tree.AddOp.{AddOp}
+use Rattle.cedar_grammar.specs.declared.tree.Node.{Node}
+use Rattle.cedar_grammar.specs.declared.tree.AddOp.{AddOp}
 use Rattle.cedar_reading.proofs.Steps.{token_at, first_begins}
 use Rattle.cedar_reading.proofs.Rows.{row_node, row_more, row_join, row_parts, row_span, no_closing, Chain, chain_first, chain_next, chain_stuck, chain_end}
 use Rattle.cedar_tokens.specs.Inside.FixedTexts.{is_open, fixed_text}

@@ -5,11 +5,11 @@ use Rattle.cedar_tokens.specs.declared.kind.Kind.TheVariants as K
 use Rattle.cedar_grammar.specs.Trees.{Label, Forest, none, leaf, branch}
 use Rattle.cedar_grammar.specs.Reader.Reading.{Reader, done, stuck, both, tree, token, one}
 use Rattle.cedar_grammar.proofs.Readers.Equations.{tree_done, tree_fails, both_done, both_fails, both_then_fails}
-use Rattle.cedar_tree.specs.Erased.{expr_parts, cond_parts}
+use Rattle.cedar_grammar.specs.Erased.{expr_parts, cond_parts}
 use Rattle.cedar_reading.specs.Reading.{kind, Stands, ident_parts}
 use Rattle.cedar_tokens.specs.Kinds.{is_cond_word}
 use Rattle.cedar_reading.specs.declared.lexeme.Lexeme.{Lexeme}
-use Rattle.cedar_tree.specs.declared.tree.Cond.{Cond}
+use Rattle.cedar_grammar.specs.declared.tree.Cond.{Cond}
 use Rattle.cedar_reading.proofs.LeafTexts.{from_to}
 use Rattle.cedar_reading.proofs.Rows.{row_more, row_nodes, row_token}
 

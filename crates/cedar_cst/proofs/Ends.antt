@@ -3,7 +3,7 @@ use Rattle.std.specs.Prelude.{◌≡◌, ℕ, zero, suc, List, [], ◌∷◌, le
 use Rattle.std.specs.List.{slice_get}
 use Rattle.std.proofs.Common.{sym, ap, arith}
 use Rattle.cedar_cst.specs.ReadingExprs.{end_of_last}
-use Rattle.cedar_tree.specs.declared.tree.Node.{Node}
+use Rattle.cedar_grammar.specs.declared.tree.Node.{Node}
 
 module _ {X Y : Type 0} (operand : Y → Node X) where
   ends_at : (e : ℕ) (ys : List Y) (k : ℕ) (y : Y) → suc k ≡ length ys → slice_get ys k ≡ Some y

@@ -10,14 +10,14 @@ use Rattle.cedar_grammar.specs.TrailingCommas.{without_trailing, drop_if}
 use Rattle.cedar_grammar.specs.Reader.Reading.{Answer, Reader, done, stuck, choice, both, skip}
 use Rattle.cedar_grammar.specs.Reader.Rules.{tailed}
 use Rattle.cedar_grammar.proofs.Readers.Equations.{Takes, choice_yes, choice_no, both_first, both_fails, onto, onto_onto, join_none, join_assoc}
-use Rattle.cedar_tree.specs.Erased.{Erased, node}
+use Rattle.cedar_grammar.specs.Erased.{Erased, node}
 use Rattle.cedar_reading.specs.Lexemes.{lexeme_nodes}
-use Rattle.cedar_tree.specs.NodeTrees.{is_node}
+use Rattle.cedar_grammar.specs.NodeTrees.{is_node}
 use Rattle.cedar_reading.specs.Reading.{kind, IsRight, AreRight, Stands}
 use Rattle.cedar_cst.specs.ReadingItems.{StandsItems}
-use Rattle.cedar_tree.specs.NodeLists.{item_trees, more_trees}
+use Rattle.cedar_grammar.specs.NodeLists.{item_trees, more_trees}
 use Rattle.cedar_reading.specs.declared.lexeme.Lexeme.{Lexeme}
-use Rattle.cedar_tree.specs.declared.tree.Node.{Node}
+use Rattle.cedar_grammar.specs.declared.tree.Node.{Node}
 use Rattle.cedar_reading.proofs.Steps.{is_itself}
 use Rattle.cedar_reading.proofs.LeafTexts.{nodes_node, value_is_fixed}
 use Rattle.cedar_reading.proofs.Rows.{plain, right_join}

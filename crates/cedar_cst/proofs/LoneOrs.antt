@@ -2,13 +2,13 @@
 use Rattle.std.specs.Prelude.{◌≡◌, List, [], Result, Ok, Err, MatchResult, box_value}
 use Rattle.std.proofs.Common.{ap, subst, ◌∙◌}
 use Rattle.cedar_grammar.specs.Trees.{Label, none}
-use Rattle.cedar_tree.specs.Erased.{node, relation_parts}
-use Rattle.cedar_tree.specs.NodeLists.{and_parts}
-use Rattle.cedar_tree.specs.declared.tree.Node.{Node}
-use Rattle.cedar_tree.specs.declared.tree.Add as Add
-use Rattle.cedar_tree.specs.declared.tree.Relation as Relation
-use Rattle.cedar_tree.specs.declared.tree.And as And
-use Rattle.cedar_tree.specs.declared.tree.Or as Or
+use Rattle.cedar_grammar.specs.Erased.{node, relation_parts}
+use Rattle.cedar_grammar.specs.NodeLists.{and_parts}
+use Rattle.cedar_grammar.specs.declared.tree.Node.{Node}
+use Rattle.cedar_grammar.specs.declared.tree.Add as Add
+use Rattle.cedar_grammar.specs.declared.tree.Relation as Relation
+use Rattle.cedar_grammar.specs.declared.tree.And as And
+use Rattle.cedar_grammar.specs.declared.tree.Or as Or
 use Rattle.cedar_reading.specs.ReadingParts.{IsLoneOrOf}
 use Rattle.cedar_reading.specs.declared.reading.Refusal.{Refusal}
 use Rattle.cedar_reading.specs.declared.reading.Refusal.TheVariants.{OutOfMemory}

@@ -7,13 +7,13 @@ use Rattle.cedar_grammar.specs.Trees.{Label, Forest, none, branch}
 use Rattle.cedar_grammar.specs.Reader.Reading.{done, stuck}
 use Rattle.cedar_grammar.specs.Reader.Lines as L
 use Rattle.cedar_grammar.specs.Reader.Lines.{◌∥◌, field, index, call, access_rule, member_rule}
-use Rattle.cedar_tree.specs.Erased.{access_parts}
+use Rattle.cedar_grammar.specs.Erased.{access_parts}
 use Rattle.cedar_reading.specs.Reading.{kind, flat, Stands}
 use Rattle.cedar_cst.specs.ReadingExprs.{at_depth}
 use Rattle.cedar_reading.specs.declared.lexeme.Lexeme.{Lexeme}
-use Rattle.cedar_tree.specs.declared.tree.Node.{Node}
-use Rattle.cedar_tree.specs.declared.tree.Primary as Primary
-use Rattle.cedar_tree.specs.declared.tree.MemAccess as MemAccess
+use Rattle.cedar_grammar.specs.declared.tree.Node.{Node}
+use Rattle.cedar_grammar.specs.declared.tree.Primary as Primary
+use Rattle.cedar_grammar.specs.declared.tree.MemAccess as MemAccess
 use Rattle.cedar_reading.proofs.Operands.{AccessesRead, accesses_next, accesses_stuck, one_access, grown}
 use Rattle.cedar_reading.proofs.AccessLaws.{turn_fails, turn_plain, turn_called, turn_called_fails, two_accesses}
 use Rattle.cedar_cst.proofs.Depths.{depth_takes}

@@ -18,9 +18,9 @@ use Rattle.cedar_grammar.specs.Reader.Reading.{Answer, done, stuck}
 use Rattle.cedar_grammar.specs.Reader.Lines.{set_to}
 use Rattle.cedar_grammar.proofs.Rules.Maps.{each, relabel, answer_of, set_agrees, each_length}
 use Rattle.cedar_grammar.proofs.Trees.Relabelling.{each_map, map_map}
-use Rattle.cedar_tree.specs.declared.tree.Policies.{Policies}
-use Rattle.cedar_tree.specs.Erased.{erase, variant, policy_trees}
-use Rattle.cedar_tree.specs.NodeTrees.{spanned}
+use Rattle.cedar_grammar.specs.declared.tree.Policies.{Policies}
+use Rattle.cedar_grammar.specs.Erased.{erase, variant, policy_trees}
+use Rattle.cedar_grammar.specs.NodeTrees.{spanned}
 use Rattle.cedar_reading.specs.declared.lexeme.Lexeme.{Lexeme}
 use Rattle.cedar_reading.specs.declared.reading.Refusal.{Refusal}
 use Rattle.cedar_reading.specs.declared.reading.Refusal.TheVariants.{Grammar, TooDeep, OutOfMemory}

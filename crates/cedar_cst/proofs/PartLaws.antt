@@ -29,11 +29,11 @@ use Rattle.cedar_grammar.proofs.Readers.Equations.{join_assoc}
 use Rattle.cedar_grammar.proofs.Rules.Maps.{relabel}
 use Rattle.cedar_grammar.proofs.Trees.Relabelling.{relabelled}
 use Rattle.cedar_grammar.proofs.Trees.Laws.{list_has_one_tree}
-use Rattle.cedar_tree.specs.declared.tree.Node.{Node}
-use Rattle.cedar_tree.specs.declared.tree.Policy as Tree
-use Rattle.cedar_tree.specs.Erased.{Erased, variant, policy_parts, policy_trees}
-use Rattle.cedar_tree.specs.NodeTrees.{spanned}
-use Rattle.cedar_tree.proofs.NodeLaws.{placed_texts}
+use Rattle.cedar_grammar.specs.declared.tree.Node.{Node}
+use Rattle.cedar_grammar.specs.declared.tree.Policy as Tree
+use Rattle.cedar_grammar.specs.Erased.{Erased, variant, policy_parts, policy_trees}
+use Rattle.cedar_grammar.specs.NodeTrees.{spanned}
+use Rattle.cedar_grammar.proofs.NodeLaws.{placed_texts}
 use Rattle.cedar_reading.proofs.Parsing.{spans_length}
 use Rattle.cedar_reading.specs.Pieces.{IsPiece, is_semicolon}
 use Rattle.cedar_reading.proofs.Prefixes.{units_of}

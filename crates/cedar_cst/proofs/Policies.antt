@@ -13,18 +13,18 @@ use Rattle.cedar_grammar.specs.Reader.Reading.{Answer, Reader, done, stuck, afte
 use Rattle.cedar_grammar.specs.Reader.Rules.{star, word_of, read, core}
 use Rattle.cedar_grammar.specs.Reader.Lines.{annotation_rule, scoped, action, cond_rule}
 use Rattle.cedar_grammar.proofs.Readers.Equations.{both_first, both_done, both_fails, both_then_fails, tree_done, tree_fails, many_step, many_fails, many_end}
-use Rattle.cedar_tree.specs.Erased.{Erased, ident_tree, annotation_trees, cond_trees, policy_parts, policy_trees, annotation_parts, cond_parts, variable_parts}
-use Rattle.cedar_tree.specs.NodeTrees.{span_of}
+use Rattle.cedar_grammar.specs.Erased.{Erased, ident_tree, annotation_trees, cond_trees, policy_parts, policy_trees, annotation_parts, cond_parts, variable_parts}
+use Rattle.cedar_grammar.specs.NodeTrees.{span_of}
 use Rattle.cedar_reading.specs.Reading.{kind, flat, Fails, Stands, StandsMany, GivesMany, FollowedBy, node_trees, ident_parts}
 use Rattle.cedar_reading.specs.ReadingParts.{scope_rule}
-use Rattle.cedar_tree.specs.NodeLists.{item_trees}
+use Rattle.cedar_grammar.specs.NodeLists.{item_trees}
 use Rattle.cedar_reading.specs.Lexemes.{lexeme_nodes}
 use Rattle.cedar_reading.specs.declared.lexeme.Lexeme.{Lexeme}
 use Rattle.cedar_reading.specs.declared.reading.Refusal.{Refusal}
-use Rattle.cedar_tree.specs.declared.tree.Node.{Node}
-use Rattle.cedar_tree.specs.declared.tree.Annotation.{Annotation}
-use Rattle.cedar_tree.specs.declared.tree.Cond.{Cond}
-use Rattle.cedar_tree.specs.declared.tree.Policy.{Policy}
+use Rattle.cedar_grammar.specs.declared.tree.Node.{Node}
+use Rattle.cedar_grammar.specs.declared.tree.Annotation.{Annotation}
+use Rattle.cedar_grammar.specs.declared.tree.Cond.{Cond}
+use Rattle.cedar_grammar.specs.declared.tree.Policy.{Policy}
 use Rattle.cedar_reading.proofs.LeafTexts.{Covers, kept, from_to}
 use Rattle.cedar_reading.proofs.Rows.{row_token, row_nodes, row_parts, row_join, many_join, closes_join, no_closing}
 use Rattle.cedar_reading.proofs.Steps.{passes}

@@ -12,7 +12,7 @@ use Rattle.cedar_grammar.specs.Reader.Reading.{Answer, Reader, done, stuck, both
 use Rattle.cedar_grammar.specs.Reader.Rules.{leaf_of}
 use Rattle.cedar_grammar.specs.Reader.Lines.{◌▸◌, ◌∥◌, one_of, maybe, path, add_rule, text_operand, has_field, expr_to, expr_rule, call}
 use Rattle.cedar_grammar.proofs.Readers.Equations.{Takes, both_done, both_then_fails, tree_done}
-use Rattle.cedar_tree.specs.Erased.{Erased, or_parts, expr_parts, primary_parts}
+use Rattle.cedar_grammar.specs.Erased.{Erased, or_parts, expr_parts, primary_parts}
 use Rattle.cedar_reading.specs.Reading.{kind, flat, PassesOn, GivesNode, first_place}
 use Rattle.cedar_reading.specs.ReadingParts.{Makes, IsOrExprOf}
 use Rattle.cedar_cst.specs.Boxed.{unboxed}
@@ -21,11 +21,11 @@ use Rattle.cedar_cst.specs.ReadingExprs.{at_depth, GivesItem, GivesSigned, IsBes
 use Rattle.cedar_reading.specs.declared.lexeme.Lexeme.{Lexeme}
 use Rattle.cedar_reading.specs.declared.reading.Refusal.{Refusal}
 use Rattle.cedar_reading.specs.declared.reading.Refusal.TheVariants.{OutOfMemory}
-use Rattle.cedar_tree.specs.declared.tree.Node.{Node}
-use Rattle.cedar_tree.specs.declared.tree.MemAccess as MemAccess
-use Rattle.cedar_tree.specs.declared.tree.Primary as Primary
-use Rattle.cedar_tree.specs.declared.tree.Or as Or
-use Rattle.cedar_tree.specs.declared.tree.Expr as Expr
+use Rattle.cedar_grammar.specs.declared.tree.Node.{Node}
+use Rattle.cedar_grammar.specs.declared.tree.MemAccess as MemAccess
+use Rattle.cedar_grammar.specs.declared.tree.Primary as Primary
+use Rattle.cedar_grammar.specs.declared.tree.Or as Or
+use Rattle.cedar_grammar.specs.declared.tree.Expr as Expr
 use Rattle.cedar_reading.proofs.Steps.{passes, token_not, token_at}
 use Rattle.cedar_reading.proofs.Rows.{row_node, row_parts, row_span}
 use Rattle.cedar_cst.proofs.Chains.{Between}

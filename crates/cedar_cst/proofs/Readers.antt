@@ -12,11 +12,11 @@ use Rattle.cedar_grammar.specs.Numbers.{is_too_large}
 use Rattle.cedar_grammar.specs.Texts.{Accepted, LeavesGrammar}
 use Rattle.cedar_grammar.proofs.Leaving.{leaves_grammar, is_refused}
 use Rattle.cedar_grammar.proofs.Texts.Cuts.{fit_part}
-use Rattle.cedar_tree.specs.declared.error.FormatError.{FormatError}
-use Rattle.cedar_tree.specs.declared.error.FormatError.TheVariants.{UnknownCharacter, UnfinishedString, NumberTooLarge, Grammar, TooDeep, NoDocument, Unsound, OutOfMemory}
-use Rattle.cedar_tree.specs.declared.tree.Node.{Node}
-use Rattle.cedar_tree.specs.declared.tree.Policy.{Policy}
-use Rattle.cedar_tree.specs.Refusals.{OutOfMemoryOr, Refuses, RefusesTokens}
+use Rattle.cedar_grammar.specs.declared.error.FormatError.{FormatError}
+use Rattle.cedar_grammar.specs.declared.error.FormatError.TheVariants.{UnknownCharacter, UnfinishedString, NumberTooLarge, Grammar, TooDeep, NoDocument, Unsound, OutOfMemory}
+use Rattle.cedar_grammar.specs.declared.tree.Node.{Node}
+use Rattle.cedar_grammar.specs.declared.tree.Policy.{Policy}
+use Rattle.cedar_grammar.specs.Refusals.{OutOfMemoryOr, Refuses, RefusesTokens}
 use Rattle.cedar_reading.specs.Tokens.{HasTokens}
 use Rattle.cedar_reading.specs.Pieces.{IsPiece, HasNoPiece, IsFirstPiece}
 use Rattle.cedar_reading.proofs.Accepted.{accepted_join, accepted_empty}

@@ -15,21 +15,21 @@ use Rattle.cedar_grammar.specs.Reader.Lines.{call, call_parts}
 use Rattle.cedar_grammar.proofs.Readers.Equations.{choice_yes, choice_no, both_first, both_done, both_fails, token_yes, token_no, token_end, tree_fails, onto}
 use Rattle.cedar_grammar.proofs.Rules.Languages.{shaped_done, shaped_fails}
 use Rattle.cedar_grammar.proofs.KindSets.{within_at}
-use Rattle.cedar_tree.specs.Erased.{access_parts, primary_parts, node}
+use Rattle.cedar_grammar.specs.Erased.{access_parts, primary_parts, node}
 use Rattle.cedar_reading.specs.Reading.{kind, Fails, Stands, GivesNode, PassesOn, IsNamePrimaryOf, last_end, name_parts}
-use Rattle.cedar_tree.specs.NodeLists.{access_items}
+use Rattle.cedar_grammar.specs.NodeLists.{access_items}
 use Rattle.cedar_reading.specs.ReadingParts.{ident_reader, text_reader, words_on, words_then, GoesOn, Words, WordsEnd, GivesWords, IsEntityOf, Makes}
 use Rattle.cedar_cst.specs.ReadingItems.{Boxed}
 use Rattle.cedar_cst.specs.ReadingExprs.{at_depth, IsCalled, StandsItem, GivesItem}
 use Rattle.cedar_reading.specs.declared.lexeme.Lexeme.{Lexeme}
 use Rattle.cedar_reading.specs.declared.reading.Refusal.{Refusal}
 use Rattle.cedar_reading.specs.declared.reading.Refusal.TheVariants.{Grammar, TooDeep, OutOfMemory}
-use Rattle.cedar_tree.specs.declared.tree.Node.{Node}
-use Rattle.cedar_tree.specs.declared.tree.Ident.{Ident}
-use Rattle.cedar_tree.specs.declared.tree.Name.{Name}
-use Rattle.cedar_tree.specs.declared.tree.Str.{Str}
-use Rattle.cedar_tree.specs.declared.tree.Primary as Primary
-use Rattle.cedar_tree.specs.declared.tree.MemAccess as MemAccess
+use Rattle.cedar_grammar.specs.declared.tree.Node.{Node}
+use Rattle.cedar_grammar.specs.declared.tree.Ident.{Ident}
+use Rattle.cedar_grammar.specs.declared.tree.Name.{Name}
+use Rattle.cedar_grammar.specs.declared.tree.Str.{Str}
+use Rattle.cedar_grammar.specs.declared.tree.Primary as Primary
+use Rattle.cedar_grammar.specs.declared.tree.MemAccess as MemAccess
 use Rattle.cedar_reading.proofs.Rows.{row_node, row_nodes, row_parts, row_span}
 use Rattle.cedar_reading.proofs.Steps.{passes, fails_as, token_not}
 use Rattle.cedar_reading.proofs.Entities.{entity_stands}

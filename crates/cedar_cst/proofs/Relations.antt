@@ -10,8 +10,8 @@ use Rattle.cedar_tokens.specs.Kinds.{is, is_comparison, begins}
 use Rattle.cedar_grammar.specs.Trees.{Label, Forest, none, leaf, branch}
 use Rattle.cedar_grammar.specs.Reader.Reading.{Reader, done, stuck, choice, both, skip, tree}
 use Rattle.cedar_grammar.proofs.Readers.Equations.{tree_done, tree_fails, both_done, both_fails, both_then_fails, choice_yes, choice_no}
-use Rattle.cedar_tree.specs.Erased.{Erased, node, variant, add_parts, relation_parts, relop_text}
-use Rattle.cedar_tree.specs.NodeTrees.{is_node}
+use Rattle.cedar_grammar.specs.Erased.{Erased, node, variant, add_parts, relation_parts, relop_text}
+use Rattle.cedar_grammar.specs.NodeTrees.{is_node}
 use Rattle.cedar_reading.specs.Reading.{kind, Stands, PassesOn, GivesNode, GivesAfter, relop_kind}
 use Rattle.cedar_reading.specs.ReadingParts.{Makes}
 use Rattle.cedar_cst.specs.Boxed.{unboxed}
@@ -19,11 +19,11 @@ use Rattle.cedar_cst.specs.ReadingItems.{Boxed}
 use Rattle.cedar_cst.specs.ReadingExprs.{operand_before, IsLoneRelationOf, IsComparedOf, IsWordOf, IsTypeTestOf, GivesSigned, GivesTypeTest}
 use Rattle.cedar_reading.specs.declared.lexeme.Lexeme.{Lexeme}
 use Rattle.cedar_reading.specs.declared.reading.Refusal.{Refusal}
-use Rattle.cedar_tree.specs.declared.tree.Node.{Node}
-use Rattle.cedar_tree.specs.declared.tree.Name.{Name}
-use Rattle.cedar_tree.specs.declared.tree.RelOp.{RelOp}
-use Rattle.cedar_tree.specs.declared.tree.Add as Add
-use Rattle.cedar_tree.specs.declared.tree.Relation as Relation
+use Rattle.cedar_grammar.specs.declared.tree.Node.{Node}
+use Rattle.cedar_grammar.specs.declared.tree.Name.{Name}
+use Rattle.cedar_grammar.specs.declared.tree.RelOp.{RelOp}
+use Rattle.cedar_grammar.specs.declared.tree.Add as Add
+use Rattle.cedar_grammar.specs.declared.tree.Relation as Relation
 use Rattle.cedar_reading.proofs.LeafTexts.{from_to}
 use Rattle.cedar_reading.proofs.Steps.{passes}
 use Rattle.cedar_reading.proofs.Rows.{row_node, row_nodes, row_more, row_parts, row_span}

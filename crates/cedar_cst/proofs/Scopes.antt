@@ -8,15 +8,15 @@ use Rattle.cedar_grammar.specs.Reader.Reading.{Answer, Reader, done, stuck, choi
 use Rattle.cedar_grammar.proofs.Readers.Equations.{both_done, both_fails, both_then_fails, choice_yes, choice_no, join_assoc}
 use Rattle.cedar_reading.specs.Reading.{kind, Stands, Skips}
 use Rattle.cedar_cst.specs.ReadingItems.{StandsItems}
-use Rattle.cedar_tree.specs.NodeLists.{item_trees}
+use Rattle.cedar_grammar.specs.NodeLists.{item_trees}
 use Rattle.cedar_reading.specs.declared.lexeme.Lexeme.{Lexeme}
-use Rattle.cedar_tree.specs.declared.tree.Node.{Node}
-use Rattle.cedar_tree.specs.declared.tree.VariableDef.{VariableDef}
+use Rattle.cedar_grammar.specs.declared.tree.Node.{Node}
+use Rattle.cedar_grammar.specs.declared.tree.VariableDef.{VariableDef}
 use Rattle.cedar_reading.proofs.Steps.{token_at, first_begins, is_itself}
 use Rattle.cedar_reading.proofs.LeafTexts.{from_to}
 use Rattle.cedar_cst.proofs.Bracketed.{row_brackets}
 use Rattle.cedar_cst.proofs.Listed.{StandsOpen, no_items, next_item, last_item}
-use Rattle.cedar_tree.specs.Erased.{variable_parts}
+use Rattle.cedar_grammar.specs.Erased.{variable_parts}
 
 -- three readers, one after another
 pub both_assoc : (P Q R : Reader Lexeme) (ts : List Lexeme)

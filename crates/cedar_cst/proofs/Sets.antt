@@ -7,15 +7,15 @@ use Rattle.cedar_tokens.specs.Kinds.{is, begins, is_effect}
 use Rattle.cedar_grammar.specs.Trees.{Label, Forest, none, branch}
 use Rattle.cedar_grammar.specs.Reader.Reading.{Answer, Reader, done, stuck, tree, repeat}
 use Rattle.cedar_grammar.proofs.Readers.Equations.{tree_done, tree_fails, read_end, read_fails}
-use Rattle.cedar_tree.specs.Erased.{policy_parts}
+use Rattle.cedar_grammar.specs.Erased.{policy_parts}
 use Rattle.cedar_reading.specs.Reading.{kind, Fails}
 use Rattle.cedar_cst.specs.Inside.ReadingSet.{GivesSet}
 use Rattle.cedar_reading.specs.declared.lexeme.Lexeme.{Lexeme}
 use Rattle.cedar_reading.specs.declared.reading.Refusal.{Refusal}
 use Rattle.cedar_reading.specs.declared.reading.Refusal.TheVariants.{Grammar, TooDeep, OutOfMemory}
-use Rattle.cedar_tree.specs.declared.tree.Node.{Node}
-use Rattle.cedar_tree.specs.declared.tree.Policy.{Policy}
-use Rattle.cedar_tree.specs.declared.tree.Policies.{Policies}
+use Rattle.cedar_grammar.specs.declared.tree.Node.{Node}
+use Rattle.cedar_grammar.specs.declared.tree.Policy.{Policy}
+use Rattle.cedar_grammar.specs.declared.tree.Policies.{Policies}
 use Rattle.cedar_reading.proofs.Manys.{ManyRead}
 use Rattle.cedar_cst.proofs.Policies.{policies_row}
 

@@ -5,11 +5,11 @@ use Rattle.std.proofs.Common.{refl, sym, ap, ◌∙◌}
 use Rattle.cedar_grammar.specs.Trees.{Label, Forest, none, branch, join}
 use Rattle.cedar_grammar.specs.Reader.Reading.{Reader, done, both, tree}
 use Rattle.cedar_grammar.proofs.Readers.Equations.{both_done, both_then_fails, tree_done, tree_fails}
-use Rattle.cedar_tree.specs.Erased.{unary_parts}
-use Rattle.cedar_tree.specs.NodeLists.{member_parts}
-use Rattle.cedar_tree.specs.declared.tree.NegOp.{NegOp}
-use Rattle.cedar_tree.specs.declared.tree.Member as Member
-use Rattle.cedar_tree.specs.declared.tree.Unary as Unary
+use Rattle.cedar_grammar.specs.Erased.{unary_parts}
+use Rattle.cedar_grammar.specs.NodeLists.{member_parts}
+use Rattle.cedar_grammar.specs.declared.tree.NegOp.{NegOp}
+use Rattle.cedar_grammar.specs.declared.tree.Member as Member
+use Rattle.cedar_grammar.specs.declared.tree.Unary as Unary
 use Rattle.cedar_reading.specs.Reading.{flat, GivesNode, PassesOn}
 use Rattle.cedar_reading.specs.ReadingParts.{Makes}
 use Rattle.cedar_reading.specs.ReadingSigns.{signs_rule, GivesSigns}

@@ -10,11 +10,11 @@ use Rattle.cedar_reading.specs.Reading.{kind, flat, Fails, Stands, FollowedBy, G
 use Rattle.cedar_reading.specs.ReadingParts.{Makes, key_rule}
 use Rattle.cedar_reading.specs.declared.lexeme.Lexeme.{Lexeme}
 use Rattle.cedar_reading.specs.declared.reading.Refusal.{Refusal}
-use Rattle.cedar_tree.specs.declared.tree.Node.{Node}
-use Rattle.cedar_tree.specs.declared.tree.Add as Add
-use Rattle.cedar_tree.specs.declared.tree.Primary as Primary
-use Rattle.cedar_tree.specs.declared.tree.Relation as Relation
-use Rattle.cedar_tree.specs.Erased.{add_parts, primary_parts}
+use Rattle.cedar_grammar.specs.declared.tree.Node.{Node}
+use Rattle.cedar_grammar.specs.declared.tree.Add as Add
+use Rattle.cedar_grammar.specs.declared.tree.Primary as Primary
+use Rattle.cedar_grammar.specs.declared.tree.Relation as Relation
+use Rattle.cedar_grammar.specs.Erased.{add_parts, primary_parts}
 use Rattle.cedar_cst.specs.ReadingItems.{Boxed}
 use Rattle.cedar_cst.specs.ReadingExprs.{IsWordOf}
 

@@ -13,11 +13,11 @@ use Rattle.cedar_grammar.specs.Numbers.{is_too_large}
 use Rattle.cedar_grammar.specs.Texts.{greatest_depth, Accepted}
 use Rattle.cedar_grammar.specs.Placed.{Placed, placed}
 use Rattle.cedar_grammar.specs.PlainTrees.{plain_trees}
-use Rattle.cedar_tree.specs.declared.tree.Node.{Node}
-use Rattle.cedar_tree.specs.declared.tree.Policy.{Policy}
-use Rattle.cedar_tree.specs.declared.tree.Policies.{Policies}
-use Rattle.cedar_tree.specs.Erased.{variant, policy_trees}
-use Rattle.cedar_tree.specs.NodeTrees.{spanned, IsTreeOf}
+use Rattle.cedar_grammar.specs.declared.tree.Node.{Node}
+use Rattle.cedar_grammar.specs.declared.tree.Policy.{Policy}
+use Rattle.cedar_grammar.specs.declared.tree.Policies.{Policies}
+use Rattle.cedar_grammar.specs.Erased.{variant, policy_trees}
+use Rattle.cedar_grammar.specs.NodeTrees.{spanned, IsTreeOf}
 use Rattle.cedar_reading.specs.Pieces.{IsPiece, IsFirstPiece, HasNoPiece}
 
 -- a place in a text: so many of its bytes are read

@@ -13,27 +13,27 @@ use Rattle.cedar_grammar.specs.Reader.Rules as R
 use Rattle.cedar_grammar.specs.Reader.Lines.{◌▸◌, ◌∥◌, one_of, maybe, init, expr_to}
 use Rattle.cedar_reading.specs.declared.lexeme.Lexeme.{Lexeme}
 use Rattle.cedar_reading.specs.declared.reading.Refusal.{Refusal}
-use Rattle.cedar_tree.specs.declared.tree.Node.{Node}
-use Rattle.cedar_tree.specs.declared.tree.Name.{Name}
-use Rattle.cedar_tree.specs.declared.tree.RelOp.{RelOp}
-use Rattle.cedar_tree.specs.declared.tree.AddOp.{AddOp}
-use Rattle.cedar_tree.specs.declared.tree.MultOp.{MultOp}
-use Rattle.cedar_tree.specs.declared.tree.NegOp.{NegOp}
-use Rattle.cedar_tree.specs.declared.tree.Expr as Expr
-use Rattle.cedar_tree.specs.declared.tree.Or as Or
-use Rattle.cedar_tree.specs.declared.tree.And as And
-use Rattle.cedar_tree.specs.declared.tree.Relation as Relation
-use Rattle.cedar_tree.specs.declared.tree.Add as Add
-use Rattle.cedar_tree.specs.declared.tree.Mult as Mult
-use Rattle.cedar_tree.specs.declared.tree.Unary as Unary
-use Rattle.cedar_tree.specs.declared.tree.Member as Member
-use Rattle.cedar_tree.specs.declared.tree.MemAccess as MemAccess
-use Rattle.cedar_tree.specs.declared.tree.Primary as Primary
-use Rattle.cedar_tree.specs.declared.tree.RecInit as RecInit
-use Rattle.cedar_tree.specs.Erased.{Erased, node, variant, name_tree, relop_text, addop_text, sign_leaves, expr_parts, or_parts, relation_parts, add_parts, mult_parts, unary_parts, access_parts, primary_parts}
+use Rattle.cedar_grammar.specs.declared.tree.Node.{Node}
+use Rattle.cedar_grammar.specs.declared.tree.Name.{Name}
+use Rattle.cedar_grammar.specs.declared.tree.RelOp.{RelOp}
+use Rattle.cedar_grammar.specs.declared.tree.AddOp.{AddOp}
+use Rattle.cedar_grammar.specs.declared.tree.MultOp.{MultOp}
+use Rattle.cedar_grammar.specs.declared.tree.NegOp.{NegOp}
+use Rattle.cedar_grammar.specs.declared.tree.Expr as Expr
+use Rattle.cedar_grammar.specs.declared.tree.Or as Or
+use Rattle.cedar_grammar.specs.declared.tree.And as And
+use Rattle.cedar_grammar.specs.declared.tree.Relation as Relation
+use Rattle.cedar_grammar.specs.declared.tree.Add as Add
+use Rattle.cedar_grammar.specs.declared.tree.Mult as Mult
+use Rattle.cedar_grammar.specs.declared.tree.Unary as Unary
+use Rattle.cedar_grammar.specs.declared.tree.Member as Member
+use Rattle.cedar_grammar.specs.declared.tree.MemAccess as MemAccess
+use Rattle.cedar_grammar.specs.declared.tree.Primary as Primary
+use Rattle.cedar_grammar.specs.declared.tree.RecInit as RecInit
+use Rattle.cedar_grammar.specs.Erased.{Erased, node, variant, name_tree, relop_text, addop_text, sign_leaves, expr_parts, or_parts, relation_parts, add_parts, mult_parts, unary_parts, access_parts, primary_parts}
 use Rattle.cedar_reading.specs.Reading.{kind, Fails, Stands, IsMade, IsNamePrimaryOf, span_to, last_end}
 use Rattle.cedar_reading.specs.ReadingSigns.{signs_start}
-use Rattle.cedar_tree.specs.NodeLists.{access_items, and_parts, init_parts, item_trees, member_parts, operand_trees}
+use Rattle.cedar_grammar.specs.NodeLists.{access_items, and_parts, init_parts, item_trees, member_parts, operand_trees}
 
 -- Readers, given how many brackets and ifs may still be nested.
 abbrev pub has_room : ℕ → Bool

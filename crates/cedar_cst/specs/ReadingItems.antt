@@ -8,14 +8,14 @@ use Rattle.cedar_grammar.specs.Trees.{Label, Forest, none, leaf, join}
 use Rattle.cedar_grammar.specs.Reader.Reading.{Answer, done}
 use Rattle.cedar_reading.specs.declared.lexeme.Lexeme.{Lexeme}
 use Rattle.cedar_reading.specs.declared.reading.Refusal.{Refusal}
-use Rattle.cedar_tree.specs.declared.tree.Node.{Node}
-use Rattle.cedar_tree.specs.declared.tree.Expr as Expr
-use Rattle.cedar_tree.specs.declared.tree.Primary as Primary
-use Rattle.cedar_tree.specs.NodeLists.{item_trees}
-use Rattle.cedar_tree.specs.Erased.{Erased, variant, expr_parts, primary_parts, variable_parts}
+use Rattle.cedar_grammar.specs.declared.tree.Node.{Node}
+use Rattle.cedar_grammar.specs.declared.tree.Expr as Expr
+use Rattle.cedar_grammar.specs.declared.tree.Primary as Primary
+use Rattle.cedar_grammar.specs.NodeLists.{item_trees}
+use Rattle.cedar_grammar.specs.Erased.{Erased, variant, expr_parts, primary_parts, variable_parts}
 use Rattle.cedar_reading.specs.Lexemes.{lexeme_nodes}
 use Rattle.cedar_reading.specs.Reading.{AreRight, Fails, Stands, IsMade}
-use Rattle.cedar_tree.specs.declared.tree.VariableDef.{VariableDef}
+use Rattle.cedar_grammar.specs.declared.tree.VariableDef.{VariableDef}
 use Rattle.cedar_tokens.specs.declared.token.Span.{Span}
 
 -- a node in a box, as nested parsing passes it up

@@ -1,7 +1,7 @@
 //! Trees of policies, and the parser.
 ghost use Rattle.std.specs.Prelude.{◌≡◌, IfOk, IfErr};
-ghost use Rattle.cedar_tree.specs.NodeTrees.{IsTreeOf};
-ghost use Rattle.cedar_tree.specs.Refusals.{OutOfMemoryOr, Refuses};
+ghost use Rattle.cedar_grammar.specs.NodeTrees.{IsTreeOf};
+ghost use Rattle.cedar_grammar.specs.Refusals.{OutOfMemoryOr, Refuses};
 
 mod policies;
 mod reader;
@@ -10,8 +10,8 @@ mod scopes;
 pub use crate::cst::reader::{Piece, PolicyReader};
 pub use crate::laws;
 use crate::laws::tree_has_the_policies;
-pub use cedar_tree::error::FormatError;
-pub use cedar_tree::tree::{
+pub use cedar_grammar::error::FormatError;
+pub use cedar_grammar::tree::{
     Add, AddOp, And, Annotation, Cond, Expr, Ident, Literal, MemAccess, Member, Mult, MultOp, Name,
     NegOp, Node, Or, Policies, Policy, Primary, RecInit, Ref, RelOp, Relation, Slot, Str, Unary,
     VariableDef, same_tree,

@@ -7,19 +7,23 @@ ghost use Rattle.cedar_grammar.specs.Trees.{Label};
 ghost use Rattle.cedar_tokens.specs.declared.kind.Kind.TheVariants as K;
 ghost use Rattle.cedar_grammar.specs.Reader.Rules.{inner, leaf_of, items, reference};
 ghost use Rattle.cedar_grammar.specs.Reader.Lines.{◌▸◌, one_of, maybe, path, call_parts, call, init, item, member_rule, unary_rule, mult_rule, add_rule, relation_rule, and_rule, or_rule, expr_rule};
-ghost use Rattle.cedar_tree.specs.Erased.{expr_parts, or_parts, relation_parts, add_parts, mult_parts, unary_parts, access_parts, primary_parts};
+ghost use Rattle.cedar_grammar.specs.Erased.{expr_parts, or_parts, relation_parts, add_parts, mult_parts, unary_parts, access_parts, primary_parts};
 ghost use Rattle.cedar_reading.specs.ReadingParts.{literal_rule};
 ghost use Rattle.cedar_cst.specs.Boxed.{unboxed};
 ghost use Rattle.cedar_reading.specs.Reading.{flat, GivesNode, GivesAfter, relop_kind};
 ghost use Rattle.cedar_cst.specs.ReadingItems.{GivesItems};
 ghost use Rattle.cedar_cst.specs.ReadingExprs.{at_depth, if_rule, bracket_rule, GivesSigned, GivesTypeTest, GivesItem};
-ghost use Rattle.cedar_tree.specs.NodeLists.{and_parts, init_parts, member_parts};
+ghost use Rattle.cedar_grammar.specs.NodeLists.{and_parts, init_parts, member_parts};
 
 use crate::nodes::{
     Item, add_node, and_node, beside, call_node, called, compared_node, drop_apart, has_node,
     if_node, init_node, is_node, keep_boxed, keep_signed, like_node, list_node, lone_item,
     lone_relation, member_node, mult_node, or_expr, or_node, parens_node, record_key, record_node,
     type_and_operand, unary_node, uncalled,
+};
+use cedar_grammar::tree::{
+    Add, And, Expr, MemAccess, Member, Mult, MultOp, Name, Node, Or, Primary, RecInit, RelOp,
+    Relation, Unary,
 };
 use cedar_reading::accesses::{begins_access, begins_call, parse_access};
 use cedar_reading::lexeme::Lexeme;
@@ -34,10 +38,6 @@ use cedar_reading::reading::{
 };
 use cedar_reading::signs::{begins_comparison, parse_comparison_sign, past_sum_sign, read_signs};
 use cedar_tokens::kind::Kind;
-use cedar_tree::tree::{
-    Add, And, Expr, MemAccess, Member, Mult, MultOp, Name, Node, Or, Primary, RecInit, RelOp,
-    Relation, Unary,
-};
 use std::alloc::Global;
 
 /// An expression.

@@ -1,7 +1,7 @@
 //! The laws of trees, of refusals and of the readers of policies.
 ghost use Rattle.cedar_cst.specs.PolicyReaders.{AnsweredComeFirst, TreeHasThePolicies};
 
-pub use cedar_tree::laws::{
+pub use cedar_grammar::tree_laws::{
     accepted_is_not_refused, nodes_have_the_plain_texts, refusal_is_unique, same_tree_is_by_fields,
     text_is_judged, tree_is_of_accepted, tree_of_nodes_is_unique,
 };

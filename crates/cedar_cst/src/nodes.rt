@@ -11,6 +11,10 @@ ghost use Rattle.cedar_cst.specs.Boxed.{unboxed, signed, IsNotLonger, MakesClose
 ghost use Rattle.cedar_cst.specs.ReadingItems.{IsListOf};
 ghost use Rattle.cedar_cst.specs.ReadingExprs.{end_of_last, IsOrOf, IsAndOf, IsAddOf, IsMultOf, IsMemberOf, IsUnaryOf, IsLoneRelationOf, IsComparedOf, IsTypeTestOf, IsCallOf, IsParensOf, IsRecordOf, IsInitOf, IsIfOf, IsBeside, IsTyped, IsUncalled, IsCalled, type_test_end};
 
+use cedar_grammar::tree::{
+    Add, AddOp, And, Expr, MemAccess, Member, Mult, MultOp, Name, NegOp, Node, Or, Primary,
+    RecInit, RelOp, Relation, Unary,
+};
 use cedar_reading::accesses::{accesses_end, parse_has_field, parse_pattern};
 use cedar_reading::lexeme::Lexeme;
 use cedar_reading::names::{name_primary, parse_key};
@@ -18,10 +22,6 @@ use cedar_reading::reading::{Parsed, Refusal, followed_by};
 use cedar_reading::signs::signed_start;
 use cedar_tokens::kind::Kind;
 use cedar_tokens::token::Span;
-use cedar_tree::tree::{
-    Add, AddOp, And, Expr, MemAccess, Member, Mult, MultOp, Name, NegOp, Node, Or, Primary,
-    RecInit, RelOp, Relation, Unary,
-};
 use std::alloc::Global;
 
 /// A primary and its accesses.

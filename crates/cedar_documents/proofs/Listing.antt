@@ -3,12 +3,12 @@ use Rattle.std.proofs.Common.{◌≡◌, ◌≤◌, length, drop, ℕ, Bool, tru
 use Rattle.std.proofs.lemmas.List.{drop_all}
 use Rattle.cedar_grammar.specs.Trees.{Label, none, leaf, branch, join}
 use Rattle.cedar_tokens.specs.declared.token.Span.{Span}
-use Rattle.cedar_tree.specs.Erased.{Erased, cond_trees, ident_tree, node, scope_variables, sign_leaves, times, variable_items, variant}
-use Rattle.cedar_tree.specs.declared.tree.Policy.{Policy}
-use Rattle.cedar_tree.specs.NodeLists.{item_trees, more_trees}
-use Rattle.cedar_tree.specs.declared.tree.Node.{Node}
-use Rattle.cedar_tree.specs.declared.tree.NegOp.{NegOp}
-use Rattle.cedar_tree.specs.declared.tree.NegOp.TheVariants.{Bang, Dash}
+use Rattle.cedar_grammar.specs.Erased.{Erased, cond_trees, ident_tree, node, scope_variables, sign_leaves, times, variable_items, variant}
+use Rattle.cedar_grammar.specs.declared.tree.Policy.{Policy}
+use Rattle.cedar_grammar.specs.NodeLists.{item_trees, more_trees}
+use Rattle.cedar_grammar.specs.declared.tree.Node.{Node}
+use Rattle.cedar_grammar.specs.declared.tree.NegOp.{NegOp}
+use Rattle.cedar_grammar.specs.declared.tree.NegOp.TheVariants.{Bang, Dash}
 use Rattle.cedar_documents.specs.Items.{Item, at, signs, token, of_node, listed, sign_count, signs_before, start_of_node}
 
 pub listed-join : (f g : Erased) → listed (join f g) ≡ listed f ++ listed g

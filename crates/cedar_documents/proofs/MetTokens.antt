@@ -17,11 +17,11 @@ use Rattle.cedar_grammar.proofs.Trees.Laws.{typed_leaves_agree}
 use Rattle.cedar_grammar.proofs.Trees.Relabelling.{relabelled, relabel_yield}
 use Rattle.cedar_grammar.proofs.Texts.Grammars.{grammars_agree}
 use Rattle.cedar_layout.specs.Lookups.{Shown, shown}
-use Rattle.cedar_tree.specs.Erased.{Erased, policy_parts}
-use Rattle.cedar_tree.specs.Erased as erased
-use Rattle.cedar_tree.specs.NodeTrees.{is_node, span_of}
-use Rattle.cedar_tree.specs.declared.tree.Node.{Node}
-use Rattle.cedar_tree.specs.declared.tree.Policy.{Policy}
+use Rattle.cedar_grammar.specs.Erased.{Erased, policy_parts}
+use Rattle.cedar_grammar.specs.Erased as erased
+use Rattle.cedar_grammar.specs.NodeTrees.{is_node, span_of}
+use Rattle.cedar_grammar.specs.declared.tree.Node.{Node}
+use Rattle.cedar_grammar.specs.declared.tree.Policy.{Policy}
 use Rattle.cedar_laws.proofs.Grammatical.{value_kind}
 use Rattle.cedar_laws.proofs.Listed.{value_token}
 use Rattle.cedar_written.specs.NodeLines.{line_of}

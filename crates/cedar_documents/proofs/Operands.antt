@@ -1,16 +1,16 @@
 -- Nodes of operands, viewed as a first operand and a list of signs and operands.
 use Rattle.std.proofs.Common.{◌≡◌, sym, ap, ◌∙◌}
 use Rattle.cedar_grammar.specs.Trees.{Label}
-use Rattle.cedar_tree.specs.Erased.{node, add_parts, mult_parts, or_parts, or_rest, primary_parts, relation_parts, sign_leaves, unary_parts}
+use Rattle.cedar_grammar.specs.Erased.{node, add_parts, mult_parts, or_parts, or_rest, primary_parts, relation_parts, sign_leaves, unary_parts}
 use Rattle.cedar_grammar.specs.Trees.{none}
-use Rattle.cedar_tree.specs.NodeLists.{access_items, and_parts, member_parts}
-use Rattle.cedar_tree.specs.declared.tree.Add as Add
-use Rattle.cedar_tree.specs.declared.tree.Mult as Mult
-use Rattle.cedar_tree.specs.declared.tree.Or as Or
-use Rattle.cedar_tree.specs.declared.tree.Unary as Unary
-use Rattle.cedar_tree.specs.declared.tree.Expr.TheBlock.{shown-the_row-And-extended-2-3, items_shown-the_row-And-extended-2-3, items_shown-the_row-Or-extended-2-6, items_shown-the_row-Add-extended-4-2, items_shown-the_row-Mult-extended-4-5, items_shown-the_row-Member-access-2-4}
-use Rattle.cedar_tree.specs.declared.tree.Expr.TheViews.{out-Or, out-Add, out-Mult, out-Unary}
-use Rattle.cedar_tree.proofs.Views.{access_row, add_items, add_row, and_items, and_row, mult_items, mult_row, or_row, relation_items}
+use Rattle.cedar_grammar.specs.NodeLists.{access_items, and_parts, member_parts}
+use Rattle.cedar_grammar.specs.declared.tree.Add as Add
+use Rattle.cedar_grammar.specs.declared.tree.Mult as Mult
+use Rattle.cedar_grammar.specs.declared.tree.Or as Or
+use Rattle.cedar_grammar.specs.declared.tree.Unary as Unary
+use Rattle.cedar_grammar.specs.declared.tree.Expr.TheBlock.{shown-the_row-And-extended-2-3, items_shown-the_row-And-extended-2-3, items_shown-the_row-Or-extended-2-6, items_shown-the_row-Add-extended-4-2, items_shown-the_row-Mult-extended-4-5, items_shown-the_row-Member-access-2-4}
+use Rattle.cedar_grammar.specs.declared.tree.Expr.TheViews.{out-Or, out-Add, out-Mult, out-Unary}
+use Rattle.cedar_grammar.proofs.Views.{access_row, add_items, add_row, and_items, and_row, mult_items, mult_row, or_row, relation_items}
 
 pub mult_view : (m : Mult.Mult) → mult_parts m ≡ node Label.unary (out-Mult m).initial.span
     (unary_parts (out-Mult m).initial.inner) (mult_items (out-Mult m).extended.items)

@@ -11,7 +11,7 @@ use Rattle.cedar_grammar.specs.Trees.{Label, Forest, none, leaf, branch, yield}
 use Rattle.cedar_grammar.specs.TypedTrees.{Tree, Clause, parts, part_parts, name_one, name_more, ref_of, literal, slot, reference, named, parens, list_empty, list_of, record_empty, record_of, member_of, unsigned, signed}
 use Rattle.cedar_grammar.specs.TypedTrees as kind
 use Rattle.cedar_layout.specs.Lookups.{Shown, stands_in}
-use Rattle.cedar_tree.specs.NodeTrees.{end_of, is_node, span_of}
+use Rattle.cedar_grammar.specs.NodeTrees.{end_of, is_node, span_of}
 use Rattle.cedar_documents.specs.Found.{count_between, has_its_tokens, has_own, starts}
 use Rattle.cedar_documents.specs.Items.{signs_before, start_of_node}
 use Rattle.cedar_documents.specs.ShownNodes.{HasToken, IsSigned, HasMember, AreSigned}

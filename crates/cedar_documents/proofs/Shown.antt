@@ -9,10 +9,10 @@ use Rattle.cedar_grammar.specs.Trees.{none, leaf}
 use Rattle.cedar_layout.specs.Layout.{Doc, nil}
 use Rattle.cedar_layout.specs.Lookups.{Shown, shown}
 use Rattle.cedar_layout.proofs.Values.{dot-nil}
-use Rattle.cedar_tree.specs.Erased.{Erased, literal_text, node, variant_label}
-use Rattle.cedar_tree.specs.declared.tree.Node.{Node}
-use Rattle.cedar_tree.specs.declared.tree.Literal.{Literal}
-use Rattle.cedar_tree.specs.declared.tree.Literal.TheVariants as literal
+use Rattle.cedar_grammar.specs.Erased.{Erased, literal_text, node, variant_label}
+use Rattle.cedar_grammar.specs.declared.tree.Node.{Node}
+use Rattle.cedar_grammar.specs.declared.tree.Literal.{Literal}
+use Rattle.cedar_grammar.specs.declared.tree.Literal.TheVariants as literal
 use Rattle.cedar_written.specs.Languages.{no_more}
 use Rattle.cedar_written.specs.NodeLines.{AnyToken, line_of}
 use Rattle.cedar_writer.specs.NodeRules.{Apart}

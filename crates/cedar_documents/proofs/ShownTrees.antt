@@ -16,7 +16,7 @@ use Rattle.cedar_grammar.proofs.Rules.Maps.{each, relabel, answer_of, set_agrees
 use Rattle.cedar_grammar.proofs.WholeLaws.{set_complete}
 use Rattle.cedar_grammar.proofs.Trees.Relabelling.{relabel_yield, each_map}
 use Rattle.cedar_layout.specs.Lookups.{Shown}
-use Rattle.cedar_tree.specs.NodeTrees.{is_node, spanned, span_of, end_of}
+use Rattle.cedar_grammar.specs.NodeTrees.{is_node, spanned, span_of, end_of}
 use Rattle.cedar_tokens.specs.TokenKinds.{kind_of}
 use Rattle.cedar_tokens.specs.declared.kind.Kind.{Kind}
 use Rattle.cedar_documents.specs.Taking.{text_of, nodes_of}

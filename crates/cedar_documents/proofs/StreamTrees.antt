@@ -28,9 +28,9 @@ use Rattle.cedar_grammar.proofs.Texts.Kinds.{trailing_agrees}
 use Rattle.cedar_grammar.proofs.Texts.Listings.{listing_texts}
 use Rattle.cedar_grammar.proofs.Trees.Relabelling.{plain_each, each_map, map_map}
 use Rattle.cedar_layout.specs.Lookups.{Shown, shown}
-use Rattle.cedar_tree.specs.Erased as erased
-use Rattle.cedar_tree.specs.NodeTrees.{spanned, IsTreeOf}
-use Rattle.cedar_tree.specs.declared.tree.Policies.{Policies}
+use Rattle.cedar_grammar.specs.Erased as erased
+use Rattle.cedar_grammar.specs.NodeTrees.{spanned, IsTreeOf}
+use Rattle.cedar_grammar.specs.declared.tree.Policies.{Policies}
 use Rattle.cedar_documents.specs.Taking.{nodes_of}
 use Rattle.cedar_laws.proofs.Grammatical.{plain_of_length, map_length}
 use Rattle.cedar_documents.proofs.ShownTrees.{kind_of_shown, typed_over, place_of}

@@ -5,8 +5,8 @@ use Rattle.std.proofs.Math.Bool.{and-true}
 use Rattle.cedar_tokens.specs.declared.token.Span.{Span}
 use Rattle.cedar_grammar.specs.Trees.{Label, Forest, none, leaf, branch, yield}
 use Rattle.cedar_layout.specs.Lookups.{Shown}
-use Rattle.cedar_tree.specs.Erased.{Erased}
-use Rattle.cedar_tree.specs.NodeTrees.{end_of, is_node, span_of}
+use Rattle.cedar_grammar.specs.Erased.{Erased}
+use Rattle.cedar_grammar.specs.NodeTrees.{end_of, is_node, span_of}
 use Rattle.cedar_documents.specs.Found.{has_its_tokens, has_own}
 use Rattle.cedar_documents.specs.Items.{Item, token, at, needed, signs, listed, of_node}
 use Rattle.cedar_documents.specs.Taking.{BeginsAt, Follow, has, has_all, nodes_of, text_of}

@@ -4,7 +4,7 @@ use Rattle.std.specs.List.{filter, list_any}
 use Rattle.cedar_tokens.specs.declared.token.Span.{Span}
 use Rattle.cedar_tokens.specs.declared.token.WrappedToken.{WrappedToken}
 use Rattle.cedar_grammar.specs.Trees.{Label, none, leaf, branch}
-use Rattle.cedar_tree.specs.Erased.{Erased}
+use Rattle.cedar_grammar.specs.Erased.{Erased}
 use Rattle.cedar_documents.specs.Items.{signs_before, start_of_node}
 
 -- where the tokens are

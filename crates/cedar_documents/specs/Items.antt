@@ -2,9 +2,9 @@
 use Rattle.std.specs.Prelude.{ℕ, suc, Bool, true, false, codes, List, [], ◌∷◌, ◌++◌, map, Option, Some, None}
 use Rattle.cedar_tokens.specs.declared.token.Span.{Span}
 use Rattle.cedar_grammar.specs.Trees.{Label, none, leaf, branch}
-use Rattle.cedar_tree.specs.Erased.{Erased}
-use Rattle.cedar_tree.specs.declared.tree.NegOp.{NegOp}
-use Rattle.cedar_tree.specs.declared.tree.NegOp.TheVariants.{Bang, Dash}
+use Rattle.cedar_grammar.specs.Erased.{Erased}
+use Rattle.cedar_grammar.specs.declared.tree.NegOp.{NegOp}
+use Rattle.cedar_grammar.specs.declared.tree.NegOp.TheVariants.{Bang, Dash}
 use Rattle.cedar_documents.specs.declared.items.Item as declared
 use Rattle.cedar_documents.specs.declared.items.Item.TheVariants as variant
 

@@ -10,11 +10,11 @@ use Rattle.cedar_tokens.specs.declared.token.WrappedToken.{WrappedToken}
 use Rattle.cedar_grammar.specs.Trees.{Label, none, leaf, branch}
 use Rattle.cedar_layout.specs.Layout.{Doc}
 use Rattle.cedar_layout.specs.Lookups.{Shown, shown}
-use Rattle.cedar_tree.specs.Erased.{Erased, policy_parts, policy_trees}
-use Rattle.cedar_tree.specs.NodeTrees.{IsTreeOf}
-use Rattle.cedar_tree.specs.declared.tree.Node.{Node}
-use Rattle.cedar_tree.specs.declared.tree.Policies.{Policies}
-use Rattle.cedar_tree.specs.declared.tree.Policy.{Policy}
+use Rattle.cedar_grammar.specs.Erased.{Erased, policy_parts, policy_trees}
+use Rattle.cedar_grammar.specs.NodeTrees.{IsTreeOf}
+use Rattle.cedar_grammar.specs.declared.tree.Node.{Node}
+use Rattle.cedar_grammar.specs.declared.tree.Policies.{Policies}
+use Rattle.cedar_grammar.specs.declared.tree.Policy.{Policy}
 use Rattle.cedar_documents.specs.ShownNodes.{IsRowOf}
 
 -- these trees contain a node with this label, span and parts, as one of them or inside one

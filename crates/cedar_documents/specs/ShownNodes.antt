@@ -9,7 +9,7 @@ use Rattle.cedar_layout.specs.Layout.{Doc}
 use Rattle.cedar_layout.specs.Lookups.{Shown, shown, emptied}
 use Rattle.cedar_layout.specs.Value.{doc_of}
 use Rattle.cedar_layout.specs.declared.layout.Document.{Document}
-use Rattle.cedar_tree.specs.Erased.{Erased}
+use Rattle.cedar_grammar.specs.Erased.{Erased}
 use Rattle.cedar_written.specs.Languages.{Lang}
 use Rattle.cedar_written.specs.NodeLines.{line_of}
 use Rattle.cedar_writer.specs.NodeRules.{Apart}

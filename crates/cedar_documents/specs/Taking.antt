@@ -4,8 +4,8 @@ use Rattle.cedar_tokens.specs.Listing.{Decorated, token_value}
 use Rattle.cedar_tokens.specs.Tokens.{leading_lines, token_text, trailing_text}
 use Rattle.cedar_tokens.specs.declared.token.Span.{Span}
 use Rattle.cedar_grammar.specs.Trees.{Label, Forest}
-use Rattle.cedar_tree.specs.Erased.{Erased}
-use Rattle.cedar_tree.specs.NodeTrees.{spanned}
+use Rattle.cedar_grammar.specs.Erased.{Erased}
+use Rattle.cedar_grammar.specs.NodeTrees.{spanned}
 use Rattle.cedar_layout.specs.Lookups.{Shown}
 use Rattle.cedar_documents.specs.Found.{count_between, starts}
 use Rattle.cedar_documents.specs.Items.{Item, token, at, needed, signs}

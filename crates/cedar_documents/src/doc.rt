@@ -7,8 +7,8 @@ ghost use Rattle.cedar_grammar.specs.Trees.{Label, leaf, none};
 ghost use Rattle.cedar_layout.specs.Layout as layout;
 ghost use Rattle.cedar_layout.specs.Lookups.{AreInOrder, Shown};
 ghost use Rattle.cedar_layout.specs.Value.{doc_of};
-ghost use Rattle.cedar_tree.specs.Erased as erased;
-ghost use Rattle.cedar_tree.specs.NodeLists as lists;
+ghost use Rattle.cedar_grammar.specs.Erased as erased;
+ghost use Rattle.cedar_grammar.specs.NodeLists as lists;
 ghost use Rattle.cedar_writer.specs.NodeRules.{lang_of};
 ghost use Rattle.cedar_documents.specs.Found.{has_its_tokens, places};
 ghost use Rattle.cedar_documents.specs.Items.{items_of, listed};
@@ -29,14 +29,14 @@ use crate::policies::{list_annotation, list_cond, list_policy, list_variable};
 use crate::take::{OwnToken, has_all, take_tokens};
 use crate::words::add_op_text;
 use cedar_grammar::MAX_NESTING;
+use cedar_grammar::tree::{
+    Add, AddOp, And, Annotation, Cond, Expr, Ident, Literal, MemAccess, Member, Mult, MultOp, Name,
+    Node, Or, Policy, Primary, RecInit, Ref, Relation, Slot, Str, Unary, VariableDef,
+};
 use cedar_layout::layout::Document;
 use cedar_print::mark::{Indent, Mark};
 use cedar_reading::token::Token;
 use cedar_tokens::kind::kind_of;
-use cedar_tree::tree::{
-    Add, AddOp, And, Annotation, Cond, Expr, Ident, Literal, MemAccess, Member, Mult, MultOp, Name,
-    Node, Or, Policy, Primary, RecInit, Ref, Relation, Slot, Str, Unary, VariableDef,
-};
 use cedar_writer::node::{Line, write_node};
 use std::alloc::{AllocError, Global};
 

@@ -1,14 +1,14 @@
 //! Expressions.
 ghost use Rattle.std.specs.Prelude.{◌≡◌, ◌++◌, OnOk};
 ghost use Rattle.cedar_grammar.specs.Trees.{Label, none};
-ghost use Rattle.cedar_tree.specs.Erased.{access_parts, add_parts, expr_parts, mult_parts, node, or_parts, primary_parts, relation_parts, unary_parts};
-ghost use Rattle.cedar_tree.specs.NodeLists.{and_parts, init_parts, member_parts};
+ghost use Rattle.cedar_grammar.specs.Erased.{access_parts, add_parts, expr_parts, mult_parts, node, or_parts, primary_parts, relation_parts, unary_parts};
+ghost use Rattle.cedar_grammar.specs.NodeLists.{and_parts, init_parts, member_parts};
 ghost use Rattle.cedar_documents.specs.Items.{items_of, listed};
 
 use crate::items::{Item, list_signs, put, put_comma, sign_count};
 use crate::names::{list_ident, list_literal, list_name, list_ref, list_slot, list_str};
 use crate::words::{add_op_text, rel_op_text};
-use cedar_tree::tree::{
+use cedar_grammar::tree::{
     Add, And, Expr, MemAccess, Member, Mult, Node, Or, Primary, RecInit, Relation, Unary,
 };
 use std::alloc::AllocError;

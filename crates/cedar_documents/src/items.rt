@@ -1,10 +1,10 @@
 //! What a node says of its tokens.
 ghost use Rattle.std.specs.Prelude.{◌≡◌, ◌++◌, ◌∷◌, [], OnOk};
-ghost use Rattle.cedar_tree.specs.Erased.{sign_leaves};
+ghost use Rattle.cedar_grammar.specs.Erased.{sign_leaves};
 ghost use Rattle.cedar_documents.specs.Items.{comma, item_of, items_of, listed, sign_count};
 ghost use Rattle.cedar_grammar.specs.Trees.{none};
 
-use cedar_tree::tree::NegOp;
+use cedar_grammar::tree::NegOp;
 use std::alloc::AllocError;
 
 /// A token of a node, or what is known of where its tokens are.

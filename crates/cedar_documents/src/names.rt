@@ -1,13 +1,13 @@
 //! Words, strings, literals, slots, paths and entities.
 ghost use Rattle.std.specs.Prelude.{◌≡◌, ◌++◌, OnOk};
 ghost use Rattle.cedar_grammar.specs.Trees.{leaf, none};
-ghost use Rattle.cedar_tree.specs.Erased.{ident_tree, literal_text, name_tree, node, ref_tree, slot_text, str_tree, variant_label};
+ghost use Rattle.cedar_grammar.specs.Erased.{ident_tree, literal_text, name_tree, node, ref_tree, slot_text, str_tree, variant_label};
 ghost use Rattle.cedar_grammar.specs.Trees.{Label};
 ghost use Rattle.cedar_documents.specs.Items.{items_of, listed};
 
 use crate::items::{Item, put};
+use cedar_grammar::tree::{Ident, Literal, Name, Node, Ref, Slot, Str};
 use cedar_tokens::token::Span;
-use cedar_tree::tree::{Ident, Literal, Name, Node, Ref, Slot, Str};
 use std::alloc::AllocError;
 
 // A node of one token.

@@ -1,14 +1,14 @@
 //! Policies and their parts.
 ghost use Rattle.std.specs.Prelude.{◌≡◌, ◌++◌, OnOk};
 ghost use Rattle.cedar_grammar.specs.Trees.{Label, none};
-ghost use Rattle.cedar_tree.specs.Erased.{annotation_parts, cond_parts, node, policy_parts, value_parts, variable_parts};
+ghost use Rattle.cedar_grammar.specs.Erased.{annotation_parts, cond_parts, node, policy_parts, value_parts, variable_parts};
 ghost use Rattle.cedar_documents.specs.Items.{items_of, listed};
 
 use crate::expressions::{list_add, list_expr};
 use crate::items::{Item, put};
 use crate::names::{list_ident, list_name, list_str};
 use crate::words::rel_op_text;
-use cedar_tree::tree::{Annotation, Cond, Node, Policy, VariableDef};
+use cedar_grammar::tree::{Annotation, Cond, Node, Policy, VariableDef};
 use std::alloc::AllocError;
 
 /// Lists an annotation.

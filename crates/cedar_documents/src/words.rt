@@ -1,8 +1,8 @@
 //! The texts of operators.
 ghost use Rattle.std.specs.Prelude.{◌≡◌};
-ghost use Rattle.cedar_tree.specs.Erased.{addop_text, relop_text};
+ghost use Rattle.cedar_grammar.specs.Erased.{addop_text, relop_text};
 
-use cedar_tree::tree::{AddOp, RelOp};
+use cedar_grammar::tree::{AddOp, RelOp};
 
 // The text of `+` or `-`.
 pub(crate) fn add_op_text(op: AddOp) -> &'static str

@@ -12,11 +12,11 @@ use Rattle.cedar_layout.specs.Layout.{Doc}
 use Rattle.cedar_layout.specs.Lookups.{Shown}
 use Rattle.cedar_layout.specs.Value.{doc_of}
 use Rattle.cedar_layout.specs.declared.layout.Document.{Document}
-use Rattle.cedar_tree.specs.Erased.{policy_parts}
-use Rattle.cedar_tree.specs.NodeTrees.{IsTreeOf}
-use Rattle.cedar_tree.specs.declared.tree.Node.{Node}
-use Rattle.cedar_tree.specs.declared.tree.Policies.{Policies}
-use Rattle.cedar_tree.specs.declared.tree.Policy.{Policy}
+use Rattle.cedar_grammar.specs.Erased.{policy_parts}
+use Rattle.cedar_grammar.specs.NodeTrees.{IsTreeOf}
+use Rattle.cedar_grammar.specs.declared.tree.Node.{Node}
+use Rattle.cedar_grammar.specs.declared.tree.Policies.{Policies}
+use Rattle.cedar_grammar.specs.declared.tree.Policy.{Policy}
 use Rattle.cedar_documents.specs.OwnTokens.{IsShownAs, PoliciesMeetTheirTokens, StandTogether}
 use Rattle.cedar_documents.specs.ShownNodes.{ShowsPart}
 use Rattle.cedar_examples.specs.Documents.{ArePlainTokensOf, IsDocumentIn, IsFirstDocument}

@@ -1,6 +1,6 @@
 -- Why a linter prints nothing.
 use Rattle.std.specs.Prelude.{ℕ, List}
-use Rattle.cedar_tree.specs.Refusals.{OutOfMemoryOr}
+use Rattle.cedar_grammar.specs.Refusals.{OutOfMemoryOr}
 use Rattle.cedar_written.specs.Refusals.{Refuses}
 use Rattle.cedar_examples.specs.Comments.{HaveEqualComments}
 use Rattle.cedar_examples.specs.declared.linter.LintError.{LintError}

@@ -1,6 +1,6 @@
 //! The document of a node, from calls on a text.
 ghost use Rattle.std.specs.Prelude.{IfErr, IfOk};
-ghost use Rattle.cedar_tree.specs.Refusals.{OutOfMemoryOr, Refuses};
+ghost use Rattle.cedar_grammar.specs.Refusals.{OutOfMemoryOr, Refuses};
 ghost use Rattle.cedar_examples.specs.Documents.{IsFirstDocument};
 
 use cedar_policy_formatter::cst::parse_policies;

@@ -1,6 +1,6 @@
 //! Formatting on save.
 ghost use Rattle.std.specs.Prelude.{◌≡◌, IfErr, OnErr, OnOk, string_bytes};
-ghost use Rattle.cedar_tree.specs.Refusals.{OutOfMemoryOr};
+ghost use Rattle.cedar_grammar.specs.Refusals.{OutOfMemoryOr};
 ghost use Rattle.cedar_written.specs.Output.{IsOutputOf};
 ghost use Rattle.cedar_written.specs.Refusals.{Refuses};
 ghost use Rattle.cedar_written.specs.Texts.{Accepted};

@@ -2,7 +2,7 @@
 ghost use Rattle.std.specs.Prelude.{◌≡◌, ◌↔◌, ◌++◌, IfErr, IfOk, IsTrue, MatchOption, OnOk, map, string_bytes};
 ghost use Rattle.cedar_tokens.specs.Split.{Splits};
 ghost use Rattle.cedar_tokens.specs.Tokens.{comments_left};
-ghost use Rattle.cedar_tree.specs.declared.error.FormatError.TheVariants.{OutOfMemory};
+ghost use Rattle.cedar_grammar.specs.declared.error.FormatError.TheVariants.{OutOfMemory};
 ghost use Rattle.cedar_examples.specs.Comments.{AreCommentsOf, HaveEqualComments};
 ghost use Rattle.cedar_examples.specs.Keys.{IsKeyOf};
 ghost use Rattle.cedar_examples.specs.Lints.{FailsLint};

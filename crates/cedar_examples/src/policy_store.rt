@@ -1,6 +1,6 @@
 //! A store that keys policies by their canonical text.
 ghost use Rattle.std.specs.Prelude.{◌≡◌, ◌↔◌, IfOk, IsTrue, MatchResult, OnErr, OnOk, [], string_bytes};
-ghost use Rattle.cedar_tree.specs.Refusals.{OutOfMemoryOr};
+ghost use Rattle.cedar_grammar.specs.Refusals.{OutOfMemoryOr};
 ghost use Rattle.cedar_written.specs.Refusals.{Refuses};
 ghost use Rattle.cedar_written.specs.Texts.{Accepted};
 ghost use Rattle.cedar_examples.specs.Keys.{Gains, HasKeyOf, IsKeyOf, KeysTellLists};

@@ -1,6 +1,6 @@
 //! A fingerprint of policies, for reviews.
 ghost use Rattle.std.specs.Prelude.{IfOk, MatchResult};
-ghost use Rattle.cedar_tree.specs.Refusals.{OutOfMemoryOr};
+ghost use Rattle.cedar_grammar.specs.Refusals.{OutOfMemoryOr};
 ghost use Rattle.cedar_written.specs.Refusals.{Refuses};
 ghost use Rattle.cedar_written.specs.Texts.{Accepted};
 ghost use Rattle.cedar_examples.specs.Fingerprints.{FingerprintsGoByLists, IsFingerprintOf};

@@ -14,8 +14,8 @@ use Rattle.cedar_tokens.specs.declared.token.Span.{Span}
 use Rattle.cedar_tokens.specs.declared.kind.Kind.{Kind}
 use Rattle.cedar_grammar.specs.Texts.{only_tokens}
 use Rattle.cedar_reading.specs.Tokens.{HasTokens}
-use Rattle.cedar_tree.specs.declared.error.FormatError.{FormatError}
-use Rattle.cedar_tree.specs.declared.error.FormatError.TheVariants.{UnknownCharacter, UnfinishedString, NumberTooLarge, Grammar, TooDeep, NoDocument, Unsound, OutOfMemory}
+use Rattle.cedar_grammar.specs.declared.error.FormatError.{FormatError}
+use Rattle.cedar_grammar.specs.declared.error.FormatError.TheVariants.{UnknownCharacter, UnfinishedString, NumberTooLarge, Grammar, TooDeep, NoDocument, Unsound, OutOfMemory}
 use Rattle.cedar_faults.specs.Expectations.{AreAllAfter, IsList}
 use Rattle.cedar_faults.specs.Inside.TokenBeginnings.{HasTree, KindsFollow}
 use Rattle.cedar_faults.proofs.Probed.{of_units}

@@ -11,7 +11,7 @@ use Rattle.cedar_tokens.specs.UnitSteps.{unit_text}
 use Rattle.cedar_tokens.specs.declared.units.Unit.{Unit}
 use Rattle.cedar_tokens.proofs.FirstUnit.{unit_nonempty}
 use Rattle.cedar_tokens.proofs.UnitsSoFar.{texts, texts_more, EndsAt, ends_at, boundary_at, concat_length, scans_concat, whole, stuck}
-use Rattle.cedar_tree.specs.declared.error.FormatError.TheVariants.{Grammar, NumberTooLarge, TooDeep}
+use Rattle.cedar_grammar.specs.declared.error.FormatError.TheVariants.{Grammar, NumberTooLarge, TooDeep}
 use Rattle.cedar_grammar.specs.Texts.{only_tokens, LeaveAfter}
 use Rattle.cedar_faults.specs.FirstFaults.{IsFirstOf, IsNext, Reaches}
 use Rattle.cedar_faults.specs.Marks.{EndsLastToken}

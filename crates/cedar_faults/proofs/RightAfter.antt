@@ -14,13 +14,13 @@ use Rattle.cedar_grammar.proofs.Texts.Accepted.{is_accepted}
 use Rattle.cedar_grammar.proofs.Texts.Placed.{tree_by_kinds}
 use Rattle.cedar_grammar.proofs.Trees.Relabelling.{relabelled}
 use Rattle.cedar_grammar.proofs.Rules.Maps.{relabel}
-use Rattle.cedar_tree.specs.declared.error.FormatError.{FormatError}
-use Rattle.cedar_tree.specs.declared.error.FormatError.TheVariants.{UnknownCharacter, UnfinishedString, NumberTooLarge, Grammar, TooDeep, NoDocument, Unsound, OutOfMemory}
-use Rattle.cedar_tree.specs.declared.tree.Node.{Node}
-use Rattle.cedar_tree.specs.declared.tree.Policy.{Policy}
-use Rattle.cedar_tree.specs.Laws.{AcceptedIsNotRefused, RefusalIsUnique}
-use Rattle.cedar_tree.specs.Refusals.{Refuses, RefusesTokens, OutOfMemoryOr}
-use Rattle.cedar_tree.proofs.NodeLaws.{placed_texts}
+use Rattle.cedar_grammar.specs.declared.error.FormatError.{FormatError}
+use Rattle.cedar_grammar.specs.declared.error.FormatError.TheVariants.{UnknownCharacter, UnfinishedString, NumberTooLarge, Grammar, TooDeep, NoDocument, Unsound, OutOfMemory}
+use Rattle.cedar_grammar.specs.declared.tree.Node.{Node}
+use Rattle.cedar_grammar.specs.declared.tree.Policy.{Policy}
+use Rattle.cedar_grammar.specs.TreeLaws.{AcceptedIsNotRefused, RefusalIsUnique}
+use Rattle.cedar_grammar.specs.Refusals.{Refuses, RefusesTokens, OutOfMemoryOr}
+use Rattle.cedar_grammar.proofs.NodeLaws.{placed_texts}
 use Rattle.cedar_reading.specs.Tokens.{HasTokens}
 use Rattle.cedar_cst.specs.PolicyReaders.{Position, EndsPiece, HasPolicies, HasRead}
 use Rattle.cedar_cst.proofs.Readers.{ends_inside}

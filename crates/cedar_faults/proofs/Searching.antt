@@ -6,7 +6,7 @@ use Rattle.std.proofs.Common.{refl, sym, ap, arith, subst, inl, inr, append-nil}
 use Rattle.std.proofs.lemmas.List.{drop-drop, length-drop}
 use Rattle.std.proofs.lemmas.List.Sums.{sum_by-append, sum_by-cons}
 use Rattle.std.proofs.lemmas.Str.{IsUtf8-drop, IsCharBoundary-from_drop}
-use Rattle.cedar_tree.specs.declared.error.FormatError.{FormatError}
+use Rattle.cedar_grammar.specs.declared.error.FormatError.{FormatError}
 use Rattle.cedar_reading.specs.Pieces.{is_semicolon}
 use Rattle.cedar_reading.proofs.Accepted.{accepted_empty}
 use Rattle.cedar_faults.specs.Faults.{AreFaults, AreFaultsFrom, IsFault, SearchFinds}

@@ -7,8 +7,8 @@ use Rattle.cedar_tokens.specs.declared.lexer.LexFaultKind.TheVariants as Lexical
 use Rattle.cedar_grammar.specs.Beginnings.{Begins}
 use Rattle.cedar_grammar.specs.Numbers.{is_too_large}
 use Rattle.cedar_grammar.specs.Texts.{greatest_depth, only_tokens, LeaveAfter}
-use Rattle.cedar_tree.specs.declared.error.FormatError.{FormatError}
-use Rattle.cedar_tree.specs.declared.error.FormatError.TheVariants.{UnknownCharacter, UnfinishedString, NumberTooLarge, Grammar, TooDeep}
+use Rattle.cedar_grammar.specs.declared.error.FormatError.{FormatError}
+use Rattle.cedar_grammar.specs.declared.error.FormatError.TheVariants.{UnknownCharacter, UnfinishedString, NumberTooLarge, Grammar, TooDeep}
 
 -- whole units come before this byte, and some accepted list begins with their tokens
 pub record Reaches (text : List ℕ) (at : ℕ) : Type 0 where

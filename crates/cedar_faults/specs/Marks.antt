@@ -6,8 +6,8 @@ use Rattle.cedar_tokens.specs.Split.{SplitsInto}
 use Rattle.cedar_tokens.specs.Bytes.{line_feed, carriage_return}
 use Rattle.cedar_tokens.specs.declared.token.Span.{Span}
 use Rattle.cedar_grammar.specs.Texts.{only_tokens}
-use Rattle.cedar_tree.specs.declared.error.FormatError.{FormatError}
-use Rattle.cedar_tree.specs.declared.error.FormatError.TheVariants.{UnknownCharacter, UnfinishedString, NumberTooLarge, Grammar, TooDeep}
+use Rattle.cedar_grammar.specs.declared.error.FormatError.{FormatError}
+use Rattle.cedar_grammar.specs.declared.error.FormatError.TheVariants.{UnknownCharacter, UnfinishedString, NumberTooLarge, Grammar, TooDeep}
 
 -- the character that the byte `at` belongs to ends before the byte `to`
 pub record EndsCharacter (text : List ℕ) (at to : ℕ) : Type 0 where

@@ -1,7 +1,7 @@
 -- What is said about a refusal.
 use Rattle.std.specs.Prelude.{◌≡◌, ℕ, List, Option, MatchOption, codes}
-use Rattle.cedar_tree.specs.declared.error.FormatError.{FormatError}
-use Rattle.cedar_tree.specs.declared.error.FormatError.TheVariants.{UnknownCharacter, UnfinishedString, NumberTooLarge, Grammar, TooDeep, NoDocument, Unsound, OutOfMemory}
+use Rattle.cedar_grammar.specs.declared.error.FormatError.{FormatError}
+use Rattle.cedar_grammar.specs.declared.error.FormatError.TheVariants.{UnknownCharacter, UnfinishedString, NumberTooLarge, Grammar, TooDeep, NoDocument, Unsound, OutOfMemory}
 use Rattle.cedar_faults.specs.declared.expectation.Expected.{Expected}
 use Rattle.cedar_faults.specs.Messages.{expected_text}
 use Rattle.cedar_faults.specs.Expectations.{IsExpected, NeverLeaves}

@@ -2,8 +2,8 @@
 use Rattle.std.specs.Prelude.{ℕ, true, if◌then◌else◌, nat_lt, List, [], ◌∷◌, ◌++◌, Option, Some, None, chars, codes}
 use Rattle.std.specs.Borrow.{Bor}
 use Rattle.std.specs.Fmt.{digits}
-use Rattle.cedar_tree.specs.declared.error.FormatError.{FormatError}
-use Rattle.cedar_tree.specs.declared.error.FormatError.TheVariants.{UnknownCharacter, UnfinishedString, NumberTooLarge, TooDeep}
+use Rattle.cedar_grammar.specs.declared.error.FormatError.{FormatError}
+use Rattle.cedar_grammar.specs.declared.error.FormatError.TheVariants.{UnknownCharacter, UnfinishedString, NumberTooLarge, TooDeep}
 use Rattle.cedar_faults.specs.declared.expectation.Expected.{Expected}
 use Rattle.cedar_faults.specs.Messages.{expected_text}
 use Rattle.cedar_faults.specs.Sentences.{sentence}

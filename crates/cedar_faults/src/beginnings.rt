@@ -2,16 +2,16 @@
 ghost use Rattle.std.specs.Prelude.{IfOk, MatchOption};
 ghost use Rattle.cedar_grammar.specs.Texts.{Accepted};
 ghost use Rattle.cedar_reading.specs.Tokens.{HasTokens};
-ghost use Rattle.cedar_tree.specs.Refusals.{Refuses};
+ghost use Rattle.cedar_grammar.specs.Refusals.{Refuses};
 ghost use Rattle.cedar_faults.specs.Inside.Beginnings.{Is, IsTokenFault, RefusesInside};
 ghost use Rattle.cedar_faults.specs.Inside.TokenBeginnings.{TokensBegin};
 
 use cedar_cst::cst::parse_policies;
+use cedar_grammar::error::FormatError;
+use cedar_grammar::tree_laws::tree_is_of_accepted;
 use cedar_reading::lexeme::{Lexeme, is_too_large};
 use cedar_reading::pieces::read_piece;
 use cedar_tokens::units::Units;
-use cedar_tree::error::FormatError;
-use cedar_tree::laws::tree_is_of_accepted;
 use std::alloc::{AllocError, Global};
 
 /// What a text begins with.

@@ -8,8 +8,8 @@ use crate::expectation::Expected;
 use crate::kinds::names_of;
 use crate::probe::{place_of, what_follows};
 use cedar_cst::cst::PolicyReader;
+use cedar_grammar::tree_laws::{accepted_is_not_refused, refusal_is_unique};
 use cedar_tokens::units::Units;
-use cedar_tree::laws::{accepted_is_not_refused, refusal_is_unique};
 use std::alloc::{AllocError, Global};
 
 /// What could come where `text` leaves the grammar, that is, where `parse_policies` refuses it as `Grammar` or `TooDeep`.

@@ -3,7 +3,7 @@ ghost use Rattle.std.specs.Prelude.{◌≡◌, IfOk, string_bytes};
 ghost use Rattle.cedar_faults.specs.Sentences.{sentence, IsSaid};
 
 use crate::expected::expected;
-use cedar_tree::error::FormatError;
+use cedar_grammar::error::FormatError;
 use std::alloc::{AllocError, Global};
 
 /// A sentence for people about the refusal `error` of `text`, without the place. If the text leaves the grammar, it says

@@ -1,8 +1,8 @@
 //! A fault of a text.
 use crate::brackets::Bracket;
 use crate::expectation::Expected;
+use cedar_grammar::error::FormatError;
 use cedar_tokens::token::Span;
-use cedar_tree::error::FormatError;
 
 /// A fault of a text: the first byte of a policy at which no accepted text continues.
 #[derive(Debug, Drop)]

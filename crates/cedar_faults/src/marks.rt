@@ -5,11 +5,11 @@ ghost use Rattle.cedar_faults.specs.FirstFaults.{IsFirstOf};
 ghost use Rattle.cedar_faults.specs.Marks.{EndsLine, Marks, MarksLast, MarksUnit};
 ghost use Rattle.cedar_faults.specs.Inside.Ends.{EndsLastOf, HasUnitAt};
 
+use cedar_grammar::error::FormatError;
 use cedar_tokens::laws::fault_prevents_split;
 use cedar_tokens::lexer::{UnitKind, first_unit};
 use cedar_tokens::token::Span;
 use cedar_tokens::units::Units;
-use cedar_tree::error::FormatError;
 
 /// The bytes of the text that its first fault is about: a character that begins no token, an unfinished string up to the end
 /// of its line, a number that is too large, or the token that can't stand there. Where the text ends too early, it is the

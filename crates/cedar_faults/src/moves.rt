@@ -7,8 +7,8 @@ ghost use Rattle.cedar_faults.specs.Inside.Searches.{HasRoom, HasRoomAt};
 use crate::brackets::Bracket;
 use crate::expectation::Expected;
 use crate::fault::Fault;
+use cedar_grammar::error::FormatError;
 use cedar_tokens::token::Span;
-use cedar_tree::error::FormatError;
 
 /// The place of an error.
 pub(crate) fn place(error: FormatError) -> usize

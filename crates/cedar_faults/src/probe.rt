@@ -8,10 +8,10 @@ ghost use Rattle.cedar_faults.specs.Inside.Pendings.{IsAfter, NeverRead};
 use crate::kinds::Kinds;
 use crate::pending::Pending;
 use crate::samples::all_kinds;
+use cedar_grammar::error::FormatError;
 use cedar_tokens::kind::kind_of;
 use cedar_tokens::lexer::UnitKind;
 use cedar_tokens::units::Units;
-use cedar_tree::error::FormatError;
 use std::alloc::{AllocError, Global};
 
 /// What can follow the tokens of a text.

@@ -13,8 +13,8 @@ use crate::marks::marked;
 use crate::moves::{moved, place};
 use crate::probe::what_follows;
 use crate::recovery::resume;
+use cedar_grammar::error::FormatError;
 use cedar_reading::lexeme::Lexeme;
-use cedar_tree::error::FormatError;
 use std::alloc::{AllocError, Global};
 use std::marker::Model;
 

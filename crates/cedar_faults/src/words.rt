@@ -5,7 +5,7 @@ ghost use Rattle.std.specs.Str.{chars};
 ghost use Rattle.cedar_faults.specs.Words.{code_point, found_point, message, said};
 
 use crate::fault::Fault;
-use cedar_tree::error::FormatError;
+use cedar_grammar::error::FormatError;
 use std::alloc::{AllocError, Global};
 use std::fmt;
 

@@ -2,8 +2,8 @@
 use Rattle.std.proofs.Common.{◌≡◌, ℕ, ◌+◌, ◌<◌, List, [], ◌∷◌, Bool, true, false, refl, arith, length, count_by, cond, not, zero-add, ap, ◌∙◌}
 use Rattle.std.proofs.lemmas.List.Sums.{sum_by-append}
 use Rattle.std.specs.Prelude.{◌↔◌}
-use Rattle.cedar_folder.specs.declared.folder.Outcome.{Outcome}
-use Rattle.cedar_folder.specs.declared.folder.Outcome.TheVariants.{Formatted, Empty, Unformatted, Replaced, NotUtf8, Refused, Unread, Unwritten, LeftBeside}
+use Rattle.cedar_program.specs.declared.folder.folder.Outcome.{Outcome}
+use Rattle.cedar_program.specs.declared.folder.folder.Outcome.TheVariants.{Formatted, Empty, Unformatted, Replaced, NotUtf8, Refused, Unread, Unwritten, LeftBeside}
 use Rattle.cedar_files.specs.Counts.{is_changed, is_failed, is_memory, is_refused, is_same, limited}
 
 -- a number that isn't 0 says that there is one

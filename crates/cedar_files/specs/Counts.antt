@@ -1,9 +1,9 @@
 -- What became of the files of a run.
 use Rattle.std.specs.Prelude.{◌≡◌, ◌⊎◌, ℕ, ◌-◌, ◌^◌, ◌<◌, List, Bool, true, false, not, count_by, length, min}
-use Rattle.cedar_tree.specs.declared.error.FormatError.{FormatError}
-use Rattle.cedar_tree.specs.declared.error.FormatError.TheVariants.{OutOfMemory}
-use Rattle.cedar_folder.specs.declared.folder.Outcome.{Outcome}
-use Rattle.cedar_folder.specs.declared.folder.Outcome.TheVariants.{Formatted, Empty, Unformatted, Replaced, NotUtf8, Refused, Unread, Unwritten, LeftBeside}
+use Rattle.cedar_grammar.specs.declared.error.FormatError.{FormatError}
+use Rattle.cedar_grammar.specs.declared.error.FormatError.TheVariants.{OutOfMemory}
+use Rattle.cedar_program.specs.declared.folder.folder.Outcome.{Outcome}
+use Rattle.cedar_program.specs.declared.folder.folder.Outcome.TheVariants.{Formatted, Empty, Unformatted, Replaced, NotUtf8, Refused, Unread, Unwritten, LeftBeside}
 use Rattle.cedar_files.specs.declared.counts.Counts.{Counts}
 
 -- the file isn't its own output

@@ -1,10 +1,10 @@
 //! What became of the files of a run, in numbers, and its status.
 ghost use Rattle.std.specs.Prelude.{◌≡◌, ◌++◌, ◌∷◌, [], ◌↔◌, IsTrue, List, length};
-ghost use Rattle.cedar_folder.specs.declared.folder.Outcome.{Outcome};
+ghost use Rattle.cedar_program.specs.declared.folder.folder.Outcome.{Outcome};
 ghost use Rattle.cedar_files.specs.Counts.{IsCountOf, IsStatus, WentWrong, limited};
 
-use cedar_folder::Outcome;
 use cedar_policy_formatter::FormatError;
+use cedar_program::folder::Outcome;
 
 /// The status after a fault other than one of the words.
 pub const FAILED: u8 = 1;

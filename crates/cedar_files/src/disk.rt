@@ -10,7 +10,7 @@ use crate::options::{Mode, Options};
 use crate::places::first_difference;
 use crate::reports::{Kind, Remark, Reports};
 use crate::room::Room;
-use cedar_folder::{Access, File, Folder, NotCreated, Outcome, Version, narrowed_mode};
+use cedar_program::folder::{Access, File, Folder, NotCreated, Outcome, Version, narrowed_mode};
 use std::alloc::Global;
 use std::fs::{Metadata, OpenOptions, Permissions};
 use std::io::{ErrorKind, Read, Write};

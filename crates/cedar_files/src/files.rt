@@ -9,7 +9,7 @@ use crate::options::{Mode, Options};
 use crate::paths::working_folder;
 use crate::reports::Reports;
 use crate::walk::{Found, find_files};
-use cedar_folder::{Task, format_files};
+use cedar_program::folder::{Task, format_files};
 use cedar_settings::GlobError;
 use std::alloc::AllocError;
 use std::io;

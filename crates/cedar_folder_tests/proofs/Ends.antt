@@ -1,8 +1,8 @@
 -- Pictures to which the calls of a folder lead.
 use Rattle.std.proofs.Common.{None, inl, refl}
 use Rattle.std.specs.Prelude.{pos}
-use Rattle.cedar_folder.specs.Folders.{Stored}
-use Rattle.cedar_folder.specs.declared.folder.Version.{Version}
+use Rattle.cedar_program.specs.Folders.{Stored}
+use Rattle.cedar_program.specs.declared.folder.folder.Version.{Version}
 use Rattle.cedar_folder_tests.specs.Laws.{CallsEnd}
 use Rattle.cedar_folder_tests.specs.Logs.{with_name, with_names}
 use Rattle.cedar_folder_tests.proofs.LogLemmas.{created, holding, not_created, not_put, not_removed, put, removed, renamed}

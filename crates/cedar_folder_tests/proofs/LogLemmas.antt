@@ -11,12 +11,12 @@ use Rattle.std.proofs.lemmas.Bool.{eqb-true}
 use Rattle.std.proofs.lemmas.Bool.Decides.{Decides-int_eq}
 use Rattle.std.proofs.lemmas.List.Sums.{fold-append}
 use Rattle.std.proofs.lemmas.Option.{same_Some}
-use Rattle.cedar_folder.specs.Folders.{Alike, Creates, Names, Picture, PutsInPlace, Removes, Since, Spares, Stored, Untold, stored}
-use Rattle.cedar_folder.specs.Rights.{Given}
-use Rattle.cedar_folder.specs.declared.folder.Access.{Access}
-use Rattle.cedar_folder.specs.declared.folder.File.{File}
-use Rattle.cedar_folder.specs.declared.folder.NotCreated.{NotCreated}
-use Rattle.cedar_folder.specs.declared.folder.Version.{Version}
+use Rattle.cedar_program.specs.Folders.{Alike, Creates, Names, Picture, PutsInPlace, Removes, Since, Spares, Stored, Untold, stored}
+use Rattle.cedar_program.specs.Rights.{Given}
+use Rattle.cedar_program.specs.declared.folder.folder.Access.{Access}
+use Rattle.cedar_program.specs.declared.folder.folder.File.{File}
+use Rattle.cedar_program.specs.declared.folder.folder.NotCreated.{NotCreated}
+use Rattle.cedar_program.specs.declared.folder.folder.Version.{Version}
 use Rattle.cedar_folder_tests.specs.Logs.{MakesFile, empty, picture_of, with_entry, with_name, with_names}
 use Rattle.cedar_folder_tests.specs.declared.memory.Entry.{Entry}
 use Rattle.cedar_folder_tests.specs.declared.memory.Entry.TheVariants.{Put, Removed, Renamed}

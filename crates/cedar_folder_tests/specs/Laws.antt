@@ -1,9 +1,9 @@
 -- That the clauses of a folder can be met together.
 use Rattle.std.specs.Prelude.{◌≡◌, ◌≢◌, ℕ, List, Some, Ok, Err}
 use Rattle.std.specs.declared.io.Error.{Error}
-use Rattle.cedar_folder.specs.Folders.{Creates, Picture, PutsInPlace, Removes, Stored}
-use Rattle.cedar_folder.specs.declared.folder.Access.{Access}
-use Rattle.cedar_folder.specs.declared.folder.NotCreated.{NotCreated}
+use Rattle.cedar_program.specs.Folders.{Creates, Picture, PutsInPlace, Removes, Stored}
+use Rattle.cedar_program.specs.declared.folder.folder.Access.{Access}
+use Rattle.cedar_program.specs.declared.folder.folder.NotCreated.{NotCreated}
 
 -- from a picture, each call leads to another one as its clause says, whether it succeeds or fails
 pub record CallsCanEnd (p : Picture) : Type 0 where

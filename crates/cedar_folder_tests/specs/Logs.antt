@@ -4,9 +4,9 @@ use Rattle.std.specs.List.{fold}
 use Rattle.std.specs.Str.{bytes_eq}
 use Rattle.std.specs.declared.alloc.Global.{Global}
 use Rattle.std.specs.declared.alloc.AllocError.{AllocError}
-use Rattle.cedar_folder.specs.Folders.{Names, Picture, Stored, stored, with_report}
-use Rattle.cedar_folder.specs.declared.folder.Access.{Access}
-use Rattle.cedar_folder.specs.declared.folder.File.{File}
+use Rattle.cedar_program.specs.Folders.{Names, Picture, Stored, stored, with_report}
+use Rattle.cedar_program.specs.declared.folder.folder.Access.{Access}
+use Rattle.cedar_program.specs.declared.folder.folder.File.{File}
 use Rattle.cedar_folder_tests.specs.declared.memory.Entry.{Entry}
 use Rattle.cedar_folder_tests.specs.declared.memory.Entry.TheVariants.{Put, Removed, Renamed, Reported}
 use Rattle.cedar_folder_tests.specs.declared.memory.Saying.{Saying}

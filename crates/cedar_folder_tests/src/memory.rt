@@ -1,10 +1,10 @@
 //! A folder in memory, all of which is known.
 ghost use Rattle.std.specs.Prelude.{◌≡◌, ◌++◌, ◌∷◌, [], Some, MatchResult, OnErr, if◌then◌else◌, is_ok};
 ghost use Rattle.std.specs.Option.{option_copied, option_map};
-ghost use Rattle.cedar_folder.specs.Folders.{stored};
+ghost use Rattle.cedar_program.specs.Folders.{stored};
 ghost use Rattle.cedar_folder_tests.specs.Logs.{MakesFile, Says, picture_of};
 
-use cedar_folder::{Access, File, Folder, NotCreated, Outcome, Version};
+use cedar_program::folder::{Access, File, Folder, NotCreated, Outcome, Version};
 use std::alloc::{AllocError, Global};
 use std::io;
 use std::io::ErrorKind;

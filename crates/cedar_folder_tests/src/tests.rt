@@ -1,7 +1,7 @@
 //! What no clause says: that calls succeed with ample memory, and what is reported where they do.
 use crate::memory::{Entry, Memory, Trouble};
-use cedar_folder::{Access, Outcome, Task, format_files};
 use cedar_policy_formatter::Config;
+use cedar_program::folder::{Access, Outcome, Task, format_files};
 use disturbed::Disturbed;
 use std::alloc::{AllocError, Global};
 use std::process::Abort;

@@ -12,3 +12,9 @@ pub mod Trees
 pub mod Typed
 pub mod Verdicts
 pub mod WholeLaws
+pub mod NodeLaws
+pub mod RefusalLaws
+pub mod Memory
+pub mod Views
+pub mod Respanned
+mod Equal

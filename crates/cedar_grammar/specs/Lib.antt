@@ -11,3 +11,8 @@ pub mod TypedTrees
 pub mod Placed
 pub mod Laws
 pub mod Reader
+pub mod Erased
+pub mod Refusals
+pub mod NodeTrees
+pub mod TreeLaws
+pub mod NodeLists

@@ -1,8 +1,11 @@
 //! The grammar of Cedar policies as a definition, and its laws.
 #![tactic(auto)]
 
+pub mod error;
 pub mod kind;
 pub mod laws;
+pub mod tree;
+pub mod tree_laws;
 
 /// How many brackets and `if`s may be nested in a condition.
 pub const MAX_NESTING: usize = 128;

@@ -15,7 +15,7 @@ use Rattle.cedar_tokens.specs.declared.kind.Kind.TheVariants as K
 use Rattle.cedar_tokens.proofs.Scanning.{listing_unique, split_unique}
 use Rattle.cedar_grammar.specs.Texts.{Accepted, only_tokens}
 use Rattle.cedar_grammar.proofs.Texts.Listings.{listing_texts}
-use Rattle.cedar_tree.specs.Laws.{AcceptedIsNotRefused}
+use Rattle.cedar_grammar.specs.TreeLaws.{AcceptedIsNotRefused}
 use Rattle.cedar_laws.specs.Output.{with_value}
 use Rattle.cedar_laws.proofs.Grammatical.{value_kind}
 use Rattle.cedar_reading.specs.Pieces.{IsPiece, IsFirstPiece, HasNoPiece}

@@ -2,7 +2,7 @@
 use Rattle.std.specs.Prelude.{◌≡◌, ◌∷◌, ◌++◌}
 use Rattle.std.proofs.Common.{refl, ap, ◌∙◌}
 use Rattle.cedar_grammar.specs.Trees.{none, leaf, branch, yield}
-use Rattle.cedar_tree.specs.Erased.{Erased, without_spans}
+use Rattle.cedar_grammar.specs.Erased.{Erased, without_spans}
 
 -- spans are no leaves
 pub leaves_without_spans : (f : Erased) → yield (without_spans f) ≡ yield f

@@ -9,3 +9,16 @@ pub mod PieceOutputs
 pub mod FirstPieces
 pub mod Piecewise
 pub mod Sinks
+pub mod Feeds
+pub mod Chains
+pub mod Progress
+pub mod Keeping
+pub mod Standing
+pub mod ListLaws
+pub mod EditLaws
+pub mod LastBytes
+pub mod OnlyMemory
+pub mod LineEnds
+pub mod Named
+pub mod Wholes
+pub mod Cutting

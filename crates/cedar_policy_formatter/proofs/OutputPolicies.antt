@@ -25,17 +25,17 @@ use Rattle.cedar_grammar.proofs.Plain.Grammar.{plain_is_in_the_grammar}
 use Rattle.cedar_grammar.proofs.Texts.Kinds.{plain_texts_agree}
 use Rattle.cedar_grammar.proofs.Trees.Relabelling.{relabelled, relabel_yield, plain_each, each_map, map_map}
 use Rattle.cedar_grammar.proofs.Texts.Listings.{listing_texts}
-use Rattle.cedar_tree.specs.Erased.{erase, Erased, without_spans}
-use Rattle.cedar_tree.specs.NodeTrees.{IsTreeOf, is_node, span_of, spanned}
-use Rattle.cedar_tree.specs.Laws.{NodesHaveThePlainTexts}
+use Rattle.cedar_grammar.specs.Erased.{erase, Erased, without_spans}
+use Rattle.cedar_grammar.specs.NodeTrees.{IsTreeOf, is_node, span_of, spanned}
+use Rattle.cedar_grammar.specs.TreeLaws.{NodesHaveThePlainTexts}
 use Rattle.cedar_laws.specs.Canonical.{OutputHasTheList, OutputIsAccepted}
 use Rattle.cedar_written.specs.Laws.{OutputsAreTheTables}
 use Rattle.cedar_laws.proofs.Grammatical.{value_kind}
 use Rattle.cedar_policy_formatter.specs.Texts.{HasNodes, KeptPoliciesHaveTheSameTokens, plain_values}
 use Rattle.cedar_policy_formatter.specs.OutputPolicies.{OutputsKeepThePolicies, OutputsKeepTheTrees}
 use Rattle.cedar_policy_formatter.proofs.SamePolicies.{value_of, spanless, same_values, same_policies}
-use Rattle.cedar_tree.proofs.NodeLaws.{placed_texts}
-use Rattle.cedar_tree.proofs.Respanned.{Alike, no_trees, a_leaf, a_node, a_variant, respanned}
+use Rattle.cedar_grammar.proofs.NodeLaws.{placed_texts}
+use Rattle.cedar_grammar.proofs.Respanned.{Alike, no_trees, a_leaf, a_node, a_variant, respanned}
 
 abbrev text_of : Placed → List ℕ
 text_of t = t.text

@@ -15,10 +15,10 @@ use Rattle.cedar_grammar.proofs.Rules.Maps.{relabel}
 use Rattle.cedar_grammar.proofs.Plain.Grammar.{plain_is_in_the_grammar}
 use Rattle.cedar_grammar.proofs.Trees.Relabelling.{relabelled, map_map}
 use Rattle.cedar_grammar.proofs.Trees.Laws.{list_has_one_tree}
-use Rattle.cedar_tree.specs.Erased.{erase, without_spans, SameTree}
-use Rattle.cedar_tree.specs.Laws.{NodesHaveThePlainTexts}
-use Rattle.cedar_tree.specs.NodeTrees.{IsTreeOf, spanned}
-use Rattle.cedar_tree.specs.declared.tree.Policies.{Policies}
+use Rattle.cedar_grammar.specs.Erased.{erase, without_spans, SameTree}
+use Rattle.cedar_grammar.specs.TreeLaws.{NodesHaveThePlainTexts}
+use Rattle.cedar_grammar.specs.NodeTrees.{IsTreeOf, spanned}
+use Rattle.cedar_grammar.specs.declared.tree.Policies.{Policies}
 use Rattle.cedar_laws.specs.Canonical.{IsOutputOf, OutputHasTheList}
 use Rattle.cedar_laws.proofs.Grammatical.{value_kind}
 use Rattle.cedar_policy_formatter.specs.Texts.{plain_values}

@@ -6,3 +6,7 @@ pub mod Streams
 pub mod Outputs
 pub mod OutputPolicies
 pub mod Inside
+pub mod Keeping
+pub mod Pieces
+pub mod RangeEdits
+pub mod RangeLaws

@@ -1,8 +1,8 @@
 -- What an output has of its text's policies.
 use Rattle.std.specs.Prelude.{ℕ, ℤ, List}
 use Rattle.std.specs.Str.{IsUtf8}
-use Rattle.cedar_tree.specs.declared.tree.Policies.{Policies}
-use Rattle.cedar_tree.specs.NodeTrees.{IsTreeOf}
+use Rattle.cedar_grammar.specs.declared.tree.Policies.{Policies}
+use Rattle.cedar_grammar.specs.NodeTrees.{IsTreeOf}
 use Rattle.cedar_written.specs.Output.{IsOutputOf}
 use Rattle.cedar_policy_formatter.specs.Texts.{IsTextOf, KeepsPolicies}
 

@@ -1,7 +1,7 @@
 -- Why the formatter refuses texts.
 use Rattle.std.specs.Prelude.{◌≡◌, ℕ, List, ◌⊎◌}
-use Rattle.cedar_tree.specs.declared.error.FormatError.{FormatError}
-use Rattle.cedar_tree.specs.declared.error.FormatError.TheVariants.{OutOfMemory}
+use Rattle.cedar_grammar.specs.declared.error.FormatError.{FormatError}
+use Rattle.cedar_grammar.specs.declared.error.FormatError.TheVariants.{OutOfMemory}
 use Rattle.cedar_written.specs.Refusals.{Refuses}
 use Rattle.cedar_written.specs.Texts.{Accepted}
 

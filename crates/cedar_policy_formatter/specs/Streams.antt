@@ -5,8 +5,8 @@ use Rattle.std.specs.Io.KnownBytes.{Appends, Keeps}
 use Rattle.cedar_streams.specs.Texts.{GivesAll, GivesText, AppendsPart}
 use Rattle.cedar_streams.specs.declared.reading.ReadFault.{ReadFault}
 use Rattle.cedar_streams.specs.declared.reading.ReadFault.TheVariants as without
-use Rattle.cedar_tree.specs.Refusals.{OutOfMemoryOr}
-use Rattle.cedar_tree.specs.declared.error.FormatError.TheVariants.{OutOfMemory}
+use Rattle.cedar_grammar.specs.Refusals.{OutOfMemoryOr}
+use Rattle.cedar_grammar.specs.declared.error.FormatError.TheVariants.{OutOfMemory}
 use Rattle.cedar_written.specs.Output.{IsOutputOf}
 use Rattle.cedar_written.specs.Refusals.{Refuses}
 use Rattle.cedar_written.specs.Texts.{Accepted}

@@ -10,11 +10,11 @@ use Rattle.cedar_grammar.specs.PlainTrees.{plain_trees}
 use Rattle.cedar_grammar.specs.Trees.{Label, Forest}
 use Rattle.cedar_tokens.specs.Listing.{IsListing, Listing, token_value}
 use Rattle.cedar_tokens.specs.PlainList.{plain_list}
-use Rattle.cedar_tree.specs.declared.error.FormatError.{FormatError}
-use Rattle.cedar_tree.specs.declared.error.FormatError.TheVariants.{Unsound, OutOfMemory}
-use Rattle.cedar_tree.specs.declared.tree.Policies.{Policies}
-use Rattle.cedar_tree.specs.Erased.{Erased, SameTree, without_spans}
-use Rattle.cedar_tree.specs.NodeTrees.{IsTreeOf, spanned}
+use Rattle.cedar_grammar.specs.declared.error.FormatError.{FormatError}
+use Rattle.cedar_grammar.specs.declared.error.FormatError.TheVariants.{Unsound, OutOfMemory}
+use Rattle.cedar_grammar.specs.declared.tree.Policies.{Policies}
+use Rattle.cedar_grammar.specs.Erased.{Erased, SameTree, without_spans}
+use Rattle.cedar_grammar.specs.NodeTrees.{IsTreeOf, spanned}
 
 -- the text is accepted, and its tree of nodes is this one except for spans
 abbrev pub IsTextOf : List ℕ → Policies → Type 0

@@ -2,8 +2,8 @@
 ghost use Rattle.std.specs.Prelude.{◌≡◌, ◌↔◌, IsTrue, ◌++◌, ℕ, List, [], ◌∷◌, length, IfOk, OnOk, MatchBool, MatchResult, string_bytes, if◌then◌else◌};
 ghost use Rattle.cedar_tokens.specs.Bytes.{line_feed};
 ghost use Rattle.cedar_tokens.specs.Tokens.{comments_left};
-ghost use Rattle.cedar_tree.specs.declared.error.FormatError.TheVariants.{OutOfMemory};
-ghost use Rattle.cedar_tree.specs.Refusals.{OutOfMemoryOr, Refuses as RefusesByTrees};
+ghost use Rattle.cedar_grammar.specs.declared.error.FormatError.TheVariants.{OutOfMemory};
+ghost use Rattle.cedar_grammar.specs.Refusals.{OutOfMemoryOr, Refuses as RefusesByTrees};
 ghost use Rattle.cedar_grammar.specs.Texts.{Accepted as AcceptedByTree};
 ghost use Rattle.cedar_reading.specs.Lexemes.{AreLexemes};
 ghost use Rattle.cedar_reading.specs.Pieces.{IsFirstPiece};

@@ -9,6 +9,7 @@ pub mod laws;
 pub mod layout;
 mod lookup;
 mod places;
+pub mod ranges;
 
 pub use cedar_cst::cst;
 pub use cedar_cst::cst::FormatError;

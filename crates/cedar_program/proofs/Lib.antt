@@ -1,3 +1,9 @@
 pub mod Numbers
 pub mod Runs
 pub mod CommandLine
+pub mod Rights
+pub mod Steps
+pub mod Replacing
+pub mod Layouts
+pub mod Handling
+pub mod Reporting

@@ -2,6 +2,7 @@
 #![tactic(auto)]
 
 mod command;
+pub mod folder;
 mod options;
 mod run;
 

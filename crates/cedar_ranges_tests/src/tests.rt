@@ -1,7 +1,7 @@
 //! What no clause says: worked edits, and that calls succeed with ample memory, for every range of some texts.
+use cedar_policy_formatter::ranges::{Edit, apply_edits, format_range, format_text};
 use cedar_policy_formatter::token::Span;
 use cedar_policy_formatter::{Config, FormatError, policies_str_to_pretty, same_layout};
-use cedar_ranges::{Edit, apply_edits, format_range, format_text};
 use std::alloc::Global;
 use std::process::Abort;
 use std::test::Fail;

@@ -6,12 +6,12 @@ use Rattle.cedar_tokens.specs.Kinds.{is, begins}
 use Rattle.cedar_grammar.specs.Trees.{Label, Forest, none, branch}
 use Rattle.cedar_grammar.specs.Reader.Reading.{Reader, done, stuck, choice, both, skip}
 use Rattle.cedar_grammar.proofs.Readers.Equations.{both_done, both_fails, both_then_fails, choice_yes, choice_no}
-use Rattle.cedar_tree.specs.Erased.{access_parts}
+use Rattle.cedar_grammar.specs.Erased.{access_parts}
 use Rattle.cedar_reading.specs.Reading.{kind, Stands}
-use Rattle.cedar_tree.specs.NodeLists.{access_items}
+use Rattle.cedar_grammar.specs.NodeLists.{access_items}
 use Rattle.cedar_reading.specs.declared.lexeme.Lexeme.{Lexeme}
-use Rattle.cedar_tree.specs.declared.tree.Node.{Node}
-use Rattle.cedar_tree.specs.declared.tree.MemAccess as MemAccess
+use Rattle.cedar_grammar.specs.declared.tree.Node.{Node}
+use Rattle.cedar_grammar.specs.declared.tree.MemAccess as MemAccess
 use Rattle.cedar_reading.proofs.LeafTexts.{from_to}
 use Rattle.cedar_reading.proofs.Rows.{row_node, row_nodes}
 

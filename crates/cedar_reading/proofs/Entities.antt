@@ -12,16 +12,16 @@ use Rattle.cedar_grammar.specs.Reader.Regroup.{gather}
 use Rattle.cedar_grammar.proofs.Readers.Equations.{Takes, both_first, tree_takes, token_takes, tree_fails, join_assoc, onto, onto_onto}
 use Rattle.cedar_grammar.proofs.Rules.Languages.{shaped_done}
 use Rattle.cedar_grammar.proofs.KindSets.{apart_at}
-use Rattle.cedar_tree.specs.Erased.{path_parts, primary_parts}
+use Rattle.cedar_grammar.specs.Erased.{path_parts, primary_parts}
 use Rattle.cedar_reading.specs.Reading.{kind, flat, Stands, ident_parts, str_parts, name_parts, first_start, GivesNode}
 use Rattle.cedar_reading.specs.ReadingParts.{ident_reader, text_reader, words_on, words_then, GoesOn, Words, WordsEnd, Gathers, GivesWords, IsEntityOf, slot_kind, IsSlotOf}
 use Rattle.cedar_reading.specs.declared.lexeme.Lexeme.{Lexeme}
-use Rattle.cedar_tree.specs.declared.tree.Node.{Node}
-use Rattle.cedar_tree.specs.declared.tree.Ident.{Ident}
-use Rattle.cedar_tree.specs.declared.tree.Name.{Name}
-use Rattle.cedar_tree.specs.declared.tree.Str.{Str}
-use Rattle.cedar_tree.specs.declared.tree.Slot.{Slot}
-use Rattle.cedar_tree.specs.declared.tree.Primary as Primary
+use Rattle.cedar_grammar.specs.declared.tree.Node.{Node}
+use Rattle.cedar_grammar.specs.declared.tree.Ident.{Ident}
+use Rattle.cedar_grammar.specs.declared.tree.Name.{Name}
+use Rattle.cedar_grammar.specs.declared.tree.Str.{Str}
+use Rattle.cedar_grammar.specs.declared.tree.Slot.{Slot}
+use Rattle.cedar_grammar.specs.declared.tree.Primary as Primary
 use Rattle.cedar_reading.proofs.Steps.{is_itself, token_not}
 use Rattle.cedar_reading.proofs.Rows.{row_token, row_node, row_nodes, row_more, row_join, row_parts, row_span, no_closing}
 use Rattle.cedar_reading.proofs.Paths.{path_grow, start_grow}

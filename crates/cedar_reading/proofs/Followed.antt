@@ -5,11 +5,11 @@ use Rattle.cedar_tokens.specs.declared.kind.Kind.{Kind}
 use Rattle.cedar_grammar.specs.Trees.{Label, Forest, none, leaf, branch}
 use Rattle.cedar_grammar.specs.Reader.Reading.{Reader, done, both, one}
 use Rattle.cedar_grammar.proofs.Readers.Equations.{both_done, both_fails, both_then_fails}
-use Rattle.cedar_tree.specs.Erased.{Erased}
+use Rattle.cedar_grammar.specs.Erased.{Erased}
 use Rattle.cedar_reading.specs.Reading.{kind, Fails, Stands, GivesNode, FollowedBy}
 use Rattle.cedar_reading.specs.declared.lexeme.Lexeme.{Lexeme}
 use Rattle.cedar_reading.specs.declared.reading.Refusal.{Refusal}
-use Rattle.cedar_tree.specs.declared.tree.Node.{Node}
+use Rattle.cedar_grammar.specs.declared.tree.Node.{Node}
 use Rattle.cedar_reading.proofs.Steps.{passes}
 
 module _ {X : Type 0} (l : Label) (parts : X → Erased) (k : Kind) (P : Reader Lexeme)

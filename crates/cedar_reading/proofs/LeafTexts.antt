@@ -12,9 +12,9 @@ use Rattle.cedar_tokens.specs.TokenKinds.{kind_of}
 use Rattle.cedar_grammar.specs.Trees.{Label, Forest, none, leaf, branch, yield}
 use Rattle.cedar_grammar.specs.TrailingCommas.{without_trailing, drop_if, closes_next}
 use Rattle.cedar_grammar.proofs.Texts.Kinds.{number_kind}
-use Rattle.cedar_tree.specs.Erased.{Erased}
+use Rattle.cedar_grammar.specs.Erased.{Erased}
 use Rattle.cedar_reading.specs.Lexemes.{lexeme_nodes}
-use Rattle.cedar_tree.specs.NodeTrees.{is_node, span_of, end_of, spanned}
+use Rattle.cedar_grammar.specs.NodeTrees.{is_node, span_of, end_of, spanned}
 use Rattle.cedar_reading.specs.Reading.{kind, IsRight, AreRight, Stands}
 use Rattle.cedar_reading.specs.declared.lexeme.Lexeme.{Lexeme}
 use Rattle.cedar_tokens.specs.Inside.FixedTexts.{is_open, fixed_text}

@@ -9,13 +9,13 @@ use Rattle.cedar_grammar.specs.Trees.{Label, Forest, none, leaf, branch}
 use Rattle.cedar_grammar.specs.Reader.Reading.{Reader, done, stuck, tree, token}
 use Rattle.cedar_grammar.proofs.Readers.Equations.{choice_yes, choice_no, tree_done, tree_fails}
 use Rattle.cedar_grammar.proofs.Booleans.{neither_first as or_left, neither_second as or_right}
-use Rattle.cedar_tree.specs.Erased.{node, primary_parts}
+use Rattle.cedar_grammar.specs.Erased.{node, primary_parts}
 use Rattle.cedar_reading.specs.Reading.{kind, flat, Stands, IsLiteralOf}
 use Rattle.cedar_reading.specs.ReadingParts.{is_literal, literal_rule, IsLiteralToken}
 use Rattle.cedar_reading.specs.declared.lexeme.Lexeme.{Lexeme}
-use Rattle.cedar_tree.specs.declared.tree.Node.{Node}
-use Rattle.cedar_tree.specs.declared.tree.Literal.{Literal}
-use Rattle.cedar_tree.specs.declared.tree.Primary as Primary
+use Rattle.cedar_grammar.specs.declared.tree.Node.{Node}
+use Rattle.cedar_grammar.specs.declared.tree.Literal.{Literal}
+use Rattle.cedar_grammar.specs.declared.tree.Primary as Primary
 use Rattle.cedar_reading.proofs.Steps.{token_at, token_not, first_begins}
 use Rattle.cedar_reading.proofs.Rows.{row_token, row_node, row_span, row_parts}
 use Rattle.cedar_reading.proofs.Operands.{row_own}

@@ -5,14 +5,14 @@ use Rattle.std.proofs.Common.{refl, sym, ap, ◌∙◌}
 use Rattle.cedar_grammar.specs.Trees.{Label, Forest, none, branch}
 use Rattle.cedar_grammar.specs.Reader.Reading.{Reader, done, stuck, tree}
 use Rattle.cedar_grammar.proofs.Readers.Equations.{tree_done, tree_fails}
-use Rattle.cedar_tree.specs.Erased.{node, or_parts, add_parts, expr_parts}
+use Rattle.cedar_grammar.specs.Erased.{node, or_parts, add_parts, expr_parts}
 use Rattle.cedar_reading.specs.Reading.{Stands, GivesNode}
 use Rattle.cedar_reading.specs.ReadingParts.{IsLoneOrOf, IsOrExprOf}
 use Rattle.cedar_reading.specs.declared.lexeme.Lexeme.{Lexeme}
-use Rattle.cedar_tree.specs.declared.tree.Node.{Node}
-use Rattle.cedar_tree.specs.declared.tree.Add as Add
-use Rattle.cedar_tree.specs.declared.tree.Or as Or
-use Rattle.cedar_tree.specs.declared.tree.Expr as Expr
+use Rattle.cedar_grammar.specs.declared.tree.Node.{Node}
+use Rattle.cedar_grammar.specs.declared.tree.Add as Add
+use Rattle.cedar_grammar.specs.declared.tree.Or as Or
+use Rattle.cedar_grammar.specs.declared.tree.Expr as Expr
 use Rattle.cedar_reading.proofs.Rows.{row_node, row_parts, row_span}
 
 -- P reads the operand

@@ -7,11 +7,11 @@ use Rattle.cedar_grammar.specs.Reader.Rules.{Rule, core, nullable, refuse}
 use Rattle.cedar_grammar.proofs.Readers.Equations.{Takes, IsRead, read_none, read_more}
 use Rattle.cedar_grammar.proofs.Rules.Meanings.{decided}
 use Rattle.cedar_grammar.proofs.Rules.Languages.{read_takes, refuse_sound}
-use Rattle.cedar_tree.specs.Erased.{Erased, node}
-use Rattle.cedar_tree.specs.NodeTrees.{is_node}
+use Rattle.cedar_grammar.specs.Erased.{Erased, node}
+use Rattle.cedar_grammar.specs.NodeTrees.{is_node}
 use Rattle.cedar_reading.specs.Reading.{kind, flat, Stands, StandsMany, node_trees}
 use Rattle.cedar_reading.specs.declared.lexeme.Lexeme.{Lexeme}
-use Rattle.cedar_tree.specs.declared.tree.Node.{Node}
+use Rattle.cedar_grammar.specs.declared.tree.Node.{Node}
 use Rattle.cedar_reading.proofs.Rows.{row_node, many_join}
 
 pub flat_takes : (R : Rule) → IsTrue (decided (core R)) → nullable (core R) ≡ false → Takes (flat R)

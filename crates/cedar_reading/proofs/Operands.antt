@@ -10,17 +10,17 @@ use Rattle.cedar_tokens.specs.Kinds.{is, is_ident, begins}
 use Rattle.cedar_grammar.specs.Trees.{Label, Forest, none, leaf, branch, join}
 use Rattle.cedar_grammar.specs.Reader.Reading.{Answer, Reader, done, stuck, both, tree, repeat, token, one}
 use Rattle.cedar_grammar.proofs.Readers.Equations.{Takes, tree_done, tree_fails, both_done, both_then_fails, both_takes, tree_takes, token_takes}
-use Rattle.cedar_tree.specs.Erased.{Erased, node, access_parts, primary_parts, add_parts}
+use Rattle.cedar_grammar.specs.Erased.{Erased, node, access_parts, primary_parts, add_parts}
 use Rattle.cedar_reading.specs.Reading.{kind, Keeps, Fails, Stands, GivesNode, IsOperandOf, last_end, IsNameOf, IsNamePrimaryOf, GivesAfter, ident_parts}
-use Rattle.cedar_tree.specs.NodeLists.{access_items}
+use Rattle.cedar_grammar.specs.NodeLists.{access_items}
 use Rattle.cedar_reading.specs.declared.lexeme.Lexeme.{Lexeme}
 use Rattle.cedar_reading.specs.declared.reading.Refusal.{Refusal}
-use Rattle.cedar_tree.specs.declared.tree.Node.{Node}
-use Rattle.cedar_tree.specs.declared.tree.Ident.{Ident}
-use Rattle.cedar_tree.specs.declared.tree.Name.{Name}
-use Rattle.cedar_tree.specs.declared.tree.Primary as Primary
-use Rattle.cedar_tree.specs.declared.tree.MemAccess as MemAccess
-use Rattle.cedar_tree.specs.declared.tree.Add as Add
+use Rattle.cedar_grammar.specs.declared.tree.Node.{Node}
+use Rattle.cedar_grammar.specs.declared.tree.Ident.{Ident}
+use Rattle.cedar_grammar.specs.declared.tree.Name.{Name}
+use Rattle.cedar_grammar.specs.declared.tree.Primary as Primary
+use Rattle.cedar_grammar.specs.declared.tree.MemAccess as MemAccess
+use Rattle.cedar_grammar.specs.declared.tree.Add as Add
 use Rattle.cedar_grammar.specs.TrailingCommas.{closes_next}
 use Rattle.cedar_reading.proofs.LeafTexts.{covers_leaf, nodes_own}
 use Rattle.cedar_reading.proofs.Rows.{row_node, row_join, row_parts, row_span, Chain, chain_first, chain_next, chain_stuck, chain_end}

@@ -11,7 +11,7 @@ use Rattle.cedar_tokens.specs.Listing.{token_value}
 use Rattle.cedar_tokens.specs.declared.token.Span.{Span}
 use Rattle.cedar_tokens.specs.declared.kind.Kind.{Kind}
 use Rattle.cedar_reading.specs.declared.lexeme.Lexeme.{Lexeme}
-use Rattle.cedar_tree.specs.declared.tree.Policies.{Policies}
+use Rattle.cedar_grammar.specs.declared.tree.Policies.{Policies}
 use Rattle.cedar_grammar.specs.Trees.{Label, Forest, none, leaf, branch, yield}
 use Rattle.cedar_grammar.specs.KindGrammar.{G}
 use Rattle.cedar_tokens.specs.TokenKinds.{kind_of}
@@ -21,8 +21,8 @@ use Rattle.cedar_grammar.specs.Texts.{greatest_depth, only_tokens}
 use Rattle.cedar_grammar.specs.TrailingCommas.{without_trailing}
 use Rattle.cedar_grammar.proofs.Texts.Placed.{tree_by_texts}
 use Rattle.cedar_grammar.proofs.Plain.ByTexts.{plain_same}
-use Rattle.cedar_tree.specs.Erased.{erase}
-use Rattle.cedar_tree.specs.NodeTrees.{is_node, end_of, span_of, spanned, IsTreeOf}
+use Rattle.cedar_grammar.specs.Erased.{erase}
+use Rattle.cedar_grammar.specs.NodeTrees.{is_node, end_of, span_of, spanned, IsTreeOf}
 use Rattle.cedar_grammar.specs.Placed.{Placed, with_places, placed, kind_of_placed}
 use Rattle.cedar_reading.specs.Lexemes.{AreLexemes, lexeme_nodes}
 use Rattle.cedar_grammar.specs.Reader.Reading.{Answer, done, stuck}

@@ -6,12 +6,12 @@ use Rattle.cedar_tokens.specs.Kinds.{is, is_ident, begins}
 use Rattle.cedar_grammar.specs.Trees.{Label, Forest, none, leaf, branch, join}
 use Rattle.cedar_grammar.specs.Reader.Reading.{Reader, done, stuck, both, tree, repeat, token, one}
 use Rattle.cedar_grammar.proofs.Readers.Equations.{Takes, both_done, both_then_fails, both_takes, tree_takes, token_takes}
-use Rattle.cedar_tree.specs.Erased.{ident_tree, path_parts}
+use Rattle.cedar_grammar.specs.Erased.{ident_tree, path_parts}
 use Rattle.cedar_reading.specs.Reading.{kind, Stands, ident_parts, first_start, name_parts, IsNameOf}
 use Rattle.cedar_reading.specs.declared.lexeme.Lexeme.{Lexeme}
-use Rattle.cedar_tree.specs.declared.tree.Node.{Node}
-use Rattle.cedar_tree.specs.declared.tree.Ident.{Ident}
-use Rattle.cedar_tree.specs.declared.tree.Name.{Name}
+use Rattle.cedar_grammar.specs.declared.tree.Node.{Node}
+use Rattle.cedar_grammar.specs.declared.tree.Ident.{Ident}
+use Rattle.cedar_grammar.specs.declared.tree.Name.{Name}
 use Rattle.cedar_reading.proofs.Steps.{token_at, first_begins, is_itself}
 use Rattle.cedar_reading.proofs.Rows.{row_node, row_more, row_join, row_parts, row_span, no_closing, Chain, chain_first, chain_next, chain_stuck}
 

@@ -12,9 +12,9 @@ use Rattle.cedar_grammar.specs.TrailingCommas.{without_trailing, drop_if, closes
 use Rattle.cedar_grammar.specs.Reader.Reading.{Reader, done, stuck, both, tree, repeat}
 use Rattle.cedar_grammar.proofs.Readers.Equations.{Takes, IsRead, read_none, read_more, read_end, read_fails, both_done, both_fails, both_then_fails, tree_done, tree_fails, join_none, join_assoc}
 use Rattle.cedar_grammar.proofs.Readers.Languages.{yield_join}
-use Rattle.cedar_tree.specs.Erased.{Erased}
+use Rattle.cedar_grammar.specs.Erased.{Erased}
 use Rattle.cedar_reading.specs.Lexemes.{lexeme_nodes}
-use Rattle.cedar_tree.specs.NodeTrees.{is_node, span_of, spanned}
+use Rattle.cedar_grammar.specs.NodeTrees.{is_node, span_of, spanned}
 use Rattle.cedar_reading.specs.Reading.{kind, AreRight, Stands, StandsMany}
 use Rattle.cedar_reading.specs.declared.lexeme.Lexeme.{Lexeme}
 use Rattle.cedar_reading.proofs.LeafTexts.{Covers, kept, from_to, nodes_fixed, nodes_node, covers_leaf, covers_more, covers_node, covers_nodes, covers_both}

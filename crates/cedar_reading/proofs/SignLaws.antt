@@ -10,11 +10,11 @@ use Rattle.cedar_tokens.specs.Kinds.{is, begins}
 use Rattle.cedar_grammar.specs.Trees.{Label, Forest, none, leaf, join}
 use Rattle.cedar_grammar.specs.Reader.Reading.{Reader, done, choice, both, skip, one}
 use Rattle.cedar_grammar.proofs.Readers.Equations.{choice_yes, choice_no, both_done}
-use Rattle.cedar_tree.specs.Erased.{Erased, times}
+use Rattle.cedar_grammar.specs.Erased.{Erased, times}
 use Rattle.cedar_reading.specs.Reading.{kind, Stands, first_place}
 use Rattle.cedar_reading.specs.ReadingSigns.{Leads, GoesPastSigns, GivesSigns}
 use Rattle.cedar_reading.specs.declared.lexeme.Lexeme.{Lexeme}
-use Rattle.cedar_tree.specs.declared.tree.NegOp.{NegOp}
+use Rattle.cedar_grammar.specs.declared.tree.NegOp.{NegOp}
 use Rattle.cedar_reading.proofs.Rows.{row_more, row_parts, row_span}
 use Rattle.cedar_reading.proofs.Steps.{token_at, first_begins, is_itself}
 use Rattle.cedar_tokens.specs.Inside.FixedTexts.{is_open, fixed_text}

@@ -14,13 +14,13 @@ use Rattle.cedar_grammar.proofs.KindSets.{every, kinds, every_kind, apart_at}
 use Rattle.cedar_grammar.proofs.Readers.Equations.{token_yes, token_no, token_end, tree_done, tree_fails}
 use Rattle.std.specs.Borrow.{Bor}
 use Rattle.cedar_reading.specs.declared.lexeme.Lexeme.{Lexeme}
-use Rattle.cedar_tree.specs.declared.tree.Node.{Node}
-use Rattle.cedar_tree.specs.declared.tree.Ident.{Ident}
-use Rattle.cedar_tree.specs.declared.tree.Str.{Str}
+use Rattle.cedar_grammar.specs.declared.tree.Node.{Node}
+use Rattle.cedar_grammar.specs.declared.tree.Ident.{Ident}
+use Rattle.cedar_grammar.specs.declared.tree.Str.{Str}
 use Rattle.cedar_reading.proofs.LeafTexts.{nodes_own, covers_leaf}
 use Rattle.cedar_reading.specs.declared.reading.Refusal.{Refusal}
 use Rattle.cedar_reading.specs.declared.reading.Refusal.TheVariants.{Grammar, TooDeep, OutOfMemory}
-use Rattle.cedar_tree.specs.Erased.{Erased}
+use Rattle.cedar_grammar.specs.Erased.{Erased}
 use Rattle.cedar_reading.specs.Reading.{kind, Fails, Stands, GivesNode, IsIdentOf, IsStrOf, ident_parts, str_parts}
 
 abbrev agree : Bool → Bool → Bool

@@ -9,17 +9,17 @@ use Rattle.cedar_grammar.specs.Trees.{Label, Forest, none, leaf, branch}
 use Rattle.cedar_grammar.specs.Reader.Reading.{Reader, done, stuck, choice, both, tree, skip, one}
 use Rattle.cedar_grammar.proofs.Readers.Equations.{choice_yes, choice_no, both_first, both_done, both_then_fails, tree_done, tree_fails, onto, onto_onto}
 use Rattle.cedar_grammar.proofs.KindSets.{apart_at}
-use Rattle.cedar_tree.specs.Erased.{add_parts, variable_parts}
+use Rattle.cedar_grammar.specs.Erased.{add_parts, variable_parts}
 use Rattle.cedar_reading.specs.Reading.{kind, Stands, ident_parts, name_parts}
 use Rattle.cedar_reading.specs.ReadingParts.{variable_kind, IsVariableOf}
 use Rattle.cedar_reading.specs.declared.lexeme.Lexeme.{Lexeme}
-use Rattle.cedar_tree.specs.declared.tree.Node.{Node}
-use Rattle.cedar_tree.specs.declared.tree.Ident.{Ident}
-use Rattle.cedar_tree.specs.declared.tree.Name.{Name}
-use Rattle.cedar_tree.specs.declared.tree.RelOp.{RelOp}
-use Rattle.cedar_tree.specs.declared.tree.Slot.{Slot}
-use Rattle.cedar_tree.specs.declared.tree.VariableDef.{VariableDef}
-use Rattle.cedar_tree.specs.declared.tree.Add as Add
+use Rattle.cedar_grammar.specs.declared.tree.Node.{Node}
+use Rattle.cedar_grammar.specs.declared.tree.Ident.{Ident}
+use Rattle.cedar_grammar.specs.declared.tree.Name.{Name}
+use Rattle.cedar_grammar.specs.declared.tree.RelOp.{RelOp}
+use Rattle.cedar_grammar.specs.declared.tree.Slot.{Slot}
+use Rattle.cedar_grammar.specs.declared.tree.VariableDef.{VariableDef}
+use Rattle.cedar_grammar.specs.declared.tree.Add as Add
 use Rattle.cedar_reading.proofs.Steps.{token_at, first_begins, is_itself}
 use Rattle.cedar_reading.proofs.Rows.{row_node, row_nodes, row_more, row_parts, row_span}
 

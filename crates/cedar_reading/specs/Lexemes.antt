@@ -9,8 +9,8 @@ use Rattle.cedar_tokens.specs.TokenKinds.{kind_of}
 use Rattle.cedar_grammar.specs.Numbers.{is_too_large}
 use Rattle.cedar_grammar.specs.Texts.{only_tokens}
 use Rattle.cedar_grammar.specs.TrailingCommas.{without_trailing}
-use Rattle.cedar_tree.specs.Erased.{Erased}
-use Rattle.cedar_tree.specs.NodeTrees.{spanned}
+use Rattle.cedar_grammar.specs.Erased.{Erased}
+use Rattle.cedar_grammar.specs.NodeTrees.{spanned}
 
 -- the lexemes are the tokens of the text, each with its kind and place, and no number is too large
 pub record AreLexemes (text : List ℕ) (lexemes : List Lexeme) : Type 0 where

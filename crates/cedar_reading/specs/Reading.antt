@@ -6,24 +6,24 @@ use Rattle.std.specs.Borrow.{Bor}
 use Rattle.cedar_reading.specs.declared.lexeme.Lexeme.{Lexeme}
 use Rattle.cedar_reading.specs.declared.reading.Refusal.{Refusal}
 use Rattle.cedar_reading.specs.declared.reading.Refusal.TheVariants.{Grammar, TooDeep, OutOfMemory}
-use Rattle.cedar_tree.specs.declared.tree.Node.{Node}
-use Rattle.cedar_tree.specs.declared.tree.Ident.{Ident}
-use Rattle.cedar_tree.specs.declared.tree.Str.{Str}
-use Rattle.cedar_tree.specs.declared.tree.Name.{Name}
-use Rattle.cedar_tree.specs.declared.tree.Literal.{Literal}
-use Rattle.cedar_tree.specs.declared.tree.MemAccess as MemAccess
-use Rattle.cedar_tree.specs.declared.tree.Primary as Primary
-use Rattle.cedar_tree.specs.declared.tree.Add as Add
-use Rattle.cedar_tree.specs.NodeLists.{operand_parts}
-use Rattle.cedar_tree.specs.Erased.{Erased, path_parts, node, primary_parts, add_parts, variant_label, literal_text}
+use Rattle.cedar_grammar.specs.declared.tree.Node.{Node}
+use Rattle.cedar_grammar.specs.declared.tree.Ident.{Ident}
+use Rattle.cedar_grammar.specs.declared.tree.Str.{Str}
+use Rattle.cedar_grammar.specs.declared.tree.Name.{Name}
+use Rattle.cedar_grammar.specs.declared.tree.Literal.{Literal}
+use Rattle.cedar_grammar.specs.declared.tree.MemAccess as MemAccess
+use Rattle.cedar_grammar.specs.declared.tree.Primary as Primary
+use Rattle.cedar_grammar.specs.declared.tree.Add as Add
+use Rattle.cedar_grammar.specs.NodeLists.{operand_parts}
+use Rattle.cedar_grammar.specs.Erased.{Erased, path_parts, node, primary_parts, add_parts, variant_label, literal_text}
 use Rattle.cedar_reading.specs.Lexemes.{lexeme_nodes}
-use Rattle.cedar_tree.specs.NodeTrees.{span_of}
+use Rattle.cedar_grammar.specs.NodeTrees.{span_of}
 use Rattle.cedar_tokens.specs.Units.{is_token}
 use Rattle.cedar_tokens.specs.declared.token.Span.{Span}
 use Rattle.cedar_tokens.specs.declared.kind.Kind.{Kind}
 use Rattle.cedar_tokens.specs.declared.kind.Kind.TheVariants as K
-use Rattle.cedar_tree.specs.declared.tree.RelOp.{RelOp}
-use Rattle.cedar_tree.specs.declared.tree.AddOp.{AddOp}
+use Rattle.cedar_grammar.specs.declared.tree.RelOp.{RelOp}
+use Rattle.cedar_grammar.specs.declared.tree.AddOp.{AddOp}
 use Rattle.cedar_tokens.specs.Kinds.{is, begins}
 use Rattle.cedar_tokens.specs.TokenKinds.{kind_of}
 use Rattle.cedar_grammar.specs.Trees.{Label, Forest, none, leaf, branch, yield}

@@ -14,19 +14,19 @@ use Rattle.cedar_grammar.specs.Reader.Regroup.{gather}
 use Rattle.cedar_grammar.specs.Reader.Lines.{◌▸◌, ◌∥◌, one_of, ident_rule, maybe, entity_item, scoped, action}
 use Rattle.cedar_reading.specs.declared.lexeme.Lexeme.{Lexeme}
 use Rattle.cedar_reading.specs.declared.reading.Refusal.{Refusal}
-use Rattle.cedar_tree.specs.declared.tree.Node.{Node}
-use Rattle.cedar_tree.specs.declared.tree.Ident.{Ident}
-use Rattle.cedar_tree.specs.declared.tree.Name.{Name}
-use Rattle.cedar_tree.specs.declared.tree.Str.{Str}
-use Rattle.cedar_tree.specs.declared.tree.Slot.{Slot}
-use Rattle.cedar_tree.specs.declared.tree.Literal.{Literal}
-use Rattle.cedar_tree.specs.declared.tree.RelOp.{RelOp}
-use Rattle.cedar_tree.specs.declared.tree.VariableDef.{VariableDef}
-use Rattle.cedar_tree.specs.declared.tree.Primary as Primary
-use Rattle.cedar_tree.specs.declared.tree.Add as Add
-use Rattle.cedar_tree.specs.declared.tree.Expr as Expr
-use Rattle.cedar_tree.specs.declared.tree.Or as Or
-use Rattle.cedar_tree.specs.Erased.{node, ident_tree, name_tree, str_tree, primary_parts, slot_text, type_parts, operator_parts, add_parts, expr_parts, or_parts, variable_parts}
+use Rattle.cedar_grammar.specs.declared.tree.Node.{Node}
+use Rattle.cedar_grammar.specs.declared.tree.Ident.{Ident}
+use Rattle.cedar_grammar.specs.declared.tree.Name.{Name}
+use Rattle.cedar_grammar.specs.declared.tree.Str.{Str}
+use Rattle.cedar_grammar.specs.declared.tree.Slot.{Slot}
+use Rattle.cedar_grammar.specs.declared.tree.Literal.{Literal}
+use Rattle.cedar_grammar.specs.declared.tree.RelOp.{RelOp}
+use Rattle.cedar_grammar.specs.declared.tree.VariableDef.{VariableDef}
+use Rattle.cedar_grammar.specs.declared.tree.Primary as Primary
+use Rattle.cedar_grammar.specs.declared.tree.Add as Add
+use Rattle.cedar_grammar.specs.declared.tree.Expr as Expr
+use Rattle.cedar_grammar.specs.declared.tree.Or as Or
+use Rattle.cedar_grammar.specs.Erased.{node, ident_tree, name_tree, str_tree, primary_parts, slot_text, type_parts, operator_parts, add_parts, expr_parts, or_parts, variable_parts}
 use Rattle.cedar_reading.specs.Reading.{kind, Fails, Stands, IsMade, span_to, str_parts, name_parts}
 
 -- Literals.

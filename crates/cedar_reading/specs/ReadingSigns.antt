@@ -11,8 +11,8 @@ use Rattle.cedar_grammar.specs.Reader.Rules.{Rule}
 use Rattle.cedar_grammar.specs.Reader.Lines.{◌∥◌, maybe}
 use Rattle.cedar_grammar.specs.Reader.Lines as L
 use Rattle.cedar_reading.specs.declared.lexeme.Lexeme.{Lexeme}
-use Rattle.cedar_tree.specs.declared.tree.NegOp.{NegOp}
-use Rattle.cedar_tree.specs.Erased.{Erased, sign_leaves}
+use Rattle.cedar_grammar.specs.declared.tree.NegOp.{NegOp}
+use Rattle.cedar_grammar.specs.Erased.{Erased, sign_leaves}
 use Rattle.cedar_reading.specs.Reading.{kind, flat, Stands, first_place}
 
 -- so many tokens of this kind come first, before the others

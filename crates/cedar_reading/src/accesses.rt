@@ -6,16 +6,16 @@ ghost use Rattle.cedar_tokens.specs.Kinds.{is, begins};
 ghost use Rattle.cedar_grammar.specs.Trees.{Label};
 ghost use Rattle.cedar_tokens.specs.declared.kind.Kind.TheVariants as K;
 ghost use Rattle.cedar_grammar.specs.Reader.Lines.{◌▸◌, ◌∥◌, one_of, field, index, text_operand, has_field};
-ghost use Rattle.cedar_tree.specs.Erased.{access_parts, add_parts};
+ghost use Rattle.cedar_grammar.specs.Erased.{access_parts, add_parts};
 ghost use Rattle.cedar_reading.specs.Reading.{kind, flat, GivesNode, IsOperandOf, GivesAfter, last_end};
 
 use crate::lexeme::Lexeme;
 use crate::literals::{parse_str, parse_text};
 use crate::names::{name_node, name_primary, parse_word};
 use crate::reading::{Parsed, begins, expect, keep};
+use cedar_grammar::tree::{Add, MemAccess, Member, Mult, Node, Primary, Unary};
 use cedar_tokens::kind::{Kind, Words};
 use cedar_tokens::token::Span;
-use cedar_tree::tree::{Add, MemAccess, Member, Mult, Node, Primary, Unary};
 use std::alloc::Global;
 
 /// Whether a field or an index begins with the first token.

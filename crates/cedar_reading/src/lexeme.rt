@@ -5,14 +5,14 @@ ghost use Rattle.std.specs.Char.{is_ascii_digit};
 ghost use Rattle.cedar_tokens.specs.Units.{is_number};
 ghost use Rattle.cedar_tokens.specs.Split.{IsFirstFault};
 ghost use Rattle.cedar_grammar.specs.Numbers.{is_too_large};
-ghost use Rattle.cedar_tree.specs.Refusals.{RefusesTokens};
-ghost use Rattle.cedar_tree.specs.declared.error.FormatError.TheVariants.{OutOfMemory};
+ghost use Rattle.cedar_grammar.specs.Refusals.{RefusesTokens};
+ghost use Rattle.cedar_grammar.specs.declared.error.FormatError.TheVariants.{OutOfMemory};
 ghost use Rattle.cedar_reading.specs.Tokens.{HasTokens};
 
+use cedar_grammar::error::FormatError;
 use cedar_tokens::kind::Kind;
 use cedar_tokens::token::Span;
 use cedar_tokens::units::Units;
-use cedar_tree::error::FormatError;
 
 /// A token as the parser reads it.
 #[derive(Clone, Copy)]

@@ -5,15 +5,15 @@ ghost use Rattle.std.specs.Prelude.{◌≡◌, ◌<◌, length, IfOk};
 ghost use Rattle.cedar_tokens.specs.Listing.{without_zeros};
 ghost use Rattle.cedar_grammar.specs.Trees.{Label};
 ghost use Rattle.cedar_grammar.specs.Reader.Rules.{text_rule};
-ghost use Rattle.cedar_tree.specs.Erased.{primary_parts};
+ghost use Rattle.cedar_grammar.specs.Erased.{primary_parts};
 ghost use Rattle.cedar_reading.specs.Reading.{flat, GivesNode, str_parts, IsStrOf, IsLiteralOf};
 ghost use Rattle.cedar_reading.specs.ReadingParts.{literal_rule, text_primary, HasLiteral, slot_kind, IsSlotOf};
 
 use crate::lexeme::Lexeme;
 use crate::reading::{Parsed, expect, refuse};
+use cedar_grammar::tree::{Literal, Node, Primary, Slot, Str};
 use cedar_tokens::kind::Kind;
 use cedar_tokens::token::Span;
-use cedar_tree::tree::{Literal, Node, Primary, Slot, Str};
 
 /// The token as a string.
 pub fn str_node<'src>(string: Lexeme<'src>) -> Node<Str<'src>>

@@ -5,16 +5,16 @@ ghost use Rattle.cedar_grammar.specs.Trees.{Label};
 ghost use Rattle.cedar_tokens.specs.declared.kind.Kind.TheVariants as K;
 ghost use Rattle.cedar_grammar.specs.Reader.Rules.{word_of, entity};
 ghost use Rattle.cedar_grammar.specs.Reader.Lines.{path};
-ghost use Rattle.cedar_tree.specs.Erased.{primary_parts};
+ghost use Rattle.cedar_grammar.specs.Erased.{primary_parts};
 ghost use Rattle.cedar_reading.specs.Reading.{kind, flat, GivesNode, ident_parts, IsIdentOf, first_start, name_parts, IsNameOf, IsNamePrimaryOf};
 ghost use Rattle.cedar_reading.specs.ReadingParts.{key_rule, GivesWords, IsEntityOf, slot_kind, slot_or_entity, TellsVariable};
 
 use crate::lexeme::Lexeme;
 use crate::literals::{parse_str, parse_text, slot_kind, slot_primary};
 use crate::reading::{Parsed, begins, expect, first_kind, past, refuse};
+use cedar_grammar::tree::{Ident, Name, Node, Primary, Ref, Slot, Str};
 use cedar_tokens::kind::{Kind, Words};
 use cedar_tokens::token::Span;
-use cedar_tree::tree::{Ident, Name, Node, Primary, Ref, Slot, Str};
 use std::alloc::Global;
 
 /// Whether the first token can be a name.

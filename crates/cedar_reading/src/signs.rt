@@ -7,9 +7,9 @@ ghost use Rattle.cedar_reading.specs.ReadingSigns.{GoesPastSigns, GivesSigns, si
 
 use crate::lexeme::Lexeme;
 use crate::reading::{Parsed, first_kind, refuse, skip, start_of};
+use cedar_grammar::tree::{AddOp, NegOp, RelOp};
 use cedar_tokens::kind::Kind;
 use cedar_tokens::token::Span;
-use cedar_tree::tree::{AddOp, NegOp, RelOp};
 
 // The comparison that a kind stands for.
 fn comparison_of(kind: Kind) -> Option<RelOp>

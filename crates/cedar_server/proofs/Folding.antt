@@ -6,12 +6,12 @@ use Rattle.std.proofs.lemmas.List.{append_assoc, append-nil, map-append}
 use Rattle.std.proofs.lemmas.List.Elements.{filter-append}
 use Rattle.std.proofs.lemmas.List.Concat.{flat_map-cons}
 use Rattle.std.proofs.lemmas.Grind.{flat_map-append}
-use Rattle.cedar_tree.specs.declared.tree.Node.{Node}
-use Rattle.cedar_tree.specs.declared.tree.Policy.{Policy}
-use Rattle.cedar_tree.specs.declared.tree.Cond.{Cond}
+use Rattle.cedar_grammar.specs.declared.tree.Node.{Node}
+use Rattle.cedar_grammar.specs.declared.tree.Policy.{Policy}
+use Rattle.cedar_grammar.specs.declared.tree.Cond.{Cond}
 use Rattle.cedar_tokens.specs.declared.token.Span.{Span}
 use Rattle.cedar_grammar.specs.Texts.{Accepted}
-use Rattle.cedar_tree.specs.NodeTrees.{IsTreeOf}
+use Rattle.cedar_grammar.specs.NodeTrees.{IsTreeOf}
 use Rattle.cedar_server.specs.Sections.{IsSection, HasNoSection}
 use Rattle.cedar_server.specs.Folds.{spans_lines, moved_fold, several, runs, run_from, cond_fold, policy_folds, AreNodeFoldsFrom, none, accepted, faulty, AreFolds}
 use Rattle.cedar_server.specs.Inside.Folding.{AddsFolds, AddsRuns, AreLines, joined}

@@ -2,9 +2,9 @@
 use Rattle.std.proofs.Common.{◌≡◌, ◌+◌, ℕ, List, [], ◌∷◌, ◌++◌, take, drop, ap, sym, ◌∙◌, subst, inl, inr}
 use Rattle.std.proofs.lemmas.List.{append_assoc, append-nil}
 use Rattle.cedar_grammar.specs.Texts.{Accepted}
-use Rattle.cedar_tree.specs.declared.tree.Node.{Node}
-use Rattle.cedar_tree.specs.declared.tree.Policy.{Policy}
-use Rattle.cedar_tree.specs.NodeTrees.{IsTreeOf}
+use Rattle.cedar_grammar.specs.declared.tree.Node.{Node}
+use Rattle.cedar_grammar.specs.declared.tree.Policy.{Policy}
+use Rattle.cedar_grammar.specs.NodeTrees.{IsTreeOf}
 use Rattle.cedar_server.specs.Sections.{IsSection, HasNoSection}
 use Rattle.cedar_server.specs.Symbols.{IsSymbolOf, AreSymbolsOf, AreSymbolsFrom, none, accepted, faulty, AreSymbols}
 use Rattle.cedar_server.specs.Inside.Heads.{AddsSymbols}

@@ -19,7 +19,7 @@ use Rattle.cedar_reading.specs.Pieces.{IsPiece, EndInFeed, HaveNoFeed, BeginsNoB
 use Rattle.cedar_reading.proofs.Prefixes.{piece_alone, piece_inside, piece_positive, units_of}
 use Rattle.cedar_cst.proofs.PartLaws.{append_not_nil}
 use Rattle.cedar_faults.specs.Faults.{BeginsWithPolicy}
-use Rattle.cedar_ranges.proofs.Feeds.{front_splits}
+use Rattle.cedar_policy_formatter.proofs.Feeds.{front_splits}
 use Rattle.cedar_server.specs.Inside.Standing.{Stands, StandsAt}
 
 -- ---- a policy in front of any text

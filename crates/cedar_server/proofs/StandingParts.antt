@@ -18,14 +18,14 @@ use Rattle.cedar_grammar.specs.Trees.{Label, Forest, none, leaf, branch, yield, 
 use Rattle.cedar_grammar.specs.Placed.{Placed, placed, with_places}
 use Rattle.cedar_grammar.specs.PlainTrees.{closes, plain_trees}
 use Rattle.cedar_grammar.specs.Texts.{only_tokens}
-use Rattle.cedar_tree.specs.declared.tree.Node.{Node}
-use Rattle.cedar_tree.specs.declared.tree.Policy.{Policy}
-use Rattle.cedar_tree.specs.declared.tree.Policies.{Policies}
-use Rattle.cedar_tree.specs.declared.tree.Annotation.{Annotation}
-use Rattle.cedar_tree.specs.declared.tree.Cond.{Cond}
-use Rattle.cedar_tree.specs.declared.tree.Str.{Str}
-use Rattle.cedar_tree.specs.NodeTrees.{is_node, end_of, span_of, spanned, IsTreeOf}
-use Rattle.cedar_tree.specs.Erased.{Erased, policy_trees, annotation_trees, cond_trees, annotation_parts, value_parts, variable_items, scope_variables}
+use Rattle.cedar_grammar.specs.declared.tree.Node.{Node}
+use Rattle.cedar_grammar.specs.declared.tree.Policy.{Policy}
+use Rattle.cedar_grammar.specs.declared.tree.Policies.{Policies}
+use Rattle.cedar_grammar.specs.declared.tree.Annotation.{Annotation}
+use Rattle.cedar_grammar.specs.declared.tree.Cond.{Cond}
+use Rattle.cedar_grammar.specs.declared.tree.Str.{Str}
+use Rattle.cedar_grammar.specs.NodeTrees.{is_node, end_of, span_of, spanned, IsTreeOf}
+use Rattle.cedar_grammar.specs.Erased.{Erased, policy_trees, annotation_trees, cond_trees, annotation_parts, value_parts, variable_items, scope_variables}
 use Rattle.cedar_server.specs.Inside.Heads.{IsFirstId}
 use Rattle.cedar_server.specs.Inside.StandingParts.{Stands, EachSpan, PolicyStands}
 

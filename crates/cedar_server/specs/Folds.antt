@@ -6,11 +6,11 @@ use Rattle.cedar_tokens.specs.Bytes.{line_feed}
 use Rattle.cedar_tokens.specs.Units.{is_token, is_comment}
 use Rattle.cedar_tokens.specs.declared.token.Span.{Span}
 use Rattle.cedar_grammar.specs.Texts.{Accepted}
-use Rattle.cedar_tree.specs.declared.tree.Node.{Node}
-use Rattle.cedar_tree.specs.declared.tree.Cond.{Cond}
-use Rattle.cedar_tree.specs.declared.tree.Policy.{Policy}
-use Rattle.cedar_tree.specs.declared.tree.Policies.{Policies}
-use Rattle.cedar_tree.specs.NodeTrees.{IsTreeOf}
+use Rattle.cedar_grammar.specs.declared.tree.Node.{Node}
+use Rattle.cedar_grammar.specs.declared.tree.Cond.{Cond}
+use Rattle.cedar_grammar.specs.declared.tree.Policy.{Policy}
+use Rattle.cedar_grammar.specs.declared.tree.Policies.{Policies}
+use Rattle.cedar_grammar.specs.NodeTrees.{IsTreeOf}
 use Rattle.cedar_server.specs.Parts.{AreParts}
 use Rattle.cedar_server.specs.Sections.{IsSection, HasNoSection}
 use Rattle.cedar_server.specs.Symbols.{moved}

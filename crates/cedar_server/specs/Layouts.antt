@@ -1,10 +1,10 @@
 -- The answers to requests for a layout.
 use Rattle.std.specs.Prelude.{◌≡◌, ℕ, ℤ, List, []}
 use Rattle.cedar_tokens.specs.declared.token.Span.{Span}
-use Rattle.cedar_ranges.specs.Edits.{IsFormattedAt, IsFormattedOf, IsRefusedAt}
-use Rattle.cedar_ranges.specs.Keeping.{Keeps}
-use Rattle.cedar_tree.specs.Refusals.{Refuses}
-use Rattle.cedar_tree.specs.declared.error.FormatError.{FormatError}
+use Rattle.cedar_policy_formatter.specs.RangeEdits.{IsFormattedAt, IsFormattedOf, IsRefusedAt}
+use Rattle.cedar_policy_formatter.specs.Keeping.{Keeps}
+use Rattle.cedar_grammar.specs.Refusals.{Refuses}
+use Rattle.cedar_grammar.specs.declared.error.FormatError.{FormatError}
 use Rattle.cedar_edits.specs.declared.positions.Encoding.{Encoding}
 use Rattle.cedar_edits.specs.declared.changes.PlacedEdit.{PlacedEdit}
 use Rattle.cedar_edits.specs.declared.changes.Range.{Range}

@@ -8,9 +8,9 @@ use crate::diagnoses::MOST;
 use crate::ranges::range_of;
 use cedar_edits::{Encoding, Position, Range, offset_at};
 use cedar_faults::listing::first_faults;
+use cedar_grammar::error::FormatError;
 use cedar_tokens::kind::Kind;
 use cedar_tokens::token::Span;
-use cedar_tree::error::FormatError;
 use std::alloc::{AllocError, Global};
 
 /// What could come at the cursor.

@@ -6,7 +6,7 @@ use crate::ranges::range_of;
 use cedar_edits::{Encoding, Range};
 use cedar_faults::brackets::Bracket;
 use cedar_faults::fault::Fault;
-use cedar_tree::error::FormatError;
+use cedar_grammar::error::FormatError;
 use std::alloc::{AllocError, Global};
 
 /// The reason of a fault.

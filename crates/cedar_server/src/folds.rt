@@ -9,8 +9,8 @@ ghost use Rattle.cedar_server.specs.Parts.{HasPartKind};
 use crate::parts::{Part, PartKind, Parts};
 use crate::sections::{section_len, section_policies};
 use crate::symbols::moved;
+use cedar_grammar::tree::{Cond, Node, Policy};
 use cedar_tokens::token::Span;
-use cedar_tree::tree::{Cond, Node, Policy};
 use std::alloc::{AllocError, Global};
 
 /// What can be folded.

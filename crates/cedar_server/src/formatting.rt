@@ -4,9 +4,9 @@ ghost use Rattle.cedar_server.specs.Layouts.{LaysOut, LaysOutPart};
 
 use crate::messages::Answer;
 use cedar_edits::{Encoding, Range, offset_at, place_edits};
+use cedar_policy_formatter::ranges::{format_range, format_text};
 use cedar_policy_formatter::token::Span;
 use cedar_policy_formatter::{Config, FormatError};
-use cedar_ranges::{format_range, format_text};
 use std::alloc::{AllocError, Global};
 
 /// The edits that make the output of a text, in its line ends; nothing if it is refused.

@@ -2,14 +2,14 @@
 ghost use Rattle.std.specs.Prelude.{◌<◌, IfOk, IfSome, MatchOption};
 ghost use Rattle.std.specs.Str.{IsCharBoundary};
 ghost use Rattle.cedar_grammar.specs.Texts.{Accepted};
-ghost use Rattle.cedar_tree.specs.NodeTrees.{IsTreeOf};
+ghost use Rattle.cedar_grammar.specs.NodeTrees.{IsTreeOf};
 ghost use Rattle.cedar_server.specs.Sections.{IsSection, HasNoSection};
 
 use crate::parts::Parts;
 use cedar_cst::cst::parse_policies;
-use cedar_tree::error::FormatError;
-use cedar_tree::laws::accepted_is_not_refused;
-use cedar_tree::tree::Policies;
+use cedar_grammar::error::FormatError;
+use cedar_grammar::tree::Policies;
+use cedar_grammar::tree_laws::accepted_is_not_refused;
 use std::alloc::{AllocError, Global};
 
 /// The bytes of the first section of a text, through its first `;`; `None` if it has no `;`.

@@ -6,9 +6,9 @@ ghost use Rattle.cedar_server.specs.Inside.StandingParts.{Stands, PolicyStands};
 
 use crate::parts::{PartKind, Parts};
 use crate::sections::{section_len, section_policies};
+use cedar_grammar::tree::{Annotation, Node, Policy};
 use cedar_tokens::kind::{Kind, kind_of};
 use cedar_tokens::token::Span;
-use cedar_tree::tree::{Annotation, Node, Policy};
 use std::alloc::{AllocError, Global};
 
 /// A policy as an outline shows it.

@@ -3,9 +3,9 @@ use Rattle.std.specs.Prelude.{◌⊎◌}
 use Rattle.std.proofs.Common.{inl, inr}
 use Rattle.cedar_tokens.proofs.Scanning.{split_unique, fault_unique, fault_prevents}
 use Rattle.cedar_grammar.specs.Texts.{Accepted as AcceptedByTree}
-use Rattle.cedar_tree.specs.declared.error.FormatError.{FormatError}
-use Rattle.cedar_tree.specs.Refusals.{Refuses as RefusesByTrees}
-use Rattle.cedar_tree.proofs.RefusalLaws as trees
+use Rattle.cedar_grammar.specs.declared.error.FormatError.{FormatError}
+use Rattle.cedar_grammar.specs.Refusals.{Refuses as RefusesByTrees}
+use Rattle.cedar_grammar.proofs.RefusalLaws as trees
 use Rattle.cedar_written.specs.Texts.{Accepted}
 use Rattle.cedar_written.specs.Refusals.{Refuses}
 use Rattle.cedar_written.specs.Judged.{TextIsJudged, AcceptedIsNotRefused, RefusalIsUnique}

@@ -6,7 +6,7 @@ use Rattle.cedar_layout.specs.Layout.{Doc, nil, group}
 use Rattle.cedar_grammar.specs.Trees.{Label, yield}
 use Rattle.cedar_grammar.specs.Languages.{Branch}
 use Rattle.cedar_grammar.specs.Grammar as T
-use Rattle.cedar_tree.specs.NodeTrees.{is_node}
+use Rattle.cedar_grammar.specs.NodeTrees.{is_node}
 use Rattle.cedar_written.specs.Languages.{Group}
 use Rattle.cedar_written.specs.NodeLines as N
 use Rattle.cedar_written.specs.NodeLines.{has_room, line_of}

@@ -14,9 +14,9 @@ use Rattle.cedar_grammar.specs.Beginnings as trees
 use Rattle.cedar_grammar.specs.Texts.{greatest_depth}
 use Rattle.cedar_grammar.specs.Texts as trees_texts
 use Rattle.cedar_grammar.specs.TypedTrees.{Clause, policy, part_yield}
-use Rattle.cedar_tree.specs.declared.error.FormatError.TheVariants as E
-use Rattle.cedar_tree.specs.Refusals.{Refuses as RefusesByTrees}
-use Rattle.cedar_tree.proofs.Memory.{memory_map}
+use Rattle.cedar_grammar.specs.declared.error.FormatError.TheVariants as E
+use Rattle.cedar_grammar.specs.Refusals.{Refuses as RefusesByTrees}
+use Rattle.cedar_grammar.proofs.Memory.{memory_map}
 use Rattle.cedar_laws.specs.Table.{part_table}
 use Rattle.cedar_laws.specs.Fit.{PartFit}
 use Rattle.cedar_laws.specs.Good.{IsGood}

@@ -1,7 +1,7 @@
 -- Each text is accepted or refused, and for one reason.
 use Rattle.std.specs.Prelude.{◌≡◌, ◌⊎◌, ℕ, List}
 use Rattle.cedar_tokens.specs.Split.{SplitsInto}
-use Rattle.cedar_tree.specs.declared.error.FormatError.{FormatError}
+use Rattle.cedar_grammar.specs.declared.error.FormatError.{FormatError}
 use Rattle.cedar_written.specs.Texts.{Accepted}
 use Rattle.cedar_written.specs.Refusals.{Refuses}
 

@@ -8,8 +8,8 @@ use Rattle.cedar_grammar.specs.Trees.{Label, Forest}
 use Rattle.cedar_grammar.specs.Grammar.{IsSyntaxTree}
 use Rattle.cedar_grammar.specs.Texts.{Accepted as AcceptedByTree, LeavesGrammar as LeavesGrammarOfTrees}
 use Rattle.cedar_grammar.specs.TypedTrees.{Clause, policy, set_tree}
-use Rattle.cedar_tree.specs.declared.error.FormatError.{FormatError}
-use Rattle.cedar_tree.specs.Refusals.{OutOfMemoryOr, Refuses as RefusesByTrees}
+use Rattle.cedar_grammar.specs.declared.error.FormatError.{FormatError}
+use Rattle.cedar_grammar.specs.Refusals.{OutOfMemoryOr, Refuses as RefusesByTrees}
 use Rattle.cedar_laws.specs.Table.{literal_kind, part_table}
 use Rattle.cedar_laws.specs.Canonical.{IsOutputOf as IsOutputByTable}
 use Rattle.cedar_written.specs.Written.{PolicySet}

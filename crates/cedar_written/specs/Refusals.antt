@@ -3,8 +3,8 @@ use Rattle.std.specs.Prelude.{◌≡◌, ℕ, true, false, List}
 use Rattle.cedar_tokens.specs.Split.{IsFirstFault, fault_kind}
 use Rattle.cedar_tokens.specs.declared.lexer.LexFaultKind.TheVariants as Fault
 use Rattle.cedar_grammar.specs.Numbers.{IsFirstTooLarge}
-use Rattle.cedar_tree.specs.declared.error.FormatError.{FormatError}
-use Rattle.cedar_tree.specs.declared.error.FormatError.TheVariants.{UnknownCharacter, UnfinishedString, NumberTooLarge, Grammar, TooDeep}
+use Rattle.cedar_grammar.specs.declared.error.FormatError.{FormatError}
+use Rattle.cedar_grammar.specs.declared.error.FormatError.TheVariants.{UnknownCharacter, UnfinishedString, NumberTooLarge, Grammar, TooDeep}
 use Rattle.cedar_written.specs.Texts.{LeavesGrammar}
 
 -- Why a text is refused: at its first place where no unit begins; or else at its first number above the limit; or else

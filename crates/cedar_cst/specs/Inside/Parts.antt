@@ -16,14 +16,14 @@ use Rattle.cedar_reading.specs.Pieces.{IsFirstPiece}
 use Rattle.cedar_reading.specs.declared.lexeme.Lexeme.{Lexeme}
 use Rattle.cedar_reading.specs.Lexemes.{AreLexemes}
 use Rattle.cedar_reading.specs.Reading.{start_or}
-use Rattle.cedar_tree.specs.declared.error.FormatError.{FormatError}
-use Rattle.cedar_tree.specs.declared.error.FormatError.TheVariants.{Grammar, TooDeep}
-use Rattle.cedar_tree.specs.declared.tree.Node as Nodes
-use Rattle.cedar_tree.specs.declared.tree.Policy as Policies
-use Rattle.cedar_tree.specs.declared.tree.Policies as Trees
-use Rattle.cedar_tree.specs.Erased.{policy_trees}
-use Rattle.cedar_tree.specs.NodeTrees.{spanned}
-use Rattle.cedar_tree.specs.Refusals.{OutOfMemoryOr, RefusesTokens}
+use Rattle.cedar_grammar.specs.declared.error.FormatError.{FormatError}
+use Rattle.cedar_grammar.specs.declared.error.FormatError.TheVariants.{Grammar, TooDeep}
+use Rattle.cedar_grammar.specs.declared.tree.Node as Nodes
+use Rattle.cedar_grammar.specs.declared.tree.Policy as Policies
+use Rattle.cedar_grammar.specs.declared.tree.Policies as Trees
+use Rattle.cedar_grammar.specs.Erased.{policy_trees}
+use Rattle.cedar_grammar.specs.NodeTrees.{spanned}
+use Rattle.cedar_grammar.specs.Refusals.{OutOfMemoryOr, RefusesTokens}
 use Rattle.cedar_cst.specs.PolicyReaders.{Position}
 
 -- the place, with so many more bytes before it

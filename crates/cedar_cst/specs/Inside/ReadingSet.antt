@@ -5,8 +5,8 @@ use Rattle.cedar_grammar.specs.Reader.Reading.{Answer, done, stuck}
 use Rattle.cedar_reading.specs.declared.lexeme.Lexeme.{Lexeme}
 use Rattle.cedar_reading.specs.declared.reading.Refusal.{Refusal}
 use Rattle.cedar_reading.specs.declared.reading.Refusal.TheVariants.{Grammar, TooDeep, OutOfMemory}
-use Rattle.cedar_tree.specs.declared.tree.Policies.{Policies}
-use Rattle.cedar_tree.specs.Erased.{erase}
+use Rattle.cedar_grammar.specs.declared.tree.Policies.{Policies}
+use Rattle.cedar_grammar.specs.Erased.{erase}
 use Rattle.cedar_reading.specs.Lexemes.{lexeme_nodes}
 use Rattle.cedar_reading.specs.Reading.{AreRight}
 

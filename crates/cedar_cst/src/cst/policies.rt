@@ -6,7 +6,7 @@ ghost use Rattle.cedar_grammar.specs.Texts.{greatest_depth};
 ghost use Rattle.cedar_tokens.specs.declared.kind.Kind.TheVariants as K;
 ghost use Rattle.cedar_grammar.specs.Reader.Rules.{star};
 ghost use Rattle.cedar_grammar.specs.Reader.Lines.{annotation_rule, cond_rule, policy_rule, set_to};
-ghost use Rattle.cedar_tree.specs.Erased.{policy_parts, annotation_parts, cond_parts};
+ghost use Rattle.cedar_grammar.specs.Erased.{policy_parts, annotation_parts, cond_parts};
 ghost use Rattle.cedar_cst.specs.ReadingExprs.{at_depth};
 ghost use Rattle.cedar_cst.specs.Inside.ReadingSet.{GivesSet};
 ghost use Rattle.cedar_reading.specs.Reading.{kind, flat, GivesNode, GivesMany};
@@ -14,6 +14,7 @@ ghost use Rattle.cedar_reading.specs.Reading.{kind, flat, GivesNode, GivesMany};
 use crate::cst::scopes::parse_scope;
 use crate::expressions::parse_expr;
 use cedar_grammar::MAX_NESTING;
+use cedar_grammar::tree::{Annotation, Cond, Node, Policies, Policy};
 use cedar_reading::lexeme::Lexeme;
 use cedar_reading::literals::parse_str;
 use cedar_reading::names::parse_word;
@@ -22,7 +23,6 @@ use cedar_reading::reading::{
 };
 use cedar_tokens::kind::{Kind, Words};
 use cedar_tokens::token::Span;
-use cedar_tree::tree::{Annotation, Cond, Node, Policies, Policy};
 use std::alloc::Global;
 
 /// The policies that the tokens are.

@@ -1,7 +1,7 @@
 //! The policies of a text, one after the other.
 ghost use Rattle.std.specs.Prelude.{◌≡◌, ◌≤◌, ◌<◌, ◌+◌, ◌^◌, List, [], ◌∷◌, ◌++◌, length, map, drop, IfOk, IfErr, IfSome, OnErr, MatchResult, MatchOption};
 ghost use Rattle.std.specs.List.{All};
-ghost use Rattle.cedar_tree.specs.Refusals.{OutOfMemoryOr, Refuses, RefusesTokens};
+ghost use Rattle.cedar_grammar.specs.Refusals.{OutOfMemoryOr, Refuses, RefusesTokens};
 ghost use Rattle.cedar_reading.specs.Lexemes.{AreLexemes};
 ghost use Rattle.cedar_reading.specs.Tokens.{HasTokens};
 ghost use Rattle.cedar_cst.specs.Inside.Parts.{moved_lexeme, place_before, HasPoliciesFrom, AreLexemesFrom, RefusesFrom, IsNext, IsPolicyFrom};
@@ -9,13 +9,13 @@ ghost use Rattle.cedar_cst.specs.PolicyReaders.{HasPolicies, HasRead, HasEnded, 
 
 use crate::cst::policies::parse_set;
 use crate::laws::tree_has_the_policies;
+use cedar_grammar::error::FormatError;
+use cedar_grammar::tree::{Node, Policies, Policy};
 use cedar_reading::commented::commented_tokens;
 use cedar_reading::lexeme::{Lexeme, check_tokens};
 use cedar_reading::pieces::read_piece;
 use cedar_reading::reading::Refusal;
 use cedar_tokens::token::WrappedToken;
-use cedar_tree::error::FormatError;
-use cedar_tree::tree::{Node, Policies, Policy};
 use std::alloc::Global;
 use std::marker::Model;
 

@@ -7,7 +7,7 @@ ghost use Rattle.cedar_tokens.specs.Kinds.{is};
 ghost use Rattle.cedar_tokens.specs.declared.kind.Kind.TheVariants as K;
 ghost use Rattle.cedar_grammar.specs.Reader.Rules.{entity, items, word_of};
 ghost use Rattle.cedar_grammar.specs.Reader.Lines.{◌∥◌, operand, entity_or, scoped, maybe, entity_item, action};
-ghost use Rattle.cedar_tree.specs.Erased.{add_parts, expr_parts, primary_parts, variable_parts};
+ghost use Rattle.cedar_grammar.specs.Erased.{add_parts, expr_parts, primary_parts, variable_parts};
 ghost use Rattle.cedar_reading.specs.ReadingParts.{slot_kind, variable_kind, IsVariableOf, IsLoneOrOf, entity_list, scope_rule};
 ghost use Rattle.cedar_reading.specs.declared.reading.Refusal.TheVariants.{OutOfMemory};
 ghost use Rattle.cedar_cst.specs.Boxed.{unboxed};
@@ -15,6 +15,7 @@ ghost use Rattle.cedar_cst.specs.ReadingItems.{GivesItems, GivesScope};
 ghost use Rattle.cedar_reading.specs.Reading.{flat, GivesNode, ident_parts};
 
 use crate::nodes::{and_node, list_node, lone_relation, or_expr, or_node};
+use cedar_grammar::tree::{Add, Expr, Ident, Name, Node, Or, Primary, RelOp, Slot, VariableDef};
 use cedar_reading::accesses::lone_operand;
 use cedar_reading::lexeme::Lexeme;
 use cedar_reading::names::{
@@ -22,7 +23,6 @@ use cedar_reading::names::{
 };
 use cedar_reading::reading::{Parsed, Refusal, begins, expect, followed_by, keep, past, skip};
 use cedar_tokens::kind::Kind;
-use cedar_tree::tree::{Add, Expr, Ident, Name, Node, Or, Primary, RelOp, Slot, VariableDef};
 use std::alloc::Global;
 
 // The word of a variable.

@@ -6,9 +6,9 @@ use Rattle.cedar_tokens.specs.Split.{Scans, IsFirstFault, fault_kind}
 use Rattle.cedar_tokens.specs.declared.lexer.LexFaultKind.TheVariants as Lexical
 use Rattle.cedar_grammar.specs.Numbers.{is_too_large}
 use Rattle.cedar_grammar.specs.Texts.{Accepted}
-use Rattle.cedar_tree.specs.declared.error.FormatError.{FormatError}
-use Rattle.cedar_tree.specs.declared.error.FormatError.TheVariants.{UnknownCharacter, UnfinishedString, NumberTooLarge, Grammar}
-use Rattle.cedar_tree.specs.Refusals.{Refuses}
+use Rattle.cedar_grammar.specs.declared.error.FormatError.{FormatError}
+use Rattle.cedar_grammar.specs.declared.error.FormatError.TheVariants.{UnknownCharacter, UnfinishedString, NumberTooLarge, Grammar}
+use Rattle.cedar_grammar.specs.Refusals.{Refuses}
 use Rattle.cedar_faults.specs.declared.beginnings.Beginning.{Beginning}
 use Rattle.cedar_faults.specs.declared.beginnings.Beginning.TheVariants.{Policy, End, Faulty}
 use Rattle.cedar_faults.specs.declared.beginnings.TokenFault.{TokenFault}

@@ -4,8 +4,8 @@ use Rattle.cedar_tokens.specs.Split.{SplitsInto}
 use Rattle.cedar_tokens.specs.declared.kind.Kind.{Kind}
 use Rattle.cedar_grammar.specs.Beginnings.{Begins}
 use Rattle.cedar_grammar.specs.Texts.{greatest_depth, only_tokens}
-use Rattle.cedar_tree.specs.declared.error.FormatError.{FormatError}
-use Rattle.cedar_tree.specs.declared.error.FormatError.TheVariants.{Grammar, TooDeep, OutOfMemory}
+use Rattle.cedar_grammar.specs.declared.error.FormatError.{FormatError}
+use Rattle.cedar_grammar.specs.declared.error.FormatError.TheVariants.{Grammar, TooDeep, OutOfMemory}
 use Rattle.cedar_faults.specs.Expectations.{IsList, AreAllAfter}
 
 -- this holds of the tokens of the text

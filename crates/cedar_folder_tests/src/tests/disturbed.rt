@@ -2,7 +2,7 @@
 ghost use Rattle.std.specs.Prelude.{None};
 
 use crate::memory::Memory;
-use cedar_folder::{Access, File, Folder, NotCreated, Outcome, Version};
+use cedar_program::folder::{Access, File, Folder, NotCreated, Outcome, Version};
 use std::alloc::Global;
 use std::io;
 

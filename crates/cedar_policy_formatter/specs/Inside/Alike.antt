@@ -3,8 +3,8 @@ use Rattle.std.specs.Prelude.{◌≡◌, ◌⊎◌, ℕ, List, map}
 use Rattle.cedar_tokens.specs.Listing.{Decorated, Listing, IsListing}
 use Rattle.cedar_tokens.specs.PlainList.{plain_list}
 use Rattle.cedar_grammar.specs.Texts.{Accepted}
-use Rattle.cedar_tree.specs.Refusals.{Refuses}
-use Rattle.cedar_tree.specs.declared.error.FormatError.{FormatError}
+use Rattle.cedar_grammar.specs.Refusals.{Refuses}
+use Rattle.cedar_grammar.specs.declared.error.FormatError.{FormatError}
 use Rattle.cedar_laws.specs.Output.{with_value}
 use Rattle.cedar_cst.specs.PolicyReaders.{Position, HasEnded, GoesOn}
 

@@ -2,7 +2,7 @@
 ghost use Rattle.std.specs.Prelude.{◌≡◌, ◌↔◌, IsTrue, MatchBool, MatchResult, IfOk, map};
 ghost use Rattle.cedar_tokens.specs.Tokens.{decorated};
 ghost use Rattle.cedar_grammar.specs.Texts.{Accepted as AcceptedByTree};
-ghost use Rattle.cedar_tree.specs.Refusals.{OutOfMemoryOr, Refuses as RefusesByTrees};
+ghost use Rattle.cedar_grammar.specs.Refusals.{OutOfMemoryOr, Refuses as RefusesByTrees};
 ghost use Rattle.cedar_layout.specs.Lookups.{AreInOrder};
 ghost use Rattle.cedar_cst.specs.PolicyReaders.{AreTokensOf, HasEnded};
 ghost use Rattle.cedar_written.specs.Lists.{HaveEqualLists};

@@ -4,10 +4,10 @@ use Rattle.cedar_tokens.specs.TokenKinds.{kind_of}
 use Rattle.cedar_tokens.specs.declared.kind.Kind.{Kind}
 use Rattle.cedar_tokens.specs.declared.token.Span.{Span}
 use Rattle.cedar_grammar.specs.Texts.{Accepted}
-use Rattle.cedar_tree.specs.declared.tree.Node.{Node}
-use Rattle.cedar_tree.specs.declared.tree.Annotation.{Annotation}
-use Rattle.cedar_tree.specs.declared.tree.Policies.{Policies}
-use Rattle.cedar_tree.specs.NodeTrees.{IsTreeOf}
+use Rattle.cedar_grammar.specs.declared.tree.Node.{Node}
+use Rattle.cedar_grammar.specs.declared.tree.Annotation.{Annotation}
+use Rattle.cedar_grammar.specs.declared.tree.Policies.{Policies}
+use Rattle.cedar_grammar.specs.NodeTrees.{IsTreeOf}
 use Rattle.cedar_server.specs.Parts.{AreParts}
 use Rattle.cedar_server.specs.Symbols.{IsId, IsNoId, is_tight_before, is_tight_after, space_between, head, AreSymbolsOf}
 use Rattle.cedar_server.specs.declared.symbols.Symbol.{Symbol}

@@ -7,13 +7,13 @@ use Rattle.cedar_grammar.specs.Reader.Reading.{done, stuck, tree, token}
 use Rattle.cedar_grammar.specs.Reader.Rules.{expr_first, items, inner}
 use Rattle.cedar_grammar.specs.Reader.Lines.{maybe, path, init, item, call, access_rule, member_rule, unary_rule, mult_rule, relation_rule, and_rule, or_rule, expr_rule, expr_to}
 use Rattle.cedar_grammar.proofs.Readers.Equations.{tree_fails, both_fails}
-use Rattle.cedar_tree.specs.Erased.{addop_text, expr_parts, or_parts, relation_parts, add_parts, mult_parts, unary_parts, access_parts, primary_parts}
+use Rattle.cedar_grammar.specs.Erased.{addop_text, expr_parts, or_parts, relation_parts, add_parts, mult_parts, unary_parts, access_parts, primary_parts}
 use Rattle.cedar_reading.specs.Reading.{kind, flat, addop_kind, relop_kind, first_place}
 use Rattle.cedar_reading.specs.ReadingParts.{key_rule, Makes, TellsVariable}
 use Rattle.cedar_cst.specs.ReadingItems.{StandsItems, IsListOf}
-use Rattle.cedar_tree.specs.NodeLists.{and_parts, init_parts, item_trees}
+use Rattle.cedar_grammar.specs.NodeLists.{and_parts, init_parts, item_trees}
 use Rattle.cedar_cst.specs.ReadingExprs.{at_depth, if_rule, bracket_rule, IsParensOf, IsRecordOf}
-use Rattle.cedar_tree.specs.declared.tree.MultOp.{MultOp}
+use Rattle.cedar_grammar.specs.declared.tree.MultOp.{MultOp}
 use Rattle.cedar_cst.specs.Boxed.{unboxed, signed}
 use Rattle.cedar_reading.proofs.Steps.{passes, fails_as, gives_as, is_itself, first_begins, token_at, token_not}
 use Rattle.cedar_reading.proofs.Refusals.{refused}

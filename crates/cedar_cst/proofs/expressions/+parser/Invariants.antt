@@ -5,10 +5,10 @@ use Rattle.cedar_tokens.specs.Kinds.{is, is_ident, begins}
 use Rattle.cedar_grammar.specs.Trees.{Label}
 use Rattle.cedar_grammar.specs.Reader.Rules.{expr_first}
 use Rattle.cedar_grammar.specs.Reader.Lines.{and_rule, relation_rule, mult_rule, unary_rule, item, access_rule, init, expr_to}
-use Rattle.cedar_tree.specs.Erased.{expr_parts, relation_parts, mult_parts, unary_parts, addop_text}
+use Rattle.cedar_grammar.specs.Erased.{expr_parts, relation_parts, mult_parts, unary_parts, addop_text}
 use Rattle.cedar_reading.specs.Reading.{kind}
 use Rattle.cedar_cst.specs.ReadingExprs.{at_depth}
-use Rattle.cedar_tree.specs.NodeLists.{and_parts, init_parts}
+use Rattle.cedar_grammar.specs.NodeLists.{and_parts, init_parts}
 use Rattle.cedar_cst.proofs.Chains.{OperandsRead}
 use Rattle.cedar_reading.proofs.Operands.{AccessesRead}
 use Rattle.cedar_cst.proofs.Listed.{ItemsRead}

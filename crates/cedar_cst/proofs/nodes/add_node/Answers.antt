@@ -1,9 +1,9 @@
 use Rattle.std.proofs.Common.{sym, ap, ◌∙◌}
 use Rattle.cedar_cst.specs.ReadingExprs.{end_of_last}
-use Rattle.cedar_tree.specs.declared.tree.Node.{Node}
-use Rattle.cedar_tree.specs.declared.tree.AddOp.{AddOp}
-use Rattle.cedar_tree.specs.declared.tree.Mult as Mult
-use Rattle.cedar_tree.proofs.Views.{view_add}
+use Rattle.cedar_grammar.specs.declared.tree.Node.{Node}
+use Rattle.cedar_grammar.specs.declared.tree.AddOp.{AddOp}
+use Rattle.cedar_grammar.specs.declared.tree.Mult as Mult
+use Rattle.cedar_grammar.proofs.Views.{view_add}
 use Rattle.cedar_cst.proofs.nodes.add_node.Goals as goal
 
 pub returns : goal.returns

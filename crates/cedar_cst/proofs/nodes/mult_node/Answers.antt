@@ -1,9 +1,9 @@
 use Rattle.std.proofs.Common.{sym, ap, ◌∙◌}
 use Rattle.cedar_cst.specs.ReadingExprs.{end_of_last}
-use Rattle.cedar_tree.specs.declared.tree.Node.{Node}
-use Rattle.cedar_tree.specs.declared.tree.MultOp.{MultOp}
-use Rattle.cedar_tree.specs.declared.tree.Unary as Unary
-use Rattle.cedar_tree.proofs.Views.{view_mult}
+use Rattle.cedar_grammar.specs.declared.tree.Node.{Node}
+use Rattle.cedar_grammar.specs.declared.tree.MultOp.{MultOp}
+use Rattle.cedar_grammar.specs.declared.tree.Unary as Unary
+use Rattle.cedar_grammar.proofs.Views.{view_mult}
 use Rattle.cedar_cst.proofs.nodes.mult_node.Goals as goal
 
 pub returns : goal.returns

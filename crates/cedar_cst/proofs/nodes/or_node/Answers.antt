@@ -1,8 +1,8 @@
 use Rattle.std.proofs.Common.{sym, ap, ◌∙◌}
 use Rattle.cedar_cst.specs.ReadingExprs.{end_of_last}
-use Rattle.cedar_tree.specs.declared.tree.Node.{Node}
-use Rattle.cedar_tree.specs.declared.tree.And as And
-use Rattle.cedar_tree.proofs.Views.{view_or}
+use Rattle.cedar_grammar.specs.declared.tree.Node.{Node}
+use Rattle.cedar_grammar.specs.declared.tree.And as And
+use Rattle.cedar_grammar.proofs.Views.{view_or}
 use Rattle.cedar_cst.proofs.nodes.or_node.Goals as goal
 
 pub returns : goal.returns

@@ -1,6 +1,6 @@
 use Rattle.cedar_tokens.specs.declared.kind.Kind.TheVariants as K
 use Rattle.cedar_grammar.specs.Trees.{Label}
-use Rattle.cedar_tree.specs.Erased.{primary_parts}
+use Rattle.cedar_grammar.specs.Erased.{primary_parts}
 use Rattle.cedar_reading.specs.Reading.{flat}
 use Rattle.cedar_reading.specs.ReadingParts.{key_rule}
 use Rattle.cedar_reading.proofs.Followed.{followed_fails, followed_done}

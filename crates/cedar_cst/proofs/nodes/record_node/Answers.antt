@@ -1,5 +1,5 @@
 use Rattle.std.proofs.Common.{refl}
-use Rattle.cedar_tree.proofs.Views.{view_record}
+use Rattle.cedar_grammar.proofs.Views.{view_record}
 use Rattle.cedar_cst.proofs.nodes.record_node.Goals as goal
 
 pub returns-clause-made : goal.returns-clause-made

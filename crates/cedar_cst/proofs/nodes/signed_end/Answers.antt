@@ -1,4 +1,4 @@
-use Rattle.cedar_tree.specs.declared.tree.Node.{Node}
+use Rattle.cedar_grammar.specs.declared.tree.Node.{Node}
 use Rattle.cedar_cst.proofs.Ends.{ends_some}
 use Rattle.cedar_cst.proofs.nodes.signed_end.Goals as goal
 

@@ -1,5 +1,5 @@
 use Rattle.std.proofs.Common.{sym, ap}
-use Rattle.cedar_tree.proofs.Views.{view_unary}
+use Rattle.cedar_grammar.proofs.Views.{view_unary}
 use Rattle.cedar_cst.proofs.nodes.unary_node.Goals as goal
 
 pub returns-clause-made : goal.returns-clause-made

@@ -1,10 +1,10 @@
 use Rattle.std.proofs.Common.{arith, ap, ◌∙◌, sym, ◌++◌, [], ◌∷◌, codes}
 use Rattle.std.proofs.lemmas.Result.{on_ok_weaker}
 use Rattle.cedar_grammar.specs.Trees.{Label, none, leaf, join}
-use Rattle.cedar_tree.specs.Erased.{access_parts, expr_parts, primary_parts, variant}
-use Rattle.cedar_tree.specs.NodeLists.{init_parts, item_trees}
-use Rattle.cedar_tree.specs.declared.tree.Expr.TheViews.{out-Or, out-Add, out-Mult, out-Unary}
-use Rattle.cedar_tree.proofs.Views.{add_items, and_items, mult_items, view_call, view_list, view_record}
+use Rattle.cedar_grammar.specs.Erased.{access_parts, expr_parts, primary_parts, variant}
+use Rattle.cedar_grammar.specs.NodeLists.{init_parts, item_trees}
+use Rattle.cedar_grammar.specs.declared.tree.Expr.TheViews.{out-Or, out-Add, out-Mult, out-Unary}
+use Rattle.cedar_grammar.proofs.Views.{add_items, and_items, mult_items, view_call, view_list, view_record}
 use Rattle.cedar_documents.specs.Items.{at, items_of, signs}
 use Rattle.cedar_documents.proofs.Listing.{begin_row, enclosed, ended, seen, seen_variant, unary_done}
 use Rattle.cedar_documents.proofs.Operands.{or_view, add_view, mult_view, unary_view}

@@ -1,9 +1,9 @@
 use Rattle.std.proofs.Common.{◌≡◌, ◌∷◌, ◌++◌, drop}
 use Rattle.cedar_grammar.specs.Trees.{Label}
-use Rattle.cedar_tree.specs.Erased.{or_parts, add_parts, mult_parts, expr_parts}
-use Rattle.cedar_tree.specs.NodeLists.{access_items, and_parts, init_parts, item_trees, member_parts}
-use Rattle.cedar_tree.specs.declared.tree.Expr.TheViews.{out-Or, out-Add, out-Mult}
-use Rattle.cedar_tree.proofs.Views.{and_items, relation_items, add_items, mult_items}
+use Rattle.cedar_grammar.specs.Erased.{or_parts, add_parts, mult_parts, expr_parts}
+use Rattle.cedar_grammar.specs.NodeLists.{access_items, and_parts, init_parts, item_trees, member_parts}
+use Rattle.cedar_grammar.specs.declared.tree.Expr.TheViews.{out-Or, out-Add, out-Mult}
+use Rattle.cedar_grammar.proofs.Views.{and_items, relation_items, add_items, mult_items}
 use Rattle.cedar_documents.specs.Items.{at, items_of, listed}
 use Rattle.cedar_documents.proofs.Listing.{left}
 use Rattle.cedar_documents.proofs.expressions.+items.Given as goal

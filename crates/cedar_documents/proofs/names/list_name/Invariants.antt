@@ -1,5 +1,5 @@
 use Rattle.std.proofs.Common.{◌≡◌, ◌∷◌, ◌++◌, drop}
-use Rattle.cedar_tree.specs.Erased.{path_parts}
+use Rattle.cedar_grammar.specs.Erased.{path_parts}
 use Rattle.cedar_documents.specs.Items.{at, items_of, listed}
 use Rattle.cedar_documents.proofs.names.list_name.Given as goal
 

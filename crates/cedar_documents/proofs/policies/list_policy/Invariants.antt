@@ -1,7 +1,7 @@
 use Rattle.std.proofs.Common.{◌≡◌, ◌∷◌, ◌++◌, drop}
 use Rattle.cedar_grammar.specs.Trees.{leaf, none}
 use Rattle.std.specs.Prelude.{codes}
-use Rattle.cedar_tree.specs.Erased.{annotation_trees, cond_trees, policy_parts}
+use Rattle.cedar_grammar.specs.Erased.{annotation_trees, cond_trees, policy_parts}
 use Rattle.cedar_documents.specs.Items.{at, items_of, listed}
 use Rattle.cedar_documents.proofs.policies.list_policy.Given as goal
 use Rattle.cedar_documents.proofs.Listing.{after_annotations}

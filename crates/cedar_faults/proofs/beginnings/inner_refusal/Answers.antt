@@ -1,6 +1,6 @@
 use Rattle.std.proofs.Common.{false, rules, arith}
-use Rattle.cedar_tree.specs.declared.error.FormatError.TheVariants.{Grammar}
-use Rattle.cedar_tree.specs.Refusals.{Refuses}
+use Rattle.cedar_grammar.specs.declared.error.FormatError.TheVariants.{Grammar}
+use Rattle.cedar_grammar.specs.Refusals.{Refuses}
 use Rattle.cedar_faults.proofs.Begun.{leaves_end}
 use Rattle.cedar_faults.proofs.beginnings.inner_refusal.Goals as goal
 

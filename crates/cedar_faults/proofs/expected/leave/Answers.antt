@@ -1,6 +1,6 @@
 use Rattle.std.proofs.Common.{◌≡◌, ◌<◌, ◌++◌, [], ◌∷◌, length, arith, ap, subst, ◌∙◌}
 use Rattle.std.specs.Prelude.{drop}
-use Rattle.cedar_tree.specs.Refusals.{Refuses, OutOfMemoryOr}
+use Rattle.cedar_grammar.specs.Refusals.{Refuses, OutOfMemoryOr}
 use Rattle.cedar_cst.specs.PolicyReaders.{HasPolicies, HasRead}
 use Rattle.cedar_cst.proofs.Readers.{ends_inside}
 use Rattle.cedar_faults.proofs.RightAfter.{never_read, never_placed, left_after}

@@ -1,6 +1,6 @@
 use Rattle.std.proofs.Common.{◌-◌, length, List}
-use Rattle.cedar_tree.specs.declared.tree.Node.{Node}
-use Rattle.cedar_tree.specs.declared.tree.Policy.{Policy}
+use Rattle.cedar_grammar.specs.declared.tree.Node.{Node}
+use Rattle.cedar_grammar.specs.declared.tree.Policy.{Policy}
 use Rattle.cedar_cst.specs.PolicyReaders.{HasRead}
 use Rattle.cedar_faults.proofs.expected.leave.Given as goal
 

@@ -1,5 +1,5 @@
 use Rattle.std.proofs.Common.{arith, inl, inr, subst, sym}
-use Rattle.cedar_tree.specs.declared.error.FormatError.TheVariants.{Grammar}
+use Rattle.cedar_grammar.specs.declared.error.FormatError.TheVariants.{Grammar}
 use Rattle.cedar_faults.specs.FirstFaults.{IsFirstOf}
 use Rattle.cedar_faults.specs.Marks.{Marks}
 use Rattle.cedar_faults.proofs.Ending.{number_begins, token_begins, deep_begins, leaving_splits, leaving_inside}

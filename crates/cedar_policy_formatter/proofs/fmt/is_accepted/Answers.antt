@@ -1,5 +1,5 @@
-use Rattle.cedar_tree.specs.Refusals.{Refuses}
-use Rattle.cedar_tree.proofs.Memory.{without_memory}
+use Rattle.cedar_grammar.specs.Refusals.{Refuses}
+use Rattle.cedar_grammar.proofs.Memory.{without_memory}
 use Rattle.cedar_policy_formatter.proofs.fmt.is_accepted.Goals.{in-Ok, in-Err+then-is_memory, in-Err+else-is_memory}
 use Rattle.cedar_policy_formatter.proofs.fmt.is_accepted.Goals as goal
 

@@ -1,6 +1,6 @@
 use Rattle.std.proofs.Common.{rules, inl, inr}
-use Rattle.cedar_tree.specs.Refusals.{Refuses}
-use Rattle.cedar_tree.proofs.Memory.{without_memory}
+use Rattle.cedar_grammar.specs.Refusals.{Refuses}
+use Rattle.cedar_grammar.proofs.Memory.{without_memory}
 use Rattle.cedar_policy_formatter.proofs.fmt.soundness_check.Goals as goal
 
 pub returns-then-same_tree : goal.returns-then-same_tree

@@ -1,5 +1,5 @@
 use Rattle.std.proofs.Common.{refl}
-use Rattle.cedar_tree.proofs.Views.{view_operand}
+use Rattle.cedar_grammar.proofs.Views.{view_operand}
 use Rattle.cedar_reading.proofs.accesses.operand.Goals as goal
 
 pub returns : goal.returns

@@ -1,7 +1,7 @@
 use Rattle.std.proofs.Common.{sym, ◌∙◌}
 use Rattle.cedar_grammar.specs.Trees.{Label}
 use Rattle.cedar_grammar.proofs.Readers.Equations.{choice_yes, choice_no}
-use Rattle.cedar_tree.specs.Erased.{access_parts}
+use Rattle.cedar_grammar.specs.Erased.{access_parts}
 use Rattle.cedar_reading.proofs.Steps.{gives_as}
 use Rattle.cedar_reading.proofs.accesses.parse_access.Goals as goal
 

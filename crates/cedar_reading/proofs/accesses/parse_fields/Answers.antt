@@ -2,7 +2,7 @@ use Rattle.std.proofs.Common.{refl, sym, ap, ◌∙◌, [], ◌∷◌, arith}
 use Rattle.cedar_grammar.specs.Trees.{Label}
 use Rattle.cedar_grammar.proofs.Readers.Equations.{tree_done}
 use Rattle.cedar_reading.specs.Reading.{last_end}
-use Rattle.cedar_tree.specs.Erased.{access_parts}
+use Rattle.cedar_grammar.specs.Erased.{access_parts}
 use Rattle.cedar_reading.proofs.Steps.{passes}
 use Rattle.cedar_reading.proofs.Refusals.{refused}
 use Rattle.cedar_reading.proofs.Rows.{row_span}

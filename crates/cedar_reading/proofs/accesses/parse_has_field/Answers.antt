@@ -4,7 +4,7 @@ use Rattle.cedar_grammar.specs.Trees.{Label}
 use Rattle.cedar_grammar.proofs.Readers.Equations.{choice_yes, choice_no}
 use Rattle.cedar_grammar.specs.Reader.Lines.{text_operand, has_field}
 use Rattle.cedar_reading.specs.Reading.{flat}
-use Rattle.cedar_tree.specs.Erased.{add_parts}
+use Rattle.cedar_grammar.specs.Erased.{add_parts}
 use Rattle.cedar_reading.proofs.Operands.{gives_after}
 use Rattle.cedar_reading.proofs.accesses.parse_has_field.Goals as goal
 

@@ -3,7 +3,7 @@ use Rattle.cedar_tokens.specs.declared.kind.Kind.TheVariants as K
 use Rattle.cedar_grammar.specs.Trees.{Label}
 use Rattle.cedar_grammar.specs.Reader.Lines.{text_operand}
 use Rattle.cedar_reading.specs.Reading.{flat}
-use Rattle.cedar_tree.specs.Erased.{add_parts}
+use Rattle.cedar_grammar.specs.Erased.{add_parts}
 use Rattle.cedar_reading.proofs.Operands.{gives_after}
 use Rattle.cedar_reading.proofs.accesses.parse_pattern.Goals as goal
 

@@ -1,7 +1,7 @@
 use Rattle.std.proofs.Common.{sym, subst, ◌∙◌}
 use Rattle.cedar_grammar.specs.Trees.{Label}
 use Rattle.cedar_grammar.proofs.Readers.Equations.{choice_yes, choice_no, tree_done}
-use Rattle.cedar_tree.specs.Erased.{primary_parts}
+use Rattle.cedar_grammar.specs.Erased.{primary_parts}
 use Rattle.cedar_reading.specs.Reading.{IsNameOf}
 use Rattle.cedar_reading.proofs.Steps.{gives_as}
 use Rattle.cedar_reading.proofs.Refusals.{refused, in_tree, in_chosen}

@@ -3,7 +3,7 @@ use Rattle.cedar_tokens.specs.Kinds.{is, begins}
 use Rattle.cedar_grammar.specs.Trees.{Label, none, leaf}
 use Rattle.cedar_grammar.specs.Reader.Reading.{done, one}
 use Rattle.cedar_grammar.proofs.Readers.Equations.{choice_yes, choice_no, tree_done, tree_fails}
-use Rattle.cedar_tree.specs.Erased.{primary_parts}
+use Rattle.cedar_grammar.specs.Erased.{primary_parts}
 use Rattle.cedar_reading.specs.Reading.{kind, Fails}
 use Rattle.cedar_reading.proofs.Steps.{passes, gives_as}
 use Rattle.cedar_reading.proofs.Refusals.{refused}

@@ -1,7 +1,7 @@
 use Rattle.std.proofs.Common.{◌≡◌, ◌+◌, ◌++◌, ◌∷◌, [], ◌∙◌, ap, sym, subst, arith, take, map}
 use Rattle.std.proofs.lemmas.List.{take_all, take_more}
-use Rattle.cedar_tree.specs.declared.tree.Node.{Node}
-use Rattle.cedar_tree.specs.declared.tree.Cond.{Cond}
+use Rattle.cedar_grammar.specs.declared.tree.Node.{Node}
+use Rattle.cedar_grammar.specs.declared.tree.Cond.{Cond}
 use Rattle.cedar_server.specs.Folds.{cond_fold, several}
 use Rattle.cedar_server.specs.Inside.StandingParts.{Stands}
 use Rattle.cedar_server.proofs.Folding.{added_more, conds_more}

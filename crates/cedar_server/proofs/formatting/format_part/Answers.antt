@@ -1,8 +1,8 @@
 use Rattle.std.proofs.Common.{◌≢◌, rules}
 use Rattle.cedar_tokens.specs.declared.token.Span.{Span}
-use Rattle.cedar_tree.specs.declared.error.FormatError.TheVariants.{OutOfMemory}
-use Rattle.cedar_ranges.specs.Edits.{IsRefusedAt}
-use Rattle.cedar_ranges.proofs.OnlyMemory.{not_memory}
+use Rattle.cedar_grammar.specs.declared.error.FormatError.TheVariants.{OutOfMemory}
+use Rattle.cedar_policy_formatter.specs.RangeEdits.{IsRefusedAt}
+use Rattle.cedar_policy_formatter.proofs.OnlyMemory.{not_memory}
 use Rattle.cedar_server.proofs.formatting.format_part.Goals as goal
 
 pub returns-in-Err : goal.returns-in-Err

@@ -1,6 +1,6 @@
 use Rattle.std.proofs.Common.{◌≡◌, ◌+◌, ◌++◌, ◌∷◌, [], ◌∙◌, ap, sym, subst, inr, length, arith, get_or, take, append_assoc}
 use Rattle.std.proofs.lemmas.List.{take_all, take_more}
-use Rattle.cedar_tree.specs.NodeTrees.{IsTreeOf}
+use Rattle.cedar_grammar.specs.NodeTrees.{IsTreeOf}
 use Rattle.cedar_server.specs.Symbols.{AreSymbolsOf}
 use Rattle.cedar_server.specs.Inside.StandingParts.{PolicyStands}
 use Rattle.cedar_server.proofs.Naming.{one_more}

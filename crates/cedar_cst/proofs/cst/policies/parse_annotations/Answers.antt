@@ -10,7 +10,7 @@ use Rattle.cedar_reading.proofs.Refusals.{refused}
 use Rattle.cedar_reading.proofs.Operands.{keep_done, keep_fails, keep_shorter}
 use Rattle.cedar_reading.proofs.Manys.{flat_takes, many_first, many_next}
 use Rattle.cedar_cst.proofs.cst.policies.parse_annotations.Goals as goal
-use Rattle.cedar_tree.specs.Erased.{annotation_parts}
+use Rattle.cedar_grammar.specs.Erased.{annotation_parts}
 
 pub annotations-init : goal.annotations-init
 annotations-init c = (

@@ -6,7 +6,7 @@ use Rattle.cedar_grammar.specs.Reader.Lines.{annotation_rule}
 use Rattle.cedar_reading.specs.Reading.{kind, flat}
 use Rattle.cedar_reading.proofs.Manys.{ManyRead}
 use Rattle.cedar_cst.proofs.cst.policies.parse_annotations.Given as goal
-use Rattle.cedar_tree.specs.Erased.{annotation_parts}
+use Rattle.cedar_grammar.specs.Erased.{annotation_parts}
 
 abbrev pub invariant-annotations : goal.invariant-annotations
 invariant-annotations l =

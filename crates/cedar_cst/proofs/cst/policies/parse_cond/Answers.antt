@@ -4,7 +4,7 @@ use Rattle.cedar_grammar.specs.Texts.{greatest_depth}
 use Rattle.cedar_grammar.specs.Trees.{Label}
 use Rattle.cedar_grammar.specs.Reader.Reading.{Reader}
 use Rattle.cedar_grammar.specs.Reader.Lines.{expr_to}
-use Rattle.cedar_tree.specs.Erased.{expr_parts}
+use Rattle.cedar_grammar.specs.Erased.{expr_parts}
 use Rattle.cedar_reading.specs.Reading.{kind}
 use Rattle.cedar_reading.specs.declared.lexeme.Lexeme.{Lexeme}
 use Rattle.cedar_reading.proofs.Steps.{passes}

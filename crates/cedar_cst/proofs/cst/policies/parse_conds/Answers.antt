@@ -14,7 +14,7 @@ use Rattle.cedar_reading.proofs.Operands.{keep_done, keep_fails, keep_shorter}
 use Rattle.cedar_reading.proofs.Manys.{many_first, many_next}
 use Rattle.cedar_cst.proofs.Depths.{depth_takes}
 use Rattle.cedar_cst.proofs.cst.policies.parse_conds.Goals as goal
-use Rattle.cedar_tree.specs.Erased.{cond_parts}
+use Rattle.cedar_grammar.specs.Erased.{cond_parts}
 
 abbrev P : Reader Lexeme
 P = at_depth (suc greatest_depth) cond_rule

@@ -7,7 +7,7 @@ use Rattle.cedar_reading.specs.Reading.{kind}
 use Rattle.cedar_cst.specs.ReadingExprs.{at_depth}
 use Rattle.cedar_reading.proofs.Manys.{ManyRead}
 use Rattle.cedar_cst.proofs.cst.policies.parse_conds.Given as goal
-use Rattle.cedar_tree.specs.Erased.{cond_parts}
+use Rattle.cedar_grammar.specs.Erased.{cond_parts}
 
 abbrev pub invariant-conds : goal.invariant-conds
 invariant-conds l = (length l.rest ≤ length l.fn.tokens)

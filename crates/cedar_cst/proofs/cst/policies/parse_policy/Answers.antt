@@ -14,7 +14,7 @@ use Rattle.cedar_reading.proofs.Rows.{row_span}
 use Rattle.cedar_cst.proofs.Starts.{node_starts}
 use Rattle.cedar_cst.proofs.Policies.{many_followed_fails, many_followed_done, repeat_opens, annotations_fail, effect_fails, scope_fails, ending_fails, policy_done, policy_stands, span_ends}
 use Rattle.cedar_cst.proofs.cst.policies.parse_policy.Goals as goal
-use Rattle.cedar_tree.specs.Erased.{cond_parts}
+use Rattle.cedar_grammar.specs.Erased.{cond_parts}
 
 abbrev E : Reader Lexeme
 E = expr_to kind greatest_depth

@@ -3,7 +3,7 @@ use Rattle.cedar_grammar.specs.Texts.{greatest_depth}
 use Rattle.cedar_grammar.specs.Trees.{Label}
 use Rattle.cedar_grammar.specs.Reader.Reading.{Reader}
 use Rattle.cedar_grammar.specs.Reader.Lines.{policy_rule}
-use Rattle.cedar_tree.specs.Erased.{policy_parts}
+use Rattle.cedar_grammar.specs.Erased.{policy_parts}
 use Rattle.cedar_cst.specs.ReadingExprs.{at_depth}
 use Rattle.cedar_reading.specs.declared.lexeme.Lexeme.{Lexeme}
 use Rattle.cedar_reading.proofs.Steps.{passes}

@@ -2,7 +2,7 @@ use Rattle.std.proofs.Common.{suc, length}
 use Rattle.cedar_grammar.specs.Texts.{greatest_depth}
 use Rattle.cedar_grammar.specs.Trees.{Label}
 use Rattle.cedar_grammar.specs.Reader.Lines.{policy_rule}
-use Rattle.cedar_tree.specs.Erased.{policy_parts}
+use Rattle.cedar_grammar.specs.Erased.{policy_parts}
 use Rattle.cedar_cst.specs.ReadingExprs.{at_depth}
 use Rattle.cedar_reading.proofs.Manys.{ManyRead}
 use Rattle.cedar_cst.proofs.Sets.{starts}

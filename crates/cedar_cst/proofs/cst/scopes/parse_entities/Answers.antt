@@ -3,10 +3,10 @@ use Rattle.cedar_tokens.specs.Kinds.{is_ident}
 use Rattle.cedar_grammar.specs.Trees.{Label, none, branch, join}
 use Rattle.cedar_grammar.specs.Reader.Reading.{done}
 use Rattle.cedar_grammar.specs.Reader.Lines.{entity_item}
-use Rattle.cedar_tree.specs.Erased.{expr_parts}
+use Rattle.cedar_grammar.specs.Erased.{expr_parts}
 use Rattle.cedar_reading.specs.Reading.{flat}
 use Rattle.cedar_cst.specs.ReadingItems.{StandsItems}
-use Rattle.cedar_tree.specs.NodeLists.{item_trees}
+use Rattle.cedar_grammar.specs.NodeLists.{item_trees}
 use Rattle.cedar_reading.proofs.Steps.{passes}
 use Rattle.cedar_reading.proofs.Refusals.{refused}
 use Rattle.cedar_reading.proofs.Manys.{flat_takes}

@@ -2,7 +2,7 @@ use Rattle.std.proofs.Common.{◌≤◌, length}
 use Rattle.cedar_tokens.specs.Kinds.{is_ident}
 use Rattle.cedar_grammar.specs.Trees.{Label}
 use Rattle.cedar_grammar.specs.Reader.Lines.{entity_item}
-use Rattle.cedar_tree.specs.Erased.{expr_parts}
+use Rattle.cedar_grammar.specs.Erased.{expr_parts}
 use Rattle.cedar_reading.specs.Reading.{flat}
 use Rattle.cedar_cst.proofs.Listed.{ItemsRead}
 use Rattle.cedar_cst.proofs.cst.scopes.parse_entities.Given as goal

@@ -1,7 +1,7 @@
 use Rattle.std.proofs.Common.{refl, sym, ◌∙◌, []}
 use Rattle.cedar_grammar.specs.Trees.{Label}
 use Rattle.cedar_grammar.proofs.Readers.Equations.{choice_yes, choice_no}
-use Rattle.cedar_tree.specs.Erased.{add_parts}
+use Rattle.cedar_grammar.specs.Erased.{add_parts}
 use Rattle.cedar_reading.proofs.Steps.{passes, gives_as}
 use Rattle.cedar_reading.proofs.Refusals.{refused}
 use Rattle.cedar_reading.proofs.Rows.{row_node}

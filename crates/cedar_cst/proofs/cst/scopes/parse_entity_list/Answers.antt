@@ -3,7 +3,7 @@ use Rattle.cedar_tokens.specs.declared.kind.Kind.TheVariants as K
 use Rattle.cedar_grammar.specs.Trees.{Label}
 use Rattle.cedar_grammar.specs.Reader.Rules.{items}
 use Rattle.cedar_grammar.specs.Reader.Lines.{maybe, entity_item}
-use Rattle.cedar_tree.specs.Erased.{expr_parts}
+use Rattle.cedar_grammar.specs.Erased.{expr_parts}
 use Rattle.cedar_reading.specs.Reading.{flat}
 use Rattle.cedar_cst.proofs.Bracketed.{square, enclosed_reader, enclosed_gives, primary_gives}
 use Rattle.cedar_cst.proofs.cst.scopes.parse_entity_list.Goals as goal

@@ -10,7 +10,7 @@ use Rattle.cedar_reading.proofs.Refusals.{refused}
 use Rattle.cedar_reading.proofs.Followed.{followed_fails, followed_done}
 use Rattle.cedar_cst.proofs.Scopes.{closing, first_fails, second_fails, action_fails, third_fails, scope_done, closed_scope, closing_stuck}
 use Rattle.cedar_cst.proofs.cst.scopes.parse_scope.Goals as goal
-use Rattle.cedar_tree.specs.Erased.{variable_parts}
+use Rattle.cedar_grammar.specs.Erased.{variable_parts}
 
 abbrev U : Reader Lexeme
 U = flat (scoped K.Principal K.PrincipalSlot)

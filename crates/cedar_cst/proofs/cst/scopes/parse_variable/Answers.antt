@@ -8,7 +8,7 @@ use Rattle.cedar_grammar.proofs.Readers.Equations.{onto, both_fails}
 use Rattle.cedar_reading.specs.Reading.{flat}
 use Rattle.cedar_reading.specs.ReadingParts.{slot_kind, variable_kind}
 use Rattle.cedar_reading.specs.declared.lexeme.Lexeme.{Lexeme}
-use Rattle.cedar_tree.specs.declared.tree.Slot.{Slot}
+use Rattle.cedar_grammar.specs.declared.tree.Slot.{Slot}
 use Rattle.cedar_reading.proofs.Steps.{passes}
 use Rattle.cedar_reading.proofs.Refusals.{refused}
 use Rattle.cedar_reading.proofs.Variables.{related, equal_reads, type_reads, typed_reads, member_reads, none_reads, in_reads, in_none, variable_done, variable_fails, variable_alone, variable_equal, variable_in, variable_is, variable_is_in}

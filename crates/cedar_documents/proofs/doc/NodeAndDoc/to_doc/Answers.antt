@@ -1,6 +1,6 @@
 use Rattle.cedar_grammar.specs.Trees.{Label, none}
-use Rattle.cedar_tree.specs.Erased.{Erased, node}
-use Rattle.cedar_tree.specs.NodeLists.{and_parts}
+use Rattle.cedar_grammar.specs.Erased.{Erased, node}
+use Rattle.cedar_grammar.specs.NodeLists.{and_parts}
 use Rattle.std.proofs.Common.{◌≡◌}
 use Rattle.cedar_documents.specs.Items.{items_of, listed}
 use Rattle.cedar_documents.proofs.Shown.{listed_alone}

@@ -1,5 +1,5 @@
 use Rattle.cedar_grammar.specs.Trees.{none}
-use Rattle.cedar_tree.specs.Erased.{Erased, ident_tree}
+use Rattle.cedar_grammar.specs.Erased.{Erased, ident_tree}
 use Rattle.std.proofs.Common.{◌≡◌}
 use Rattle.cedar_documents.specs.Items.{items_of, listed}
 use Rattle.cedar_documents.proofs.Shown.{listed_alone, apart_alone}

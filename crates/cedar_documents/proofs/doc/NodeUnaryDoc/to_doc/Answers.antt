@@ -1,5 +1,5 @@
 use Rattle.cedar_grammar.specs.Trees.{Label, none}
-use Rattle.cedar_tree.specs.Erased.{Erased, node, unary_parts}
+use Rattle.cedar_grammar.specs.Erased.{Erased, node, unary_parts}
 use Rattle.std.proofs.Common.{◌≡◌}
 use Rattle.cedar_documents.specs.Items.{items_of, listed}
 use Rattle.cedar_documents.proofs.Shown.{listed_alone}

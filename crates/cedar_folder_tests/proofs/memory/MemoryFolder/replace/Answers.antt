@@ -1,5 +1,5 @@
 use Rattle.std.proofs.Common.{◌∙◌, ap, sym}
-use Rattle.cedar_folder.specs.Folders.{stored}
+use Rattle.cedar_program.specs.Folders.{stored}
 use Rattle.cedar_folder_tests.specs.Logs.{picture_of}
 use Rattle.cedar_folder_tests.proofs.LogLemmas.{added, replace_done, same_version}
 use Rattle.cedar_folder_tests.proofs.memory.MemoryFolder.replace.Goals as goal

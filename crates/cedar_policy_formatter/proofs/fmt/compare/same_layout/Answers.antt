@@ -3,8 +3,8 @@ use Rattle.std.specs.Prelude.{◌↔◌, IsTrue}
 use Rattle.std.proofs.lemmas.Result.{err_from_is_err_and}
 use Rattle.cedar_tokens.specs.Listing.{comments}
 use Rattle.cedar_grammar.specs.Texts.{Accepted}
-use Rattle.cedar_tree.specs.Refusals.{Refuses}
-use Rattle.cedar_tree.proofs.Memory.{memory_map}
+use Rattle.cedar_grammar.specs.Refusals.{Refuses}
+use Rattle.cedar_grammar.proofs.Memory.{memory_map}
 use Rattle.cedar_cst.specs.PolicyReaders.{Position}
 use Rattle.cedar_cst.proofs.Readers.{goes_further, read_nothing}
 use Rattle.cedar_policy_formatter.specs.Refused.{RefusesOne}

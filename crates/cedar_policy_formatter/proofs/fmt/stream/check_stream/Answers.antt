@@ -2,7 +2,7 @@ use Rattle.std.proofs.Common.{ℕ, List, subst, sym}
 use Rattle.std.proofs.lemmas.Result.{err_from_is_err_and}
 use Rattle.cedar_streams.specs.Devices.{device_of}
 use Rattle.cedar_streams.specs.Texts.{GivesText}
-use Rattle.cedar_tree.proofs.Memory.{memory_map}
+use Rattle.cedar_grammar.proofs.Memory.{memory_map}
 use Rattle.cedar_written.specs.Refusals.{Refuses}
 use Rattle.cedar_policy_formatter.proofs.Runs.{unread}
 use Rattle.cedar_policy_formatter.proofs.fmt.stream.check_stream.Goals as goal

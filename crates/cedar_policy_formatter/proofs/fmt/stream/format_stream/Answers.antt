@@ -4,7 +4,7 @@ use Rattle.std.proofs.lemmas.Result.{err_from_is_err_and}
 use Rattle.std.specs.Io.KnownBytes.{Appends}
 use Rattle.cedar_streams.specs.Devices.{device_of}
 use Rattle.cedar_streams.specs.Texts.{AppendsPart, GivesText}
-use Rattle.cedar_tree.proofs.Memory.{memory_map}
+use Rattle.cedar_grammar.proofs.Memory.{memory_map}
 use Rattle.cedar_written.specs.Refusals.{Refuses}
 use Rattle.cedar_policy_formatter.proofs.Runs.{without_text}
 use Rattle.cedar_policy_formatter.proofs.fmt.stream.format_stream.Goals as goal

@@ -1,6 +1,6 @@
 use Rattle.std.proofs.Common.{drop, subst}
 use Rattle.std.specs.Prelude.{MatchResult}
-use Rattle.cedar_tree.specs.Refusals.{RefusesTokens}
+use Rattle.cedar_grammar.specs.Refusals.{RefusesTokens}
 use Rattle.cedar_reading.specs.Tokens.{HasTokens}
 use Rattle.cedar_cst.specs.PolicyReaders.{Position}
 use Rattle.cedar_cst.proofs.Readers.{rest_checked}

@@ -1,6 +1,6 @@
 use Rattle.std.proofs.Common.{◌≡◌, ◌∙◌, take, drop, refl, sym, ap, subst}
 use Rattle.std.proofs.lemmas.Result.{err_from_is_err_and}
-use Rattle.cedar_tree.specs.Refusals.{OutOfMemoryOr, Refuses}
+use Rattle.cedar_grammar.specs.Refusals.{OutOfMemoryOr, Refuses}
 use Rattle.cedar_reading.specs.Tokens.{HasTokens}
 use Rattle.cedar_reading.specs.Lexemes.{AreLexemes}
 use Rattle.cedar_reading.specs.Pieces.{IsFirstPiece, HasNoPiece}

@@ -1,3 +1,0 @@
--- Definitions used only by private contracts.
-pub mod Growing
-pub mod Parts

@@ -1,6 +1,0 @@
-pub mod NodeLaws
-pub mod RefusalLaws
-pub mod Memory
-pub mod Views
-pub mod Respanned
-mod Equal

@@ -1,5 +1,0 @@
-use Rattle.cedar_tree.proofs.NodeLaws.{nodes_have_the_plain_texts}
-use Rattle.cedar_tree.proofs.laws.nodes_have_the_plain_texts.Goals as goal
-
-pub returns : goal.returns
-returns c = nodes_have_the_plain_texts c.split_is_unique.ensures

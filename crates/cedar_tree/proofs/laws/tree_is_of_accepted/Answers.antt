@@ -1,5 +1,0 @@
-use Rattle.cedar_tree.proofs.NodeLaws.{tree_is_of_accepted}
-use Rattle.cedar_tree.proofs.laws.tree_is_of_accepted.Goals as goal
-
-pub returns : goal.returns
-returns c = tree_is_of_accepted
