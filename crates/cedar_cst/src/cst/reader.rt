@@ -2,13 +2,14 @@
 ghost use Rattle.std.specs.Prelude.{◌≡◌, ◌≤◌, ◌<◌, ◌+◌, ◌^◌, List, [], ◌∷◌, ◌++◌, length, map, drop, IfOk, IfErr, IfSome, OnErr, MatchResult, MatchOption};
 ghost use Rattle.std.specs.List.{All};
 ghost use Rattle.cedar_grammar.specs.Refusals.{OutOfMemoryOr, Refuses, RefusesTokens};
+ghost use Rattle.cedar_grammar.specs.Texts.{Accepted};
 ghost use Rattle.cedar_reading.specs.Lexemes.{AreLexemes};
 ghost use Rattle.cedar_reading.specs.Tokens.{HasTokens};
 ghost use Rattle.cedar_cst.specs.Inside.Parts.{moved_lexeme, place_before, HasPoliciesFrom, AreLexemesFrom, RefusesFrom, IsNext, IsPolicyFrom};
 ghost use Rattle.cedar_cst.specs.PolicyReaders.{HasPolicies, HasRead, HasEnded, GoesOn, IsPolicyOf, AreTokensOf};
 
 use crate::cst::policies::parse_set;
-use crate::laws::tree_has_the_policies;
+use crate::laws::{tree_has_the_policies, tree_is_of_accepted};
 use cedar_grammar::error::FormatError;
 use cedar_grammar::tree::{Node, Policies, Policy};
 use cedar_reading::commented::commented_tokens;
@@ -116,6 +117,26 @@ impl<'src> PolicyReader<'src> {
             text: piece.text,
             policy: piece.policy,
         }))
+    }
+
+    /// The next policy's part of the text, without its tree; `None` if there is none, however often it is called. The tokens, the
+    /// refusals and the reader are as `next_piece` has them.
+    pub fn next_text(
+        &mut self,
+        alloc: Global,
+        tokens: &mut Vec<WrappedToken<'src>>,
+    ) -> Result<Option<&'src str>, FormatError>
+        ensures answer { IfOk result (λ next. MatchOption next (HasEnded self.old) (λ text. GoesOn self.old self.new text.now)) }
+        ensures accepted { IfOk result (λ next. MatchOption next (self.new ≡ self.old) (λ text. Accepted text.now)) }
+        ensures tokens { IfOk result (λ next. MatchOption next (tokens.new ≡ tokens.old) (λ text. AreTokensOf text.now tokens.new.items)) }
+        ensures refusal { IfErr result (OutOfMemoryOr (Refuses self.old.text)) }
+        ensures refused { OnErr result (self.new ≡ self.old) }
+    {
+        tree_is_of_accepted();
+        match self.next_piece(alloc, tokens)? {
+            Some(piece) => Ok(Some(piece.text)),
+            None => Ok(None),
+        }
     }
 
     /// The part of the text that is not read yet.

@@ -150,6 +150,7 @@ permit(principal,action,resource);"#,
 
 fn expect_pieces(rt: &impl Abort, alloc: Global, row: &Pieces) {
     let mut reader = PolicyReader::new(row.text);
+    let mut texts = PolicyReader::new(row.text);
     let mut tokens = Vec::new(alloc);
     for want in row.pieces {
         let Some(piece) = reader.next_piece(alloc, &mut tokens).expect(rt, row.name) else {
@@ -157,6 +158,8 @@ fn expect_pieces(rt: &impl Abort, alloc: Global, row: &Pieces) {
         };
         expect_text(rt, piece.text, want.text, row.name);
         assert_eq!(rt; piece.policy.span, want.policy, "{}", row.name);
+        let text = texts.next_text(alloc, &mut tokens).expect(rt, row.name);
+        expect_text(rt, text.unwrap_or(""), want.text, row.name);
     }
     assert!(rt;
         matches!(reader.next_piece(alloc, &mut tokens), Ok(None)),

@@ -10,7 +10,7 @@ ghost use Rattle.cedar_written.specs.Texts.{Accepted};
 ghost use Rattle.cedar_policy_formatter.specs.Refused.{RefusesOne};
 ghost use Rattle.cedar_policy_formatter.specs.Inside.Alike.{plain_value, GoesOnAlike, HasNext, HasOtherNext};
 
-use cedar_cst::cst::laws::{accepted_is_not_refused, tree_is_of_accepted};
+use cedar_cst::cst::laws::accepted_is_not_refused;
 use cedar_cst::cst::{FormatError, PolicyReader};
 use cedar_documents::config::Config;
 use cedar_reading::check::{same_comments, same_values};
@@ -28,17 +28,16 @@ pub fn same_layout(alloc: Global, a: &str, b: &str, _config: &Config) -> Result<
 {
     written_texts_agree();
     accepted_is_not_refused();
-    tree_is_of_accepted();
     let mut first = PolicyReader::new(a);
     let mut second = PolicyReader::new(b);
     let mut first_tokens = Vec::new(alloc);
     let mut second_tokens = Vec::new(alloc);
     let mut same = true;
-    'pieces: while let Some(piece) = first.next_piece(alloc, &mut first_tokens)? {
+    'pieces: while let Some(text) = first.next_text(alloc, &mut first_tokens)? {
         if same {
             same = goes_on_alike(
                 alloc,
-                piece.text,
+                text,
                 &mut first_tokens,
                 &mut second,
                 &mut second_tokens,
@@ -66,8 +65,7 @@ fn goes_on_alike<'src>(
     ensures text { reader.new.text ≡ reader.old.text }
     ensures next { IfOk result (λ is_alike. MatchBool is_alike (GoesOnAlike text.now reader.old reader.new) (HasOtherNext text.now reader.old)) }
 {
-    tree_is_of_accepted();
-    match reader.next_piece(alloc, room) {
+    match reader.next_text(alloc, room) {
         Ok(Some(_)) => same_tokens(alloc, tokens, room),
         Err(FormatError::OutOfMemory) => Err(AllocError),
         _ => Ok(false),
@@ -100,7 +98,7 @@ fn has_more<'src>(
     ensures more { IfOk result (λ more. MatchBool more (HasNext reader.old) (HasEnded reader.old × (reader.new ≡ reader.old))) }
 {
     let mut more = false;
-    'rest: while let Some(_) = reader.next_piece(alloc, room)? {
+    'rest: while let Some(_) = reader.next_text(alloc, room)? {
         more = true;
     }
     Ok(more)

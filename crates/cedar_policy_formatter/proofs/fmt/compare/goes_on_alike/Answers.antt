@@ -7,14 +7,12 @@ same_tokens-requires-clause-first c = in_order c.args.text.now c.args.tokens.now
 
 pub same_tokens-requires-clause-second : goal.same_tokens-requires-clause-second
 same_tokens-requires-clause-second c =
-    in_order c.in-Ok-Some.field-0-0.text.now c.next_piece.new.tokens.items
-    (rw (c.in-Ok-Some.is, c.in-Ok-Some.field-0-is) at c.next_piece.ensures.tokens)
+    in_order c.in-Ok-Some.field-0-0.now c.next_text.new.tokens.items
+    (rw (c.in-Ok-Some.is, c.in-Ok-Some.field-0-is) at c.next_text.ensures.tokens)
 
 pub returns-in-Ok-Some-clause-next : goal.returns-in-Ok-Some-clause-next
 returns-in-Ok-Some-clause-next c =
-    let piece = c.in-Ok-Some.field-0-0.text.now in
-    let found = rw (c.in-Ok-Some.is, c.in-Ok-Some.field-0-is) at c.next_piece.ensures in
-    told_next c.args.text.now c.args.reader.now c.next_piece.new.self piece c.args.tokens.now.items
-    c.next_piece.new.tokens.items c.same_tokens.result
-    c.requires found.tokens found.answer
-    (c.tree_is_of_accepted.ensures piece found.policy.0 found.policy.1) c.same_tokens.ensures
+    let found = rw (c.in-Ok-Some.is, c.in-Ok-Some.field-0-is) at c.next_text.ensures in
+    told_next c.args.text.now c.args.reader.now c.next_text.new.self c.in-Ok-Some.field-0-0.now
+    c.args.tokens.now.items c.next_text.new.tokens.items c.same_tokens.result
+    c.requires found.tokens found.answer found.accepted c.same_tokens.ensures

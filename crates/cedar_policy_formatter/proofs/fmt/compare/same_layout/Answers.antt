@@ -9,7 +9,7 @@ use Rattle.cedar_cst.specs.PolicyReaders.{Position}
 use Rattle.cedar_cst.proofs.Readers.{goes_further, read_nothing}
 use Rattle.cedar_policy_formatter.specs.Refused.{RefusesOne}
 use Rattle.cedar_policy_formatter.proofs.EqualLists.{agree_begins, compared, more_differs, next_compared, still_compared}
-use Rattle.cedar_policy_formatter.proofs.fmt.compare.same_layout.Goals.{then-same+in_ok-same, else-same, then-same-2, else-same-2}
+use Rattle.cedar_policy_formatter.proofs.fmt.compare.same_layout.Goals.{then-same-2, else-same-2}
 use Rattle.cedar_policy_formatter.proofs.fmt.compare.same_layout.Goals as goal
 
 pub pieces-init : goal.pieces-init
@@ -21,37 +21,37 @@ pieces-init c = record {
 }
 
 pub pieces-smaller : goal.pieces-smaller
-pieces-smaller c = goes_further _ _ _ (rw c.in-Some.is at c.in_ok-piece.ensures.answer)
+pieces-smaller c = goes_further _ _ _ (rw c.in-Some.is at c.in_ok-text.ensures.answer)
+
+pub pieces-preserved-then-same : goal.pieces-preserved-then-same
+pieces-preserved-then-same c =
+    let so_far = c.pieces.invariant in
+    let goes_on = rw c.in-Some.is at c.in_ok-text.ensures.answer in
+    record {
+      first_text = goes_on.of_text ∙ so_far.first_text;
+      second_text = c.goes_on_alike.ensures.text ∙ so_far.second_text;
+      compared = next_compared c.accepted_is_not_refused.ensures c.pieces.first
+          c.next_text.new.self c.pieces.second c.goes_on_alike.new.reader c.in-Some.text.now
+          c.in_ok-same.same (rw c.if-same.true at so_far.compared) goes_on
+          (rw c.in-Some.is at c.in_ok-text.ensures.accepted) c.goes_on_alike.ensures.text
+          c.in_ok-same.ensures.next;
+    }
 
 pub pieces-preserved : goal.pieces-preserved
 pieces-preserved c =
-    let piece = c.in-Some.piece.text.now in
     let so_far = c.pieces.invariant in
-    let goes_on = rw c.in-Some.is at c.in_ok-piece.ensures.answer in
-    let own = rw c.in-Some.is at c.in_ok-piece.ensures.policy in
-    let first = goes_on.of_text ∙ so_far.first_text in
-    elim c.if-same.branch [
-      | then-same+in_ok-same w ↦ rw (w.second-is, w.same-is) (record {
-        first_text = first;
-        second_text = w.goes_on_alike.ensures.text ∙ so_far.second_text;
-        compared = next_compared c.accepted_is_not_refused.ensures c.pieces.first
-            c.next_piece.new.self c.pieces.second w.goes_on_alike.new.reader piece
-            w.in_ok-same.same (rw w.if-same.true at so_far.compared) goes_on
-            (c.tree_is_of_accepted.ensures piece own.0 own.1)
-            w.goes_on_alike.ensures.text w.in_ok-same.ensures.next;
-      })
-      | else-same w ↦ rw (w.second-is, w.same-is) (record {
-        first_text = first;
-        second_text = so_far.second_text;
-        compared = still_compared c.pieces.first c.next_piece.new.self c.pieces.second piece
-            c.pieces.same w.if-same.false goes_on so_far.compared;
-      })
-    ]
+    let goes_on = rw c.in-Some.is at c.in_ok-text.ensures.answer in
+    record {
+      first_text = goes_on.of_text ∙ so_far.first_text;
+      second_text = so_far.second_text;
+      compared = still_compared c.pieces.first c.next_text.new.self c.pieces.second
+          c.in-Some.text.now c.pieces.same c.if-same.false goes_on so_far.compared;
+    }
 
 pub returns-in_err-more-clause-answer : goal.returns-in_err-more-clause-answer
 returns-in_err-more-clause-answer c =
     let so_far = c.pieces.invariant in
-    let ended = rw c.in_default.is at c.in_ok-piece.ensures.answer in
+    let ended = rw c.in_default.is at c.in_ok-text.ensures.answer in
     let p =
     err_from_is_err_and c.from_residual-in_err-more.result c.from_residual-in_err-more.ensures.1 in
     rw (p.1, p.2) (memory_map (Refuses c.pieces.second.text) (RefusesOne c.args.a.now c.args.b.now)
@@ -66,7 +66,7 @@ returns-in_err-more-clause-answer c =
 pub returns-then-more-clause-answer : goal.returns-then-more-clause-answer
 returns-then-more-clause-answer c =
     let so_far = c.pieces.invariant in
-    let ended = rw c.in_default.is at c.in_ok-piece.ensures.answer in (
+    let ended = rw c.in_default.is at c.in_ok-text.ensures.answer in (
       (c.written_texts_agree.ensures.accepted c.args.a.now).0
           (subst Accepted so_far.first_text ended.accepted),
       (c.written_texts_agree.ensures.accepted c.args.b.now).0
@@ -76,7 +76,7 @@ returns-then-more-clause-answer c =
 pub returns-then-more-clause-lists : goal.returns-then-more-clause-lists
 returns-then-more-clause-lists c =
     let so_far = c.pieces.invariant in
-    let ended = rw c.in_default.is at c.in_ok-piece.ensures.answer in
+    let ended = rw c.in_default.is at c.in_ok-text.ensures.answer in
     let found = rw c.if-more.true at c.in_ok-more.ensures.more in (
       λ f. absurd cc,
       λ h. absurd (more_differs c.pieces.first c.pieces.second c.pieces.same so_far.compared ended
@@ -87,7 +87,7 @@ returns-then-more-clause-lists c =
 pub returns-clause-answer : goal.returns-clause-answer
 returns-clause-answer c =
     let so_far = c.pieces.invariant in
-    let ended = rw c.in_default.is at c.in_ok-piece.ensures.answer in (
+    let ended = rw c.in_default.is at c.in_ok-text.ensures.answer in (
       (c.written_texts_agree.ensures.accepted c.args.a.now).0
           (subst Accepted so_far.first_text ended.accepted),
       (c.written_texts_agree.ensures.accepted c.args.b.now).0
@@ -99,8 +99,8 @@ returns-clause-lists c =
     let so_far = c.pieces.invariant in
     let r = c.pieces.first in
     let s = c.pieces.second in
-    let ended = rw c.in_default.is at c.in_ok-piece.ensures.answer in
-    let unmoved = rw c.in_default.is at c.in_ok-piece.ensures.policy in
+    let ended = rw c.in_default.is at c.in_ok-text.ensures.answer in
+    let unmoved = rw c.in_default.is at c.in_ok-text.ensures.accepted in
     let found = rw c.if-more.false at c.in_ok-more.ensures.more in
     let left : c.rest.result.now ≡ drop r.at r.text =
     c.rest.ensures ∙ ap (λ (z : Position). drop z.at z.text) unmoved in
