@@ -1,5 +1,8 @@
--- Memory that a printer holds for reuse. Nothing else is to be known of it.
-use Rattle.std.specs.Prelude.{ℕ, min, vec_capacity}
+-- Memory that a printer holds for reuse, of which nothing else is to be known, and memory that a text lacks for a layout.
+use Rattle.std.specs.Prelude.{◌+◌, ◌<◌, ℕ, List, length, min, vec_capacity}
+use Rattle.cedar_layout.specs.Layout.{Doc}
+use Rattle.cedar_print.specs.WrittenMarks.{Mark, AreMarks}
+use Rattle.cedar_print.specs.Clean.{IsUntrimmedLayoutAt}
 use Rattle.cedar_print.specs.declared.measure.Known.{Known}
 use Rattle.cedar_print.specs.declared.place.Place.{Place}
 use Rattle.cedar_print.specs.declared.printer.Printer.{Printer}
@@ -15,3 +18,7 @@ room_in p = min (room_to_measure p.known) (vec_capacity p.outer)
 -- how many marks can be laid out without more memory, but for that of the text
 abbrev pub room_of : Printer → ℕ
 room_of p = room_in p.place
+
+-- a text of this capacity and length has no room for the layout at the width w of what the marks are of
+abbrev pub HasNoRoomFor : ℕ → List Mark → ℕ → ℕ → Type 0
+HasNoRoomFor w ms capacity len = (d : Doc) → AreMarks ms d → (u : List ℕ) × IsUntrimmedLayoutAt w d u × (capacity < len + length u)

@@ -1,13 +1,12 @@
 //! The layout of marks at a width, without blank lines.
-ghost use Rattle.std.specs.Prelude.{◌≡◌, ◌+◌, ◌*◌, ◌^◌, ◌<◌, ◌≤◌, ◌++◌, false, length, take, string_bytes, string_len, string_capacity, List, ℕ, OnOk, OnErr};
+ghost use Rattle.std.specs.Prelude.{◌≡◌, ◌+◌, ◌*◌, ◌<◌, ◌≤◌, ◌++◌, false, length, take, string_bytes, string_len, string_capacity, List, ℕ, OnOk, OnErr};
 ghost use Rattle.std.specs.Str.{trim};
 ghost use Rattle.cedar_layout.specs.Layout.{Doc};
 ghost use Rattle.cedar_print.specs.WrittenMarks.{AreMarks};
 ghost use Rattle.cedar_print.specs.Marks.{marks_of};
-ghost use Rattle.cedar_print.specs.Clean.{without_blank_lines, IsUntrimmedLayoutAt, IsTheCleanLayoutAt};
-ghost use Rattle.cedar_print.specs.Rooms.{room_of};
-ghost use Rattle.cedar_print.specs.Inside.Measured.{facts};
-ghost use Rattle.cedar_print.specs.Inside.Written.{units_at};
+ghost use Rattle.cedar_print.specs.Clean.{without_blank_lines, IsTheCleanLayoutAt};
+ghost use Rattle.cedar_print.specs.Rooms.{room_of, HasNoRoomFor};
+ghost use Rattle.cedar_print.specs.Inside.Written.{units_at, AreCounted, HasNoRoomForUnits};
 
 use crate::mark::Mark;
 use crate::place::Place;
@@ -46,9 +45,7 @@ impl Printer {
             × (string_bytes out.new ≡ string_bytes out.old ++ t)) }
         ensures err { OnErr result (string_bytes out.new ≡ string_bytes out.old) }
         // Memory runs out only where the printer has no room for so many marks, or `out` has none for the layout.
-        ensures memory { OnErr result (length marks.now ≤ room_of self.old → (d : Doc) → AreMarks (marks_of marks.now) d → (u : List ℕ)
-            × IsUntrimmedLayoutAt width d u
-            × (string_capacity out.old < string_len out.old + length u)) }
+        ensures memory { OnErr result (length marks.now ≤ room_of self.old → HasNoRoomFor width (marks_of marks.now) (string_capacity out.old) (string_len out.old)) }
         ensures room { room_of self.old ≤ room_of self.new }
     {
         self.lay_out_from::<Brand>(marks, width, out, Blank::new(1))
@@ -70,9 +67,7 @@ impl Printer {
             × (string_bytes out.new ≡ string_bytes out.old ++ t)) }
         ensures err { OnErr result (string_bytes out.new ≡ string_bytes out.old) }
         // Memory runs out only where the printer has no room for so many marks, or `out` has none for the layout.
-        ensures memory { OnErr result (length marks.now ≤ room_of self.old → (d : Doc) → AreMarks (marks_of marks.now) d → (u : List ℕ)
-            × IsUntrimmedLayoutAt width d u
-            × (string_capacity out.old < string_len out.old + length u)) }
+        ensures memory { OnErr result (length marks.now ≤ room_of self.old → HasNoRoomFor width (marks_of marks.now) (string_capacity out.old) (string_len out.old)) }
         ensures room { room_of self.old ≤ room_of self.new }
     {
         let mut steps: Steps<L> = Steps::new(blank);
@@ -92,9 +87,7 @@ impl Printer {
             × (string_bytes out.new ≡ string_bytes out.old ++ t)) }
         ensures err { OnErr result (string_bytes out.new ≡ string_bytes out.old) }
         // Memory runs out only where the printer has no room for so many marks, or `out` has none for the layout.
-        ensures memory { OnErr result (length marks.now ≤ room_of self.old → (d : Doc) → AreMarks (marks_of marks.now) d → (u : List ℕ)
-            × IsUntrimmedLayoutAt width d u
-            × (string_capacity out.old < string_len out.old + length u)) }
+        ensures memory { OnErr result (length marks.now ≤ room_of self.old → HasNoRoomFor width (marks_of marks.now) (string_capacity out.old) (string_len out.old)) }
         ensures room { room_of self.old ≤ room_of self.new }
         ensures steps { OnOk result (steps.new ≡ steps.old + 2 * length marks.now) }
         ensures least { steps.old ≤ steps.new }
@@ -117,10 +110,8 @@ impl Printer {
         steps: &mut Steps<L>,
     ) -> Result<(), AllocError>
         ensures ok { OnOk result (string_bytes out.new ≡ string_bytes out.old ++ trim (without_blank_lines false (units_at width (marks_of marks.now)))) }
-        ensures range { OnOk result ((facts (marks_of marks.now)).columns + 2 ^ 64 ≤ 2 ^ 128) }
-        ensures memory { OnErr result (length marks.now ≤ room_of self.old
-            → ((facts (marks_of marks.now)).columns + 2 ^ 64 ≤ 2 ^ 128)
-            × (string_capacity out.old < string_len out.old + length (without_blank_lines false (units_at width (marks_of marks.now))))) }
+        ensures range { OnOk result (AreCounted (marks_of marks.now)) }
+        ensures memory { OnErr result (length marks.now ≤ room_of self.old → HasNoRoomForUnits width (marks_of marks.now) (string_capacity out.old) (string_len out.old)) }
         ensures room { room_of self.old ≤ room_of self.new }
         ensures capacity { string_capacity out.old ≤ string_capacity out.new }
         ensures kept { take (length (string_bytes out.old)) (string_bytes out.new) ≡ string_bytes out.old }
@@ -142,10 +133,8 @@ impl Printer {
         steps: &mut Steps<L>,
     ) -> Result<(), AllocError>
         ensures ok { OnOk result (string_bytes out.new ≡ string_bytes out.old ++ without_blank_lines false (units_at width (marks_of marks.now))) }
-        ensures range { OnOk result ((facts (marks_of marks.now)).columns + 2 ^ 64 ≤ 2 ^ 128) }
-        ensures memory { OnErr result (length marks.now ≤ room_of self.old
-            → ((facts (marks_of marks.now)).columns + 2 ^ 64 ≤ 2 ^ 128)
-            × (string_capacity out.old < string_len out.old + length (without_blank_lines false (units_at width (marks_of marks.now))))) }
+        ensures range { OnOk result (AreCounted (marks_of marks.now)) }
+        ensures memory { OnErr result (length marks.now ≤ room_of self.old → HasNoRoomForUnits width (marks_of marks.now) (string_capacity out.old) (string_len out.old)) }
         ensures room { room_of self.old ≤ room_of self.new }
         ensures capacity { string_capacity out.old ≤ string_capacity out.new }
         ensures kept { take (length (string_bytes out.old)) (string_bytes out.new) ≡ string_bytes out.old }

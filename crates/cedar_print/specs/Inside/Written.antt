@@ -1,5 +1,5 @@
 -- What marks write, unit by unit. No public contract uses it.
-use Rattle.std.specs.Prelude.{◌≡◌, ℕ, ◌+◌, false, List, [], ◌∷◌, ◌++◌, ⊤, replicate, Option, Some, None}
+use Rattle.std.specs.Prelude.{◌≡◌, ℕ, ◌+◌, ◌^◌, ◌<◌, ◌≤◌, false, List, length, [], ◌∷◌, ◌++◌, ⊤, replicate, Option, Some, None}
 use Rattle.std.specs.List.{flat_map}
 use Rattle.cedar_layout.specs.Layout.{broken}
 use Rattle.cedar_print.specs.WrittenMarks.{Mark}
@@ -12,6 +12,14 @@ use Rattle.cedar_print.specs.Clean.{space, feed, units_of, is_blank, without_bla
 -- the units that marks write at a width
 abbrev pub units_at : ℕ → List Mark → List (List ℕ)
 units_at w ms = flat_map units_of (printed w ms (at_first (facts ms)))
+
+-- the columns of the marks can be counted
+abbrev pub AreCounted : List Mark → Type 0
+AreCounted ms = (facts ms).columns + 2 ^ 64 ≤ 2 ^ 128
+
+-- they can, and a text of this capacity and length has no room for the units at the width w, without blank lines
+abbrev pub HasNoRoomForUnits : ℕ → List Mark → ℕ → ℕ → Type 0
+HasNoRoomForUnits w ms capacity len = AreCounted ms × (capacity < len + length (without_blank_lines false (units_at w ms)))
 
 -- the units that a mark writes
 abbrev pub units_in : Option Written → List (List ℕ)
