@@ -1,7 +1,7 @@
 //! A formatter for policies.
 //!
-//! `policies_str_to_pretty` lays out a policy text. All modules it depends on are re-exported here, so that a user
-//! depends on this crate alone.
+//! `policies_str_to_pretty` lays out a policy text, and `ranges` gives the edits that lay out one, or a part of it. All modules it
+//! depends on are re-exported here, so that a user depends on this crate alone.
 #![tactic(auto)]
 
 pub mod fmt;

@@ -1,4 +1,5 @@
-//! The program `cedar`: the words of its command line, and a run, from its words to its exit status.
+//! What the programs do: `cedar`, from the words of its command line to its exit status, and the files of a folder, one after the
+//! other (`folder`).
 #![tactic(auto)]
 
 mod command;

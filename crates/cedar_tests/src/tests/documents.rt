@@ -1,4 +1,4 @@
-//! Layouts from the documents of policies are those of the formatter: it lays out what rows write on a sheet, and
+//! Layouts from the documents of policies are those of the formatter: it lays out the marks that it writes of rows, and
 //! `render` what `to_doc` makes of the same rows.
 use super::samples::{COMMENTS, CONDITIONS, ENDS, SCOPES, Sample, WIDTHS};
 use super::*;

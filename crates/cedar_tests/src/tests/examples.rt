@@ -1,4 +1,4 @@
-//! The examples of `docs/CALLING.md`, each called once.
+//! The examples of `cedar_examples`, each called once.
 use super::*;
 use cedar_examples::{
     LintError, Store, comments_of, fingerprint, first_document, print_rewritten, save,
