@@ -1,4 +1,4 @@
-//! The grammar of Cedar policies as a definition, and its laws.
+//! The grammar of Cedar policies as a definition, its trees, why a text has none, and laws.
 #![tactic(auto)]
 
 pub mod error;
