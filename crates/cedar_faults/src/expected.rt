@@ -51,7 +51,7 @@ fn leave<'src>(alloc: Global, text: &'src str) -> Result<Option<Leaving<'src>>, 
     let mut reader = PolicyReader::new(text);
     'policies: loop {
         match reader.next(alloc) {
-            Ok(Some(_)) => {}
+            Ok(Some(policy)) => drop(policy),
             Ok(None) => return Ok(None),
             Err(error) => {
                 let rest = reader.rest();

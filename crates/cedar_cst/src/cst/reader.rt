@@ -134,7 +134,10 @@ impl<'src> PolicyReader<'src> {
     {
         tree_is_of_accepted();
         match self.next_piece(alloc, tokens)? {
-            Some(piece) => Ok(Some(piece.text)),
+            Some(Piece { text, policy }) => {
+                drop(policy);
+                Ok(Some(text))
+            }
             None => Ok(None),
         }
     }

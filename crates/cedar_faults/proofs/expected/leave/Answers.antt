@@ -32,13 +32,13 @@ returns-in-Err c =
           c.in_ok-at-in-Err.ensures w.in-None.is r)
     ]
 
-pub policies-smaller-in-Ok-Some : goal.policies-smaller-in-Ok-Some
-policies-smaller-in-Ok-Some c =
+pub policies-smaller : goal.policies-smaller
+policies-smaller c =
     let text = c.args.text.now in
     let old = c.policies.reader in
     let new = c.next.new.self in
     let ps = c.policies.invariant.0 in
-    let more : HasRead new text (ps ++ c.in-Ok-Some.field-0-0 ∷ []) =
+    let more : HasRead new text (ps ++ c.in-Ok-Some.policy ∷ []) =
     rw c.in-Ok-Some.field-0-is at (c.in-Ok-Some.ensures.answer text ps c.policies.invariant.1) in
     let further : old.at < new.at = rw c.in-Ok-Some.field-0-is at c.in-Ok-Some.ensures.place in
     omega (
@@ -49,10 +49,10 @@ policies-smaller-in-Ok-Some c =
       ap length c.policies.invariant.1.of_text,
     )
 
-pub policies-preserved-in-Ok-Some : goal.policies-preserved-in-Ok-Some
-policies-preserved-in-Ok-Some c =
+pub policies-preserved : goal.policies-preserved
+policies-preserved c =
     let ps = c.policies.invariant.0 in (
-      ps ++ c.in-Ok-Some.field-0-0 ∷ [],
+      ps ++ c.in-Ok-Some.policy ∷ [],
       rw c.in-Ok-Some.field-0-is at
           (c.in-Ok-Some.ensures.answer c.args.text.now ps c.policies.invariant.1),
     )
