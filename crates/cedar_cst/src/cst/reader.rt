@@ -134,10 +134,7 @@ impl<'src> PolicyReader<'src> {
     {
         tree_is_of_accepted();
         match self.next_piece(alloc, tokens)? {
-            Some(Piece { text, policy }) => {
-                drop(policy);
-                Ok(Some(text))
-            }
+            Some(piece) => Ok(Some(piece.text)),
             None => Ok(None),
         }
     }
