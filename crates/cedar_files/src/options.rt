@@ -103,103 +103,90 @@ fn command<'a>(alloc: Global) -> Result<Command<'a>, AllocError> {
     with_files(alloc, with_layout(alloc, command)?)
 }
 
+// An option that is given or not.
+fn flag<'a>(alloc: Global, name: &'a str, help: &'a str) -> Arg<'a> {
+    Arg::new(alloc, name)
+        .long(name)
+        .action(ArgAction::SetTrue)
+        .help(help)
+}
+
+// An option with a value.
+fn option<'a>(alloc: Global, name: &'a str, value: &'a str, help: &'a str) -> Arg<'a> {
+    Arg::new(alloc, name)
+        .long(name)
+        .value_name(value)
+        .help(help)
+}
+
 // What is done, and how.
 fn with_modes<'a>(alloc: Global, command: Command<'a>) -> Result<Command<'a>, AllocError> {
-    let check = Arg::new(alloc, "check")
-        .short('c')
-        .long("check")
-        .action(ArgAction::SetTrue)
-        .help("Print the names of the files that aren't formatted, and change nothing");
-    let diff = Arg::new(alloc, "diff")
-        .long("diff")
-        .action(ArgAction::SetTrue)
-        .conflicts_with("check")?
-        .help("Print what would change, and change nothing");
-    let jobs = Arg::new(alloc, "jobs")
-        .short('j')
-        .long("jobs")
-        .value_name("N")
-        .value_parser(value_parser!(u16).range(1..))
-        .help("Accepted and without effect: one process does all files");
-    let quiet = Arg::new(alloc, "quiet")
-        .short('q')
-        .long("quiet")
-        .action(ArgAction::SetTrue)
-        .help("Don't show the progress and the summary");
-    command.arg(check)?.arg(diff)?.arg(jobs)?.arg(quiet)
+    let check = "Print the names of the files that aren't formatted, and change nothing";
+    let diff = "Print what would change, and change nothing";
+    let jobs = "Accepted and without effect: one process does all files";
+    let quiet = "Don't show the progress and the summary";
+    command
+        .arg(flag(alloc, "check", check).short('c'))?
+        .arg(flag(alloc, "diff", diff).conflicts_with("check")?)?
+        .arg(
+            option(alloc, "jobs", "N", jobs)
+                .short('j')
+                .value_parser(value_parser!(u16).range(1..)),
+        )?
+        .arg(flag(alloc, "quiet", quiet).short('q'))
 }
 
 // What is printed, and how.
 fn with_output<'a>(alloc: Global, command: Command<'a>) -> Result<Command<'a>, AllocError> {
-    let format = Arg::new(alloc, "format")
-        .long("output-format")
-        .value_name("FORMAT")
-        .value_parser(FORMATS.as_slice())
-        .conflicts_with("diff")?
-        .help(
-            "Print names and faults to standard output as workflow commands of GitHub, or as JSON, one object a line",
-        );
-    let zero = Arg::new(alloc, "zero")
-        .short('0')
-        .long("null")
-        .action(ArgAction::SetTrue)
-        .help("End names with a zero byte, and don't quote them");
-    command.arg(format)?.arg(zero)
+    let format =
+        "Print names and faults to standard output as workflow commands of GitHub, or as JSON, one object a line";
+    let null = "End names with a zero byte, and don't quote them";
+    command
+        .arg(
+            option(alloc, "output-format", "FORMAT", format)
+                .value_parser(FORMATS.as_slice())
+                .conflicts_with("diff")?,
+        )?
+        .arg(flag(alloc, "null", null).short('0'))
 }
 
 // How files are laid out.
 fn with_layout<'a>(alloc: Global, command: Command<'a>) -> Result<Command<'a>, AllocError> {
-    let indent = Arg::new(alloc, "indent")
-        .short('i')
-        .long("indent-width")
-        .value_name("N")
-        .value_parser(value_parser!(u16))
-        .help("The indentation of a level, in columns [default: as .editorconfig says, or 2]");
-    let width = Arg::new(alloc, "width")
-        .short('l')
-        .long("line-width")
-        .value_name("N")
-        .value_parser(value_parser!(u16))
-        .help("The width of a line, in columns [default: as .editorconfig says, or 80]");
-    let no_config = Arg::new(alloc, "no-config")
-        .long("no-config")
-        .action(ArgAction::SetTrue)
-        .help("Ignore files .editorconfig");
-    let verbose = Arg::new(alloc, "verbose")
-        .long("verbose")
-        .action(ArgAction::SetTrue)
-        .help("Tell on standard error how each file is laid out, and by what");
+    let indent = "The indentation of a level, in columns [default: as .editorconfig says, or 2]";
+    let width = "The width of a line, in columns [default: as .editorconfig says, or 80]";
+    let verbose = "Tell on standard error how each file is laid out, and by what";
     command
-        .arg(indent)?
-        .arg(width)?
-        .arg(no_config)?
-        .arg(verbose)
+        .arg(
+            option(alloc, "indent-width", "N", indent)
+                .short('i')
+                .value_parser(value_parser!(u16)),
+        )?
+        .arg(
+            option(alloc, "line-width", "N", width)
+                .short('l')
+                .value_parser(value_parser!(u16)),
+        )?
+        .arg(flag(alloc, "no-config", "Ignore files .editorconfig"))?
+        .arg(flag(alloc, "verbose", verbose))
 }
 
 // Which files.
 fn with_files<'a>(alloc: Global, command: Command<'a>) -> Result<Command<'a>, AllocError> {
-    let exclude = Arg::new(alloc, "exclude")
-        .long("exclude")
-        .value_name("GLOB")
-        .action(ArgAction::Append)
-        .help(
-            "Leave these files and folders alone: a name, or a path from the folder or from here, with *, ** and ?; may be repeated",
-        );
-    let force = Arg::new(alloc, "force-exclude")
-        .long("force-exclude")
-        .action(ArgAction::SetTrue)
-        .help("With --exclude: leave files and folders alone that are named, too");
-    let input_name = Arg::new(alloc, "stdin-filename")
-        .long("stdin-filename")
-        .value_name("NAME")
-        .help("With -: lay standard input out as this file, and report it by this name");
+    let exclude =
+        "Leave these files and folders alone: a name, or a path from the folder or from here, with *, ** and ?; may be repeated";
+    let force = "With --exclude: leave files and folders alone that are named, too";
+    let name = "With -: lay standard input out as this file, and report it by this name";
     let path = Arg::new(alloc, "path")
         .value_name("PATH")
         .action(ArgAction::Append)
         .num_args(1..)
         .required(true)
         .help("A file, or a folder that is searched for *.cedar; - for standard input");
-    command.arg(exclude)?.arg(force)?.arg(input_name)?.arg(path)
+    command
+        .arg(option(alloc, "exclude", "GLOB", exclude).action(ArgAction::Append))?
+        .arg(flag(alloc, "force-exclude", force))?
+        .arg(option(alloc, "stdin-filename", "NAME", name))?
+        .arg(path)
 }
 
 /// What a line of words asks for, or why it is refused, or the help or the version that it asks for. A word that isn't UTF-8
@@ -216,14 +203,14 @@ pub fn read_options<'a>(
     }
     Ok(Options {
         mode: Mode::of(matches.get_flag("check"), matches.get_flag("diff")),
-        format: match matches.get_str("format") {
+        format: match matches.get_str("output-format") {
             Some("github") => Format::Github,
             Some("json") => Format::Json,
             _ => Format::Text,
         },
-        ends_with_zero: matches.get_flag("zero"),
-        indent_width: matches.get_one::<u16>("indent"),
-        line_width: matches.get_one::<u16>("width"),
+        ends_with_zero: matches.get_flag("null"),
+        indent_width: matches.get_one::<u16>("indent-width"),
+        line_width: matches.get_one::<u16>("line-width"),
         reads_config: !matches.get_flag("no-config"),
         tells_layouts: matches.get_flag("verbose"),
         input_name: matches.get_str("stdin-filename"),
