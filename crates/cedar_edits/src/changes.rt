@@ -6,14 +6,14 @@ use crate::positions::{Encoding, Position, offset_at};
 use std::alloc::{AllocError, Global};
 
 /// Two positions in a text. The second is that of the first byte after the range.
-#[derive(Clone, Copy, PartialEq, Eq, Debug)]
+#[derive(Clone, Copy)]
 pub struct Range {
     pub start: Position,
     pub end: Position,
 }
 
 /// A change of a text.
-#[derive(Debug, Drop)]
+#[derive(Drop)]
 pub enum Change {
     /// This is the whole text from now on.
     Whole(String),
@@ -24,7 +24,7 @@ pub enum Change {
 /// A new text for a range of positions.
 ///
 /// The ranges of several edits are positions in the same text, each after the one before it, and don't overlap.
-#[derive(Debug, Drop)]
+#[derive(Drop)]
 pub struct PlacedEdit {
     pub range: Range,
     pub text: String,

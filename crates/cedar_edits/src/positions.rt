@@ -7,7 +7,7 @@ ghost use Rattle.cedar_edits.specs.Inside.Ends.{IsNextEnd};
 use memchr::memchr2;
 
 /// The unit in which the characters of a line are counted.
-#[derive(Clone, Copy, PartialEq, Eq, Debug)]
+#[derive(Clone, Copy)]
 pub enum Encoding {
     /// UTF-16 units: two for a character above U+FFFF, and one for any other.
     Utf16,
@@ -20,14 +20,14 @@ pub enum Encoding {
 /// A place in a text: its line and the units before it on that line, both from 0.
 ///
 /// A line ends with a line feed, a carriage return, or both in this order.
-#[derive(Clone, Copy, PartialEq, Eq, Debug)]
+#[derive(Clone, Copy)]
 pub struct Position {
     pub line: usize,
     pub character: usize,
 }
 
 /// A line of a text: its number, and the byte where it begins, both from 0.
-#[derive(Clone, Copy, PartialEq, Eq, Debug)]
+#[derive(Clone, Copy)]
 pub struct Line {
     pub number: usize,
     pub start: usize,

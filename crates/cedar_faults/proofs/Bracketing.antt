@@ -8,14 +8,14 @@ use Rattle.std.proofs.lemmas.Bool.Decides.{nat_tests}
 use Rattle.std.proofs.lemmas.List.{drop_more, length-drop, take-append-drop}
 use Rattle.std.proofs.lemmas.List.Sums.{sum_by-cons}
 use Rattle.cedar_tokens.specs.Split.{SplitsInto}
-use Rattle.cedar_tokens.specs.Kinds.{code, is_closing}
+use Rattle.cedar_tokens.specs.Kinds.{code, is_opening, is_closing}
 use Rattle.cedar_tokens.specs.TokenKinds.{kind_of}
 use Rattle.cedar_tokens.specs.UnitSteps.{unit_text}
 use Rattle.cedar_tokens.specs.declared.units.Unit.{Unit}
 use Rattle.cedar_tokens.proofs.Scanning.{split_unique}
 use Rattle.cedar_tokens.proofs.UnitsSoFar.{texts, texts_more}
 use Rattle.cedar_tokens.specs.declared.kind.Kind.{Kind}
-use Rattle.cedar_faults.specs.Brackets.{are_balanced, brackets, if_left_open, innermost, is_bracket, is_opening, leaves_open, left_open}
+use Rattle.cedar_faults.specs.Brackets.{are_balanced, brackets, if_left_open, innermost, is_bracket, leaves_open, left_open}
 use Rattle.cedar_faults.specs.Inside.Brackets.{IsUnclosed}
 use Rattle.cedar_faults.specs.declared.brackets.Bracket.{Bracket}
 

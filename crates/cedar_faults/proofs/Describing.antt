@@ -16,11 +16,12 @@ use Rattle.cedar_grammar.specs.Texts.{only_tokens}
 use Rattle.cedar_reading.specs.Tokens.{HasTokens}
 use Rattle.cedar_grammar.specs.declared.error.FormatError.{FormatError}
 use Rattle.cedar_grammar.specs.declared.error.FormatError.TheVariants.{UnknownCharacter, UnfinishedString, NumberTooLarge, Grammar, TooDeep, NoDocument, Unsound, OutOfMemory}
+use Rattle.cedar_grammar.specs.Refusals.{place_of}
 use Rattle.cedar_faults.specs.Expectations.{AreAllAfter, IsList}
 use Rattle.cedar_faults.specs.Inside.TokenBeginnings.{HasTree, KindsFollow}
 use Rattle.cedar_faults.proofs.Probed.{of_units}
 use Rattle.cedar_faults.specs.Faults.{IsFound}
-use Rattle.cedar_faults.specs.FirstFaults.{IsFirstOf, Reaches, place_of}
+use Rattle.cedar_faults.specs.FirstFaults.{IsFirstOf, Reaches}
 use Rattle.cedar_faults.specs.Marks.{EndsLine, EndsUnit, Marks, MarksUnit, MarksLast}
 use Rattle.cedar_faults.proofs.Ending.{reached_ends}
 use Rattle.cedar_faults.proofs.Leaving.{Start, start_tokens, start_splits}

@@ -18,9 +18,9 @@ use Rattle.cedar_grammar.specs.Numbers.{is_too_large}
 use Rattle.cedar_grammar.specs.Texts.{greatest_depth, only_tokens, Accepted, LeaveAfter}
 use Rattle.cedar_grammar.specs.declared.error.FormatError.{FormatError}
 use Rattle.cedar_grammar.specs.declared.error.FormatError.TheVariants.{UnknownCharacter, UnfinishedString, NumberTooLarge, Grammar, TooDeep, NoDocument, Unsound, OutOfMemory}
-use Rattle.cedar_grammar.specs.Refusals.{Refuses}
+use Rattle.cedar_grammar.specs.Refusals.{Refuses, place_of}
 use Rattle.cedar_faults.proofs.Begun.{begins_front, list_begins}
-use Rattle.cedar_faults.specs.FirstFaults.{IsFirstOf, IsNext, LeavesAt, Reaches, place_of}
+use Rattle.cedar_faults.specs.FirstFaults.{IsFirstOf, IsNext, LeavesAt, Reaches}
 use Rattle.cedar_faults.specs.Faults.{SearchFinds}
 use Rattle.cedar_faults.specs.Faults.SearchFinds.{nothing, policy, fault}
 use Rattle.cedar_faults.specs.Laws.{FirstIsFurthest, FirstIsBeforeRefusal, FirstNoneIfAccepted, NoneIfAccepted}

@@ -1,18 +1,14 @@
 -- The bracket that is still open at a fault.
-use Rattle.std.specs.Prelude.{ℕ, ◌+◌, Bool, true, false, not, ◌&&◌, ◌||◌, ◌==◌, if◌then◌else◌, List, [], ◌∷◌, ◌++◌, length, Option, Some, None, codes}
+use Rattle.std.specs.Prelude.{ℕ, ◌+◌, Bool, true, not, ◌&&◌, ◌||◌, ◌==◌, if◌then◌else◌, List, [], ◌∷◌, ◌++◌, length, Option, Some, None, codes}
 use Rattle.std.specs.Borrow.{Bor}
 use Rattle.std.specs.List.{filter}
 use Rattle.std.specs.Option.{option_or}
 use Rattle.cedar_tokens.specs.declared.kind.Kind.{Kind}
-use Rattle.cedar_tokens.specs.declared.kind.Kind.TheVariants.{LParen, RParen, LBracket, RBracket, LBrace, RBrace, SemiColon}
-use Rattle.cedar_tokens.specs.Kinds.{is, is_closing}
+use Rattle.cedar_tokens.specs.declared.kind.Kind.TheVariants.{SemiColon}
+use Rattle.cedar_tokens.specs.Kinds.{is, is_opening, is_closing, is_closed_by}
 use Rattle.cedar_tokens.specs.TokenKinds.{kind_of}
 use Rattle.cedar_faults.specs.Samples.{sample}
 use Rattle.cedar_faults.specs.declared.brackets.Bracket.{Bracket}
-
--- ( [ {
-abbrev pub is_opening : Kind → Bool
-is_opening x = is LParen x || is LBracket x || is LBrace x
 
 -- a bracket of either kind
 abbrev pub is_bracket : Kind → Bool
@@ -33,13 +29,6 @@ are_balanced bs = length (filter (λ b. is_opening b.kind) bs) == length (filter
 abbrev pub innermost : List Bracket → Option Bracket
 innermost [] = None
 innermost (b ∷ bs) = option_or (innermost bs) (if is_opening b.kind && are_balanced bs then Some b else None)
-
--- what closes a bracket of a kind
-abbrev pub is_closed_by : Kind → Kind → Bool
-is_closed_by LParen x = is RParen x
-is_closed_by LBracket x = is RBracket x
-is_closed_by LBrace x = is RBrace x
-is_closed_by k x = false
 
 -- a token that leaves a bracket of a kind open: a `;`, or a closing bracket of another kind
 abbrev pub passes_over : Kind → Kind → Bool

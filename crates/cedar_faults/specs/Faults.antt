@@ -7,10 +7,11 @@ use Rattle.cedar_grammar.specs.Texts.{only_tokens, Accepted}
 use Rattle.cedar_grammar.specs.declared.error.FormatError.{FormatError}
 use Rattle.cedar_grammar.specs.declared.error.FormatError.TheVariants.{UnknownCharacter, UnfinishedString, NumberTooLarge, Grammar, TooDeep, NoDocument, Unsound, OutOfMemory}
 use Rattle.cedar_reading.specs.Pieces.{IsPiece}
+use Rattle.cedar_grammar.specs.Refusals.{place_of}
 use Rattle.cedar_faults.specs.declared.expectation.Expected.{Expected}
 use Rattle.cedar_faults.specs.Expectations.{AreAllAfter, IsList}
 use Rattle.cedar_faults.specs.Naming.{AreNamed}
-use Rattle.cedar_faults.specs.FirstFaults.{IsFirstOf, Reaches, place_of}
+use Rattle.cedar_faults.specs.FirstFaults.{IsFirstOf, Reaches}
 use Rattle.cedar_faults.specs.Marks.{Marks}
 use Rattle.cedar_faults.specs.Brackets.{left_open}
 use Rattle.cedar_faults.specs.Recovery.{Resumes}

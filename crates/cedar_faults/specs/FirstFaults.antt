@@ -1,5 +1,5 @@
 -- The first fault of a text: the first byte at which no accepted text continues.
-use Rattle.std.specs.Prelude.{◌≡◌, ℕ, Bool, true, false, List, [], ◌∷◌, length, drop, Option, Some, None}
+use Rattle.std.specs.Prelude.{◌≡◌, ℕ, Bool, true, false, List, [], ◌∷◌, length, drop}
 use Rattle.std.specs.List.{list_any, sum_by}
 use Rattle.cedar_tokens.specs.Units.{IsFirstUnit}
 use Rattle.cedar_tokens.specs.Split.{Scans, IsFirstFault, fault_kind}
@@ -44,12 +44,3 @@ IsFirstOf text (NumberTooLarge at) = Reaches text at × IsTooLargeAt text at
 IsFirstOf text (Grammar at) = LeavesAt text at false
 IsFirstOf text (TooDeep at) = LeavesAt text at true
 IsFirstOf text e = ⊥
-
--- the place of an error, if it has one
-abbrev pub place_of : FormatError → Option ℕ
-place_of (UnknownCharacter at) = Some at
-place_of (UnfinishedString at) = Some at
-place_of (NumberTooLarge at) = Some at
-place_of (Grammar at) = Some at
-place_of (TooDeep at) = Some at
-place_of e = None

@@ -2,10 +2,10 @@
 use Rattle.std.specs.Prelude.{◌≡◌, ◌<◌, ◌≤◌, ◌↔◌, ℕ, List, [], Some}
 use Rattle.cedar_grammar.specs.Texts.{Accepted}
 use Rattle.cedar_grammar.specs.declared.error.FormatError.{FormatError}
-use Rattle.cedar_grammar.specs.Refusals.{Refuses}
+use Rattle.cedar_grammar.specs.Refusals.{Refuses, place_of}
 use Rattle.cedar_faults.specs.declared.fault.Fault.{Fault}
 use Rattle.cedar_faults.specs.Faults.{AreFaults, AreFirstFaults}
-use Rattle.cedar_faults.specs.FirstFaults.{IsFirstOf, Reaches, place_of}
+use Rattle.cedar_faults.specs.FirstFaults.{IsFirstOf, Reaches}
 
 -- an accepted text has no faults, and any other has some
 abbrev pub NoneIfAccepted : Type 0

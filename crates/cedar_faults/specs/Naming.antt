@@ -3,7 +3,7 @@ use Rattle.std.specs.Prelude.{◌≡◌, Bool, not, ◌||◌, IsTrue, List, [], 
 use Rattle.std.specs.List.{filter}
 use Rattle.cedar_tokens.specs.declared.kind.Kind.{Kind}
 use Rattle.cedar_tokens.specs.declared.kind.Kind.TheVariants as K
-use Rattle.cedar_tokens.specs.Kinds.{is, is_boolean, is_ident, is_any_word, is_effect, is_cond_word, is_comparison}
+use Rattle.cedar_tokens.specs.Kinds.{is, is_boolean, is_ident, is_any_word, is_effect, is_cond_word, is_comparison, is_opening}
 use Rattle.cedar_grammar.specs.Reader.Rules.{expr_first}
 use Rattle.cedar_faults.specs.declared.kinds.Name.{Name}
 use Rattle.cedar_faults.specs.declared.kinds.Name.TheVariants.{Policy, Condition, Word, Expression, Operand, FlatOperand, Identifier, Operator, ArithmeticOrLogical, Token}
@@ -11,10 +11,6 @@ use Rattle.cedar_faults.specs.declared.kinds.Name.TheVariants.{Policy, Condition
 -- the start of an operand without signs and brackets
 abbrev pub is_flat : Kind → Bool
 is_flat x = is_ident x || is_boolean x || is K.Number x || is K.Str x
-
--- ( [ {
-abbrev pub is_opening : Kind → Bool
-is_opening x = is K.LParen x || is K.LBracket x || is K.LBrace x
 
 -- + - * && ||
 abbrev pub is_arithmetic_or_logical : Kind → Bool

@@ -1,8 +1,7 @@
 //! The bracket that is still open at a fault.
 ghost use Rattle.std.specs.Prelude.{◌≡◌, IfOk, Some};
-ghost use Rattle.cedar_tokens.specs.Kinds.{is_closing};
 ghost use Rattle.cedar_tokens.specs.Split.{Splits};
-ghost use Rattle.cedar_faults.specs.Brackets.{if_left_open, innermost, is_bracket, is_closed_by, is_opening, leaves_open, passes_over, told_open};
+ghost use Rattle.cedar_faults.specs.Brackets.{if_left_open, innermost, is_bracket, leaves_open, passes_over, told_open};
 ghost use Rattle.cedar_faults.specs.Inside.Brackets.{AreBrackets, IsUnclosed};
 
 use crate::samples::sample;
@@ -72,11 +71,11 @@ fn innermost(brackets: &[Bracket]) -> Option<Bracket>
     let mut closed: usize = 0;
     for i in (0..brackets.len()).rev() {
         let bracket = brackets[i];
-        if is_closing(bracket.kind) {
+        if bracket.kind.is_closing() {
             closed += 1;
             continue;
         }
-        if !is_opening(bracket.kind) {
+        if !bracket.kind.is_opening() {
             continue;
         }
         if closed == 0 {
@@ -111,38 +110,12 @@ fn leaves_open(found: Option<&str>, kind: Kind) -> bool
 fn passes_over(bracket: Kind, kind: Kind) -> bool
     ensures { result ≡ passes_over bracket kind }
 {
-    matches!(kind, Kind::SemiColon) || (is_closing(kind) && !is_closed_by(bracket, kind))
-}
-
-// Whether a token of the second kind closes a bracket of the first.
-fn is_closed_by(bracket: Kind, kind: Kind) -> bool
-    ensures { result ≡ is_closed_by bracket kind }
-{
-    match bracket {
-        Kind::LParen => matches!(kind, Kind::RParen),
-        Kind::LBracket => matches!(kind, Kind::RBracket),
-        Kind::LBrace => matches!(kind, Kind::RBrace),
-        _ => false,
-    }
+    matches!(kind, Kind::SemiColon) || (kind.is_closing() && !bracket.is_closed_by(kind))
 }
 
 // Whether it is the kind of a bracket.
 fn is_bracket(kind: Kind) -> bool
     ensures { result ≡ is_bracket kind }
 {
-    is_opening(kind) || is_closing(kind)
-}
-
-// Whether it is the kind of an opening bracket.
-fn is_opening(kind: Kind) -> bool
-    ensures { result ≡ is_opening kind }
-{
-    matches!(kind, Kind::LParen | Kind::LBracket | Kind::LBrace)
-}
-
-// Whether it is the kind of a closing bracket.
-fn is_closing(kind: Kind) -> bool
-    ensures { result ≡ is_closing kind }
-{
-    matches!(kind, Kind::RParen | Kind::RBracket | Kind::RBrace)
+    kind.is_opening() || kind.is_closing()
 }

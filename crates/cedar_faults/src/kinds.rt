@@ -1,7 +1,7 @@
 //! Sets of kinds of tokens, and how a message names them.
 ghost use Rattle.std.specs.Prelude.{◌≡◌, ◌↔◌, Contains, IsTrue, IfOk};
 ghost use Rattle.std.specs.List.{list_any};
-ghost use Rattle.cedar_faults.specs.Naming.{names, groups, AreIn, AreNamed, IsNameOf, is_flat, is_opening, is_arithmetic_or_logical, is_relational};
+ghost use Rattle.cedar_faults.specs.Naming.{names, groups, AreIn, AreNamed, IsNameOf, is_flat, is_arithmetic_or_logical, is_relational};
 
 use crate::samples::all_kinds;
 use cedar_grammar::kind::begins_expression;
@@ -50,7 +50,7 @@ impl Name {
             Name::Condition => kind.is_cond_word(),
             Name::Word => kind.is_word(),
             Name::Expression => begins_expression(kind),
-            Name::Operand => is_flat(kind) || is_opening(kind),
+            Name::Operand => is_flat(kind) || kind.is_opening(),
             Name::FlatOperand => is_flat(kind),
             Name::Identifier => kind.is_identifier(),
             Name::Operator => is_arithmetic_or_logical(kind) || is_relational(kind),
@@ -144,12 +144,6 @@ fn is_flat(kind: Kind) -> bool
     kind.is_identifier() || matches!(kind, Kind::True | Kind::False | Kind::Number | Kind::Str)
 }
 
-fn is_opening(kind: Kind) -> bool
-    ensures { result ≡ is_opening kind }
-{
-    matches!(kind, Kind::LParen | Kind::LBracket | Kind::LBrace)
-}
-
 fn is_arithmetic_or_logical(kind: Kind) -> bool
     ensures { result ≡ is_arithmetic_or_logical kind }
 {
@@ -159,21 +153,9 @@ fn is_arithmetic_or_logical(kind: Kind) -> bool
     )
 }
 
-// Whether it compares, or says what an operand has or is.
-fn is_relational(kind: Kind) -> bool
+/// Whether it compares, or says what an operand has or is.
+pub(crate) fn is_relational(kind: Kind) -> bool
     ensures { result ≡ is_relational kind }
 {
-    matches!(
-        kind,
-        Kind::Lt
-            | Kind::Le
-            | Kind::Gt
-            | Kind::Ge
-            | Kind::NotEqual
-            | Kind::Equal
-            | Kind::In
-            | Kind::Has
-            | Kind::Like
-            | Kind::Is
-    )
+    kind.is_comparison() || matches!(kind, Kind::Has | Kind::Like | Kind::Is)
 }

@@ -1,7 +1,7 @@
 //! Faults of a part of a text as faults of the whole.
 ghost use Rattle.std.specs.Prelude.{◌≡◌, ◌+◌, ◌<◌, ◌^◌, ◌≢◌, IfSome, MatchOption, None, Some, option_map, ⊤};
 ghost use Rattle.cedar_faults.specs.Faults.{later, moved, moved_bracket, moved_part};
-ghost use Rattle.cedar_faults.specs.FirstFaults.{place_of};
+ghost use Rattle.cedar_grammar.specs.Refusals.{place_of};
 ghost use Rattle.cedar_faults.specs.Inside.Searches.{HasRoom, HasRoomAt};
 
 use crate::brackets::Bracket;
@@ -15,14 +15,7 @@ pub(crate) fn place(error: FormatError) -> usize
     requires { place_of error ≢ None }
     ensures { place_of error ≡ Some result }
 {
-    match error {
-        FormatError::UnknownCharacter { at }
-        | FormatError::UnfinishedString { at }
-        | FormatError::NumberTooLarge { at }
-        | FormatError::Grammar { at }
-        | FormatError::TooDeep { at } => at,
-        FormatError::NoDocument | FormatError::Unsound | FormatError::OutOfMemory => 0,
-    }
+    error.at().unwrap_or(0)
 }
 
 /// The fault so many bytes later.

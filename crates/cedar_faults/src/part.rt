@@ -1,5 +1,5 @@
 //! The parts that the lines of the grammar are made of.
-ghost use Rattle.cedar_tokens.specs.Kinds.{is, is_boolean, is_comparison};
+ghost use Rattle.cedar_tokens.specs.Kinds.{is, is_boolean};
 ghost use Rattle.std.specs.Prelude.{◌≡◌, if◌then◌else◌};
 ghost use Rattle.cedar_faults.specs.Inside.Turns.{is_optional, step_of, stopped, taken, turn};
 
@@ -269,7 +269,7 @@ impl Part {
             Part::MoreAnd if kind == Kind::And => Takes(&[Part::Relation, Part::MoreAnd]),
             Part::MoreAnd => Opens(&[]),
             Part::Relation => Opens(&[Part::Add, Part::Comparison]),
-            Part::Comparison if is_comparison(kind) => Takes(&[Part::Add]),
+            Part::Comparison if kind.is_comparison() => Takes(&[Part::Add]),
             Part::Comparison if kind == Kind::Has => Takes(&[Part::HasOperand]),
             Part::Comparison if kind == Kind::Like => Takes(&[Part::Token(Kind::Str)]),
             Part::Comparison if kind == Kind::Is => Takes(&[
@@ -439,13 +439,4 @@ fn is_boolean(kind: Kind) -> bool
     ensures { result ≡ is_boolean kind }
 {
     matches!(kind, Kind::True | Kind::False)
-}
-
-fn is_comparison(kind: Kind) -> bool
-    ensures { result ≡ is_comparison kind }
-{
-    matches!(
-        kind,
-        Kind::Lt | Kind::Le | Kind::Gt | Kind::Ge | Kind::NotEqual | Kind::Equal | Kind::In
-    )
 }

@@ -12,7 +12,7 @@ pub const FAILED: u8 = 1;
 pub const UNFORMATTED: u8 = 3;
 
 /// How many files there were of each kind, at most as many as a `usize` can tell.
-#[derive(Clone, Copy, Debug)]
+#[derive(Clone, Copy)]
 pub struct Counts {
     /// Not formatted, or replaced.
     pub changed: usize,

@@ -18,24 +18,43 @@ pub fn write_diff<W: Write>(
 ) -> io::Result<()> {
     let old = lines_of(alloc, before)?;
     let new = lines_of(alloc, after)?;
-    let mut numbers = Numbers::new(alloc);
-    let old_numbers = numbers.all(alloc, &old)?;
-    let new_numbers = numbers.all(alloc, &new)?;
-    let changes = changes(alloc, &old_numbers, &new_numbers)?;
     // (what takes memory is done before anything is written)
+    let changes = changes_of(alloc, &old, &new)?;
     let hunks = hunks_of(alloc, &changes)?;
     write!(out, "--- {}\n", Label("a", name))?;
     write!(out, "+++ {}\n", Label("b", name))?;
     let mut passed = Passed::new();
     for hunk in &hunks {
         passed = passed.up_to(&changes, hunk.start);
-        write_header(out, passed, passed.up_to(&changes, hunk.end))?;
-        for change in changes.get(hunk.start..hunk.end).unwrap_or(&[]) {
-            write_line(out, passed, *change, &old, &new)?;
-            passed.pass(*change);
-        }
+        let changes = changes.get(..hunk.end).unwrap_or(&changes);
+        passed = write_hunk(out, passed, changes, &old, &new)?;
     }
     Ok(())
+}
+
+// What makes the new lines of the old ones.
+fn changes_of(alloc: Global, old: &[&str], new: &[&str]) -> io::Result<Vec<Change>> {
+    let mut numbers = Numbers::new(alloc);
+    let old = numbers.all(alloc, old)?;
+    let new = numbers.all(alloc, new)?;
+    Ok(changes(alloc, &old, &new)?)
+}
+
+// Writes the changes of a hunk, before which this is passed and which is the last one, and returns what is passed after it.
+fn write_hunk<W: Write>(
+    out: &mut W,
+    start: Passed,
+    changes: &[Change],
+    old: &[&str],
+    new: &[&str],
+) -> io::Result<Passed> {
+    write_header(out, start, start.up_to(changes, changes.len()))?;
+    let mut passed = start;
+    for change in changes.get(start.changes..).unwrap_or(&[]) {
+        write_line(out, passed, *change, old, new)?;
+        passed.pass(*change);
+    }
+    Ok(passed)
 }
 
 // The lines of a text, each with its line feed.

@@ -77,21 +77,11 @@ impl<'a, 'r> Disk<'a, 'r> {
     fn print(&mut self, name: &str, outcome: &Outcome) {
         match outcome {
             Outcome::Formatted | Outcome::Empty => {}
-            Outcome::Replaced => self.reports.add(&Remark {
-                kind: Kind::Replaced,
-                file: name,
-                place: None,
-                message: "replaced",
-            }),
+            Outcome::Replaced => self.reports.tell(Kind::Replaced, name, "replaced"),
             Outcome::Unformatted { bytes, output } => {
                 self.print_unformatted(name, bytes, output.as_str());
             }
-            Outcome::NotUtf8 => self.reports.add(&Remark {
-                kind: Kind::Refused,
-                file: name,
-                place: None,
-                message: "input is not UTF-8",
-            }),
+            Outcome::NotUtf8 => self.reports.tell(Kind::Refused, name, "input is not UTF-8"),
             Outcome::Refused { error, bytes } => {
                 if let Ok(text) = str::from_utf8(bytes) {
                     self.reports.refuse(name, text, *error);
@@ -101,12 +91,8 @@ impl<'a, 'r> Disk<'a, 'r> {
             Outcome::Unwritten(error) => self.reports.fail(name, "cannot be written: ", error),
             Outcome::LeftBeside { error, beside } => {
                 self.reports.fail(name, "cannot be written: ", error);
-                self.reports.add(&Remark {
-                    kind: Kind::Failed,
-                    file: beside.as_str(),
-                    place: None,
-                    message: "cannot be removed",
-                });
+                self.reports
+                    .tell(Kind::Failed, beside.as_str(), "cannot be removed");
             }
         }
     }

@@ -5,7 +5,7 @@ ghost use Rattle.cedar_files.specs.Places.{IsPlaceAfter, shared};
 ghost use Rattle.cedar_policy_formatter.specs.Places.{is_line_feed};
 
 /// A place in a text. Both numbers are counted from 1, columns in bytes, and only a line feed ends a line.
-#[derive(Clone, Copy, Debug, PartialEq, Eq)]
+#[derive(Clone, Copy)]
 pub struct Place {
     pub line: usize,
     pub column: usize,

@@ -22,7 +22,7 @@ const MOST_FOR_PEOPLE: usize = 10;
 const MOST_FOR_PROGRAMS: usize = 100;
 
 /// What is said about a file.
-#[derive(Clone, Copy, Debug, PartialEq, Eq)]
+#[derive(Clone, Copy)]
 pub enum Kind {
     /// It isn't formatted.
     Unformatted,
@@ -91,6 +91,16 @@ impl<'a> Reports<'a> {
         self.add_with(remark, None);
     }
 
+    /// Prints a remark about a file as a whole.
+    pub fn tell(&mut self, kind: Kind, file: &str, message: &str) {
+        self.add(&Remark {
+            kind,
+            file,
+            place: None,
+            message,
+        });
+    }
+
     // Prints a remark. An object of JSON also tells the bracket that a fault leaves open.
     fn add_with(&mut self, remark: &Remark<'_>, bracket: Option<&ShownBracket>) {
         self.hide_progress();
@@ -110,7 +120,11 @@ impl<'a> Reports<'a> {
             if self.print_faults(file, text).is_ok() {
                 return;
             }
-            self.add_failure(file, "out of memory, so not all its faults are reported");
+            self.tell(
+                Kind::Failed,
+                file,
+                "out of memory, so not all its faults are reported",
+            );
         }
         self.add(&Remark {
             kind: match error {
@@ -126,8 +140,8 @@ impl<'a> Reports<'a> {
     /// Prints that a file couldn't be read or written, or something else that failed, and why.
     pub fn fail(&mut self, file: &str, what: &str, error: &io::Error) {
         match format!(in self.rt.alloc(); "{what}{}", Why(error)) {
-            Ok(message) => self.add_failure(file, message.as_str()),
-            Err(_) => self.add_failure(file, "out of memory"),
+            Ok(message) => self.tell(Kind::Failed, file, message.as_str()),
+            Err(_) => self.tell(Kind::Failed, file, "out of memory"),
         }
     }
 
@@ -137,7 +151,7 @@ impl<'a> Reports<'a> {
         let printed = write_diff(self.rt.alloc(), &mut self.out, file, before, after);
         if let Err(error) = &printed {
             if error.kind() == ErrorKind::OutOfMemory {
-                self.add_failure(file, "out of memory");
+                self.tell(Kind::Failed, file, "out of memory");
             }
         }
         self.keep(printed);
@@ -178,16 +192,6 @@ impl<'a> Reports<'a> {
             }
             None => true,
         }
-    }
-
-    // Prints what failed about a file.
-    fn add_failure(&mut self, file: &str, message: &str) {
-        self.add(&Remark {
-            kind: Kind::Failed,
-            file,
-            place: None,
-            message,
-        });
     }
 
     // Removes the line of the progress.
@@ -289,12 +293,7 @@ impl<'a> Reports<'a> {
             self.print_fault(file, &ShownFault { text, fault })?;
         }
         if faults.len() > most {
-            self.add(&Remark {
-                kind: Kind::Refused,
-                file,
-                place: None,
-                message: "more faults, which are left out",
-            });
+            self.tell(Kind::Refused, file, "more faults, which are left out");
         }
         Ok(())
     }
@@ -342,17 +341,8 @@ impl<'a> Reports<'a> {
 
 // Where a text is refused, if it is.
 fn place_of(text: &str, error: FormatError) -> Option<Place> {
-    match error {
-        FormatError::UnknownCharacter { at }
-        | FormatError::UnfinishedString { at }
-        | FormatError::NumberTooLarge { at }
-        | FormatError::Grammar { at }
-        | FormatError::TooDeep { at } => {
-            let (before, _) = text.split_at(text.floor_char_boundary(at));
-            Some(place_after(before.as_bytes()))
-        }
-        FormatError::NoDocument | FormatError::Unsound | FormatError::OutOfMemory => None,
-    }
+    let (before, _) = text.split_at(text.floor_char_boundary(error.at()?));
+    Some(place_after(before.as_bytes()))
 }
 
 // Why a text couldn't be formatted, in words that take no memory.

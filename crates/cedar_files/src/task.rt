@@ -11,7 +11,7 @@ use std::fmt;
 const STANDARD_INPUT: &str = "-";
 
 /// What is formatted.
-#[derive(Clone, Copy, Debug, PartialEq, Eq)]
+#[derive(Clone, Copy)]
 pub enum Task {
     /// Standard input.
     Input,

@@ -3,7 +3,7 @@ use crate::counts::{FAILED, UNFORMATTED};
 use crate::layouts::Layouts;
 use crate::options::{Mode, Options};
 use crate::paths::working_folder;
-use crate::reports::{Kind, Remark, Reports, status_of};
+use crate::reports::{Kind, Reports, status_of};
 use cedar_policy_formatter::{ReadFault, Watched, policies_str_to_pretty, read_text};
 use std::io;
 use std::io::Write;
@@ -17,24 +17,8 @@ pub fn format_text(rt: &HostRuntime, options: &Options<'_>) -> io::Result<u8> {
         Some(name) => (name, layouts.layout_of(name)?),
         None => ("standard input", layouts.layout_of_text("standard input")?),
     };
-    let mut input = Watched::new(rt.stdin());
-    let text = match read_text(rt.alloc(), &mut input) {
-        Ok(text) => text,
-        Err(fault) => {
-            let message = match fault {
-                ReadFault::Read => "cannot be read",
-                ReadFault::NotUtf8 => "input is not UTF-8",
-                ReadFault::OutOfMemory => "out of memory",
-            };
-            reports.add(&Remark {
-                kind: Kind::Failed,
-                file: name,
-                place: None,
-                message,
-            });
-            let _ = reports.end();
-            return Ok(FAILED);
-        }
+    let Some(text) = read_input(rt, name, &mut reports) else {
+        return Ok(FAILED);
     };
     if text.as_str().is_empty() {
         return Ok(0);
@@ -58,4 +42,18 @@ pub fn format_text(rt: &HostRuntime, options: &Options<'_>) -> io::Result<u8> {
             Ok(FAILED)
         }
     }
+}
+
+// The text of standard input. If it can't be read, that is reported.
+fn read_input(rt: &HostRuntime, name: &str, reports: &mut Reports<'_>) -> Option<String> {
+    let mut input = Watched::new(rt.stdin());
+    let message = match read_text(rt.alloc(), &mut input) {
+        Ok(text) => return Some(text),
+        Err(ReadFault::Read) => "cannot be read",
+        Err(ReadFault::NotUtf8) => "input is not UTF-8",
+        Err(ReadFault::OutOfMemory) => "out of memory",
+    };
+    reports.tell(Kind::Failed, name, message);
+    let _ = reports.end();
+    None
 }

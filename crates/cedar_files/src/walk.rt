@@ -5,8 +5,9 @@ use crate::excludes::Excludes;
 use crate::names::ShownBytes;
 use crate::options::Options;
 use crate::paths::{leads_out, resolved};
-use crate::reports::{Kind, Remark, Reports};
+use crate::reports::{Kind, Reports};
 use crate::words::Word;
+use std::alloc::Global;
 use std::collections::BTreeSet;
 use std::fs::Files;
 use std::io::{BufRead, BufReader, ErrorKind};
@@ -17,6 +18,15 @@ use std::{fs, io};
 pub struct Found {
     pub files: Vec<String>,
     pub faults: usize,
+}
+
+impl Found {
+    fn new(alloc: Global) -> Found {
+        Found {
+            files: Vec::new(alloc),
+            faults: 0,
+        }
+    }
 }
 
 /// The files of all paths: each that is named itself, and the files `*.cedar` below each folder, ordered by their bytes.
@@ -30,35 +40,49 @@ pub fn find_files(
 ) -> io::Result<Found> {
     let alloc = rt.alloc();
     let mut seen = BTreeSet::new(alloc);
-    let mut found = Found {
-        files: Vec::new(alloc),
-        faults: 0,
-    };
+    let mut found = Found::new(alloc);
     for word in &options.paths {
-        let (path, name) = match *word {
-            Word::Text(path) => (path, None),
-            Word::Bytes(path) => {
-                let (folder, name) = split_path(path);
-                (folder, Some(name))
-            }
-        };
-        let absolute = resolved(alloc, folder, path)?;
-        if options.excludes_named && excludes.leaves_named(alloc, absolute.as_str())? {
-            continue;
-        }
-        let mut walk = Walk::new(rt, absolute.as_str(), excludes, reports);
-        match name {
-            Some(name) => walk.leave_named(path, name)?,
-            None => walk.take(path)?,
-        }
-        found.faults = found.faults.saturating_add(walk.faults);
-        for file in walk.files {
+        let one = named_by(rt, options, folder, word, excludes, reports)?;
+        found.faults = found.faults.saturating_add(one.faults);
+        for file in one.files {
             if seen.insert(file.clone()?)? {
                 found.files.push(file)?;
             }
         }
     }
     Ok(found)
+}
+
+// The files of one path.
+fn named_by(
+    rt: &HostRuntime,
+    options: &Options<'_>,
+    folder: &str,
+    word: &Word<'_>,
+    excludes: &mut Excludes<'_>,
+    reports: &mut Reports<'_>,
+) -> io::Result<Found> {
+    let alloc = rt.alloc();
+    let (path, name) = match *word {
+        Word::Text(path) => (path, None),
+        Word::Bytes(path) => {
+            let (folder, name) = split_path(path);
+            (folder, Some(name))
+        }
+    };
+    let absolute = resolved(alloc, folder, path)?;
+    if options.excludes_named && excludes.leaves_named(alloc, absolute.as_str())? {
+        return Ok(Found::new(alloc));
+    }
+    let mut walk = Walk::new(rt, absolute.as_str(), excludes, reports);
+    match name {
+        Some(name) => walk.leave_named(path, name)?,
+        None => walk.take(path)?,
+    }
+    Ok(Found {
+        files: walk.files,
+        faults: walk.faults,
+    })
 }
 
 // A walk through one path.
@@ -213,12 +237,7 @@ impl<'a, 'e, 'r> Walk<'a, 'e, 'r> {
     }
 
     fn note(&mut self, path: &str, message: &str) {
-        self.reports.add(&Remark {
-            kind: Kind::Note,
-            file: path,
-            place: None,
-            message,
-        });
+        self.reports.tell(Kind::Note, path, message);
     }
 
     // Reports that a folder, or a name in it, couldn't be read.
@@ -259,12 +278,8 @@ impl<'a, 'e, 'r> Walk<'a, 'e, 'r> {
     // Reports what is left alone in a folder, as a fault.
     fn leave(&mut self, folder: &str, message: &str) {
         self.faults = self.faults.saturating_add(1);
-        self.reports.add(&Remark {
-            kind: Kind::Failed,
-            file: if folder.is_empty() { "/" } else { folder },
-            place: None,
-            message,
-        });
+        let folder = if folder.is_empty() { "/" } else { folder };
+        self.reports.tell(Kind::Failed, folder, message);
     }
 }
 

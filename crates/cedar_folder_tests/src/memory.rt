@@ -10,7 +10,7 @@ use std::io;
 use std::io::ErrorKind;
 
 /// Something that was done with a folder.
-#[derive(Debug, Drop)]
+#[derive(Drop)]
 pub enum Entry {
     /// The name holds this file from then on.
     Put {
@@ -35,7 +35,7 @@ pub enum Entry {
 }
 
 /// What goes wrong in a folder.
-#[derive(Clone, Copy, Debug, PartialEq, Eq)]
+#[derive(Clone, Copy, PartialEq, Eq)]
 pub enum Trouble {
     Nothing,
     /// The call with this number fails, counted from 1.
@@ -47,7 +47,7 @@ pub enum Trouble {
 }
 
 /// A folder that keeps all that was done with it.
-#[derive(Debug, Drop)]
+#[derive(Drop)]
 pub struct Memory {
     /// What was done, the first thing first.
     pub log: Vec<Entry>,

@@ -1,5 +1,5 @@
 -- When a text is refused, and why.
-use Rattle.std.specs.Prelude.{◌≡◌, ℕ, true, false, List, ⊤}
+use Rattle.std.specs.Prelude.{◌≡◌, ℕ, true, false, List, ⊤, Option, Some, None}
 use Rattle.cedar_tokens.specs.Split.{IsFirstFault, fault_kind}
 use Rattle.cedar_tokens.specs.declared.lexer.LexFaultKind.TheVariants as Fault
 use Rattle.cedar_grammar.specs.declared.error.FormatError.{FormatError}
@@ -24,3 +24,12 @@ Refuses text e = RefusesTokens text e
 abbrev pub OutOfMemoryOr : (FormatError → Type 0) → FormatError → Type 0
 OutOfMemoryOr Holds OutOfMemory = ⊤
 OutOfMemoryOr Holds e = Holds e
+
+-- the place of an error, if it has one
+abbrev pub place_of : FormatError → Option ℕ
+place_of (UnknownCharacter at) = Some at
+place_of (UnfinishedString at) = Some at
+place_of (NumberTooLarge at) = Some at
+place_of (Grammar at) = Some at
+place_of (TooDeep at) = Some at
+place_of e = None

@@ -1,5 +1,6 @@
 //! Why a text is refused.
 ghost use Rattle.std.specs.Prelude.{◌≡◌};
+ghost use Rattle.cedar_grammar.specs.Refusals.{place_of};
 ghost use Rattle.cedar_grammar.specs.declared.error.FormatError.TheVariants.{OutOfMemory};
 
 use std::alloc::{AllocError, AllocFailed};
@@ -32,6 +33,22 @@ pub enum FormatError {
     /// An allocation failed.
     #[error("out of memory")]
     OutOfMemory,
+}
+
+impl FormatError {
+    /// The place that the text is refused at, as a byte offset from 0. None if the reason has none.
+    pub fn at(self) -> Option<usize>
+        ensures { result ≡ place_of self }
+    {
+        match self {
+            FormatError::UnknownCharacter { at }
+            | FormatError::UnfinishedString { at }
+            | FormatError::NumberTooLarge { at }
+            | FormatError::Grammar { at }
+            | FormatError::TooDeep { at } => Some(at),
+            FormatError::NoDocument | FormatError::Unsound | FormatError::OutOfMemory => None,
+        }
+    }
 }
 
 impl From<AllocError> for FormatError {

@@ -3,4 +3,5 @@
 
 pub mod laws;
 pub mod layout;
+pub mod trim;
 pub mod utils;

@@ -60,7 +60,7 @@ impl<'de> Deserialize<'de> for Name {
 }
 
 // A member whose value isn't needed.
-#[derive(Clone, Copy, PartialEq, Eq)]
+#[derive(Clone, Copy)]
 enum Member {
     Absent,
     Present,

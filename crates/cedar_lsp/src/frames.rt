@@ -29,7 +29,7 @@ enum Head {
 }
 
 // A line of a head.
-#[derive(Clone, Copy, PartialEq, Eq)]
+#[derive(Clone, Copy)]
 enum Line {
     Empty,
     /// The length of the body, in bytes.

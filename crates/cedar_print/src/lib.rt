@@ -7,6 +7,5 @@ mod measure;
 mod place;
 pub mod printer;
 pub mod render;
-mod trim;
 mod walk;
 mod write;

@@ -10,9 +10,9 @@ ghost use Rattle.cedar_print.specs.Inside.Written.{units_at, AreCounted, HasNoRo
 
 use crate::mark::Mark;
 use crate::place::Place;
-use crate::trim::trim_from;
 use crate::write::{write_clean, write_held};
 use cedar_layout::layout::Steps;
+use cedar_layout::trim::trim_from;
 use std::alloc::{AllocError, Global};
 use std::marker::Brand;
 use std::sync::ledger::{Blank, Ledger};

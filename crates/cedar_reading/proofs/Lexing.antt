@@ -19,8 +19,8 @@ use Rattle.cedar_reading.specs.Tokens.{HasTokens}
 use Rattle.cedar_reading.specs.Lexemes.{AreLexemes}
 use Rattle.cedar_reading.specs.declared.lexeme.Lexeme.{Lexeme}
 use Rattle.cedar_reading.proofs.Walking.{Lexed}
-use Rattle.cedar_reading.specs.Pieces.{is_semicolon, IsPiece}
-use Rattle.cedar_reading.specs.Inside.Steps.{LexesToSemicolon, EndsLine}
+use Rattle.cedar_reading.specs.Pieces.{EndsLine, is_semicolon, IsPiece}
+use Rattle.cedar_reading.specs.Inside.Steps.{LexesToSemicolon}
 use Rattle.cedar_reading.proofs.Prefixes.{units_of}
 use Rattle.cedar_reading.proofs.Lists.{piece_splits, tokenless, semicolon_token}
 use Rattle.cedar_reading.proofs.PieceRefusals.{no_tokens, piece_tokens}

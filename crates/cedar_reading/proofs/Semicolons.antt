@@ -23,8 +23,8 @@ use Rattle.cedar_tokens.proofs.UnitsSoFar.{texts, texts_more, EndsAt}
 use Rattle.cedar_tokens.proofs.Streaming.{no_token}
 use Rattle.cedar_laws.proofs.Scanned.{scans_append}
 use Rattle.cedar_laws.proofs.Listed.{feed_no_token}
-use Rattle.cedar_reading.specs.Pieces.{HaveNoFeed, BeginsNoBlank, IsFirstPiece}
-use Rattle.cedar_reading.specs.Inside.Steps.{EndsInSemicolon, EndsLine}
+use Rattle.cedar_reading.specs.Pieces.{EndsLine, HaveNoFeed, BeginsNoBlank, IsFirstPiece}
+use Rattle.cedar_reading.specs.Inside.Steps.{EndsInSemicolon}
 
 any_more : (p : List ℕ → Bool) (units : List (List ℕ)) (u : List ℕ) → list_any p units ≡ false
     → p u ≡ false → list_any p (units ++ u ∷ []) ≡ false

@@ -26,6 +26,13 @@ pub record IsRestOfLine (line : List (List ℕ)) (rest : List ℕ) : Type 0 wher
   pub no_token : list_any is_token line ≡ false
   pub ends : EndInFeed line ⊎ (HaveNoFeed line × BeginsNoBlank rest)
 
+-- the text's first n bytes are whole units, the rest of a line
+pub record EndsLine (text : List ℕ) (n : ℕ) : Type 0 where
+  pub line : List (List ℕ)
+  pub scans : Scans line text (drop n text)
+  pub place : n ≡ sum_by length line
+  pub rest : IsRestOfLine line (drop n text)
+
 -- the text's first n bytes are whole units, of which the last token is a `;`, with the rest of its line after it
 pub record IsPiece (text : List ℕ) (n : ℕ) : Type 0 where
   pub before : List (List ℕ)

@@ -2,7 +2,7 @@
 ghost use Rattle.std.specs.Prelude.{◌≡◌, IfOk, map, not, MatchBool};
 ghost use Rattle.std.specs.Bool.{OnFalse};
 ghost use Rattle.cedar_tokens.specs.declared.kind.Kind.TheVariants as K;
-ghost use Rattle.cedar_tokens.specs.Kinds.{is, is_closing};
+ghost use Rattle.cedar_tokens.specs.Kinds.{is};
 ghost use Rattle.cedar_tokens.specs.Listing.{IsListing, comments, is_empty};
 ghost use Rattle.cedar_tokens.specs.PlainList.{plain_list};
 ghost use Rattle.cedar_reading.specs.Lexemes.{AreLexemes};
@@ -91,7 +91,7 @@ pub fn has_trailing_comma(tokens: &[Token<'_, '_>]) -> bool
     let mut after_comma = false;
     for token in tokens {
         let kind = token.kind();
-        if after_comma && is_closing(kind) {
+        if after_comma && kind.is_closing() {
             return true;
         }
         after_comma = is_comma(kind);
@@ -104,7 +104,7 @@ fn begins_trailing(lexemes: &[Lexeme<'_>]) -> bool
     ensures { result ≡ begins_trailing (map (λ l. l.kind) lexemes.now) }
 {
     match lexemes {
-        [first, next, ..] => is_comma(first.kind) && is_closing(next.kind),
+        [first, next, ..] => is_comma(first.kind) && next.kind.is_closing(),
         _ => false,
     }
 }
@@ -113,12 +113,6 @@ fn is_comma(kind: Kind) -> bool
     ensures { result ≡ is K.Comma kind }
 {
     matches!(kind, Kind::Comma)
-}
-
-fn is_closing(kind: Kind) -> bool
-    ensures { result ≡ is_closing kind }
-{
-    matches!(kind, Kind::RParen | Kind::RBracket | Kind::RBrace)
 }
 
 // Leaves the trailing text of a comma with these comments to the last token, if nothing is between them; and whether it did.

@@ -3,8 +3,8 @@ ghost use Rattle.std.specs.Prelude.{◌≡◌, ◌≤◌, ◌<◌, length, take,
 ghost use Rattle.std.specs.Str.{IsCharBoundary};
 ghost use Rattle.cedar_reading.specs.Tokens.{HasTokens};
 ghost use Rattle.cedar_reading.specs.Lexemes.{AreLexemes};
-ghost use Rattle.cedar_reading.specs.Pieces.{IsFirstPiece, HasNoPiece};
-ghost use Rattle.cedar_reading.specs.Inside.Steps.{EndsLine, LexesToSemicolon};
+ghost use Rattle.cedar_reading.specs.Pieces.{EndsLine, IsFirstPiece, HasNoPiece};
+ghost use Rattle.cedar_reading.specs.Inside.Steps.{LexesToSemicolon};
 
 use crate::lexeme::{Lexeme, is_too_large};
 use cedar_tokens::kind::kind_of;
@@ -66,8 +66,8 @@ fn lex_to_semicolon<'src>(
     Ok(None)
 }
 
-// The bytes of blanks and comments at the start of `text`, through the first line feed.
-fn rest_of_line(text: &str) -> usize
+/// The bytes of blanks and comments at the start of `text`, through the first line feed.
+pub fn rest_of_line(text: &str) -> usize
     ensures line { EndsLine text.now result }
     ensures boundary { IsCharBoundary text.now result }
     ensures within { result ≤ length text.now }

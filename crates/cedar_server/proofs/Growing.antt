@@ -7,12 +7,12 @@ use Rattle.std.proofs.lemmas.List.{append_assoc, length-drop}
 use Rattle.std.proofs.lemmas.List.Sums.{sum_by-cons}
 use Rattle.cedar_tokens.specs.TokenKinds.{kind_of}
 use Rattle.cedar_tokens.specs.Units.{is_token, is_comment}
-use Rattle.cedar_tokens.specs.Kinds.{is, is_closing}
+use Rattle.cedar_tokens.specs.Kinds.{is, is_opening, is_closing}
 use Rattle.cedar_tokens.specs.declared.kind.Kind.{Kind}
 use Rattle.cedar_tokens.specs.declared.token.Span.{Span}
 use Rattle.cedar_server.specs.declared.selections.Opened.{Opened}
 use Rattle.cedar_server.specs.Parts.{AreParts}
-use Rattle.cedar_server.specs.Selections.{Nesting, after_part, around, at_start, blocks, closed_by, grows, is_opening, is_word, last_blocks, pair_blocks, part_blocks, touches}
+use Rattle.cedar_server.specs.Selections.{Nesting, after_part, around, at_start, blocks, closed_by, grows, is_word, last_blocks, pair_blocks, part_blocks, touches}
 use Rattle.cedar_server.specs.Laws.{HasMore, GrowToTheWhole, SelectionsGrow}
 use Rattle.cedar_server.proofs.Reading.{part_inside}
 use Rattle.cedar_server.proofs.Selecting.{first_part, kept, left_out, no_parts, none_left, span_of}

@@ -1,8 +1,8 @@
 -- The blocks of a text, and those around a place.
-use Rattle.std.specs.Prelude.{◌≡◌, ◌+◌, ℕ, Bool, true, false, ◌&&◌, ◌||◌, nat_le, nat_lt, if◌then◌else◌, List, [], ◌∷◌, ◌++◌, length, Option, Some, None}
+use Rattle.std.specs.Prelude.{◌≡◌, ◌+◌, ℕ, Bool, true, ◌&&◌, ◌||◌, nat_le, nat_lt, if◌then◌else◌, List, [], ◌∷◌, ◌++◌, length, Option, Some, None}
 use Rattle.std.specs.Option.{unwrap_or}
 use Rattle.cedar_tokens.specs.Units.{is_token, is_comment}
-use Rattle.cedar_tokens.specs.Kinds.{is, is_any_word, is_closing}
+use Rattle.cedar_tokens.specs.Kinds.{is, is_any_word, is_opening, is_closing, is_closed_by}
 use Rattle.cedar_tokens.specs.TokenKinds.{kind_of}
 use Rattle.cedar_tokens.specs.declared.kind.Kind.{Kind}
 use Rattle.cedar_tokens.specs.declared.token.Span.{Span}
@@ -12,17 +12,6 @@ use Rattle.cedar_server.specs.declared.selections.Opened.{Opened}
 -- words, slots, strings and numbers
 abbrev pub is_word : Kind → Bool
 is_word k = is_any_word k || is Kind.PrincipalSlot k || is Kind.ResourceSlot k || is Kind.Str k || is Kind.Number k
-
--- ( [ {
-abbrev pub is_opening : Kind → Bool
-is_opening k = is Kind.LParen k || is Kind.LBracket k || is Kind.LBrace k
-
--- what closes a bracket
-abbrev pub is_closed_by : Kind → Kind → Bool
-is_closed_by Kind.LParen k = is Kind.RParen k
-is_closed_by Kind.LBracket k = is Kind.RBracket k
-is_closed_by Kind.LBrace k = is Kind.RBrace k
-is_closed_by o k = false
 
 -- the innermost bracket that is closed by this one, and those around it; of the open brackets the innermost comes first
 abbrev pub closed_by : Kind → List Opened → Option (Opened × List Opened)

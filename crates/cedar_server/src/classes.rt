@@ -5,7 +5,7 @@ ghost use Rattle.cedar_server.specs.Classes.{is_there, own_class, name_class, cl
 use cedar_tokens::kind::Kind;
 
 /// What a token or a comment is to a reader.
-#[derive(Clone, Copy, PartialEq, Eq, Debug)]
+#[derive(Clone, Copy)]
 pub enum Class {
     Comment,
     /// `@`, and the word after it.

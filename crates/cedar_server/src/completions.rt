@@ -14,7 +14,7 @@ use cedar_tokens::token::Span;
 use std::alloc::{AllocError, Global};
 
 /// What could come at the cursor.
-#[derive(Debug, Drop)]
+#[derive(Drop)]
 pub struct Completions {
     /// The word before the cursor, in whose place it could come.
     pub range: Range,

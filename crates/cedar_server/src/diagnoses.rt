@@ -10,7 +10,7 @@ use cedar_grammar::error::FormatError;
 use std::alloc::{AllocError, Global};
 
 /// The reason of a fault.
-#[derive(Clone, Copy, Debug, PartialEq, Eq)]
+#[derive(Clone, Copy)]
 pub enum Code {
     /// No token begins with this character.
     UnknownCharacter,
@@ -27,7 +27,7 @@ pub enum Code {
 }
 
 /// Another part of the text that a diagnosis refers to.
-#[derive(Debug, Drop)]
+#[derive(Drop)]
 pub struct Related {
     /// The part: a bracket that isn't closed.
     pub range: Range,
@@ -36,7 +36,7 @@ pub struct Related {
 }
 
 /// A fault of a text, as an editor shows it.
-#[derive(Debug, Drop)]
+#[derive(Drop)]
 pub struct Diagnosis {
     /// The part that the fault is about: a character that begins no token, an unfinished string up to the end of its line, the
     /// number or token that can't be there, or the last character of the last token where the text ends too early.

@@ -9,7 +9,7 @@ use std::alloc::{AllocError, Global};
 use std::collections::BTreeMap;
 
 /// An open document.
-#[derive(Debug, Drop)]
+#[derive(Drop)]
 pub enum Document {
     /// Its text, with the number that the client gave it.
     Text { version: Option<i64>, text: String },

@@ -14,7 +14,7 @@ use cedar_tokens::token::Span;
 use std::alloc::{AllocError, Global};
 
 /// An edit that mends a fault: a token of this kind in place of what the fault is about.
-#[derive(Debug, Drop)]
+#[derive(Drop)]
 pub struct Fix {
     /// The fault. Its range is what is replaced.
     pub diagnosis: Diagnosis,

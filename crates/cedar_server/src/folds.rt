@@ -14,7 +14,7 @@ use cedar_tokens::token::Span;
 use std::alloc::{AllocError, Global};
 
 /// What can be folded.
-#[derive(Clone, Copy, PartialEq, Eq, Debug)]
+#[derive(Clone, Copy)]
 pub enum FoldKind {
     /// A policy, from its first annotation through its `;`.
     Policy,

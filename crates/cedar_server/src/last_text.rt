@@ -13,7 +13,7 @@ use std::alloc::{AllocError, Global};
 use std::marker::Model;
 
 /// The text judged last, and those of its policies that a change elsewhere can't make faulty.
-#[derive(Debug, Drop)]
+#[derive(Drop)]
 pub(crate) struct LastText {
     text: String,
     // In order: accepted policies, each through the line feed after its `;`.

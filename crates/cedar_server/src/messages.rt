@@ -6,14 +6,14 @@ use crate::placed::{PlacedFold, PlacedSelection, PlacedSymbol, PlacedToken};
 use cedar_edits::{Change, Encoding, PlacedEdit, Position, Range};
 
 /// The id of a request, as its client chose it.
-#[derive(Debug, PartialEq, Drop)]
+#[derive(Drop)]
 pub enum Id {
     Number(i64),
     Text(String),
 }
 
 /// The layout that somebody asks for. What it leaves open is for others to say.
-#[derive(Clone, Copy, Debug, PartialEq, Eq)]
+#[derive(Clone, Copy)]
 pub struct Wishes {
     /// The width of a line, in columns.
     pub line_width: Option<usize>,
@@ -22,7 +22,7 @@ pub struct Wishes {
 }
 
 /// What a client says about itself.
-#[derive(Debug, Drop)]
+#[derive(Drop)]
 pub struct ClientOptions {
     /// The units that it can count characters in, the one it prefers first. None means UTF-16.
     pub encodings: Vec<Encoding>,
@@ -33,7 +33,7 @@ pub struct ClientOptions {
 }
 
 /// A request, which wants an answer.
-#[derive(Debug, Drop)]
+#[derive(Drop)]
 pub enum Request {
     Initialize(ClientOptions),
     Shutdown,
@@ -80,7 +80,7 @@ pub enum Request {
 }
 
 /// A notification, which wants no answer.
-#[derive(Debug, Drop)]
+#[derive(Drop)]
 pub enum Notification {
     Exit,
     /// The document has this text. `version` counts its texts, if the client counts them.
@@ -103,7 +103,7 @@ pub enum Notification {
 }
 
 /// Why a message is rejected.
-#[derive(Clone, Copy, Debug, PartialEq, Eq)]
+#[derive(Clone, Copy)]
 pub enum Fault {
     /// It isn't JSON, or is too long to be read.
     Parse,
@@ -112,7 +112,7 @@ pub enum Fault {
 }
 
 /// A message that can't be read, and what it may be about.
-#[derive(Debug, Drop)]
+#[derive(Drop)]
 pub enum Unread {
     /// No text of a document: it is a request, with this id if that can be read, or another notification.
     NoText { id: Option<Id> },
@@ -123,7 +123,7 @@ pub enum Unread {
 }
 
 /// A message to the server.
-#[derive(Debug, Drop)]
+#[derive(Drop)]
 pub enum ClientMessage {
     Request { id: Id, request: Request },
     Notification(Notification),
@@ -133,7 +133,7 @@ pub enum ClientMessage {
 }
 
 /// Why a request fails.
-#[derive(Clone, Copy, Debug, PartialEq, Eq)]
+#[derive(Clone, Copy)]
 pub enum Failure {
     /// It came before `initialize`.
     NotInitialized,
@@ -152,7 +152,7 @@ pub enum Failure {
 }
 
 /// The answer to a request.
-#[derive(Debug, Drop)]
+#[derive(Drop)]
 pub enum Answer {
     /// The server is ready, and counts characters in this unit. `formats_on_save` is what the client said.
     Ready {
@@ -182,7 +182,7 @@ pub enum Answer {
 }
 
 /// A message to the client.
-#[derive(Debug, Drop)]
+#[derive(Drop)]
 pub enum ServerMessage {
     Response {
         id: Id,

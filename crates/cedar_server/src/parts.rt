@@ -7,7 +7,7 @@ ghost use Rattle.cedar_server.specs.Parts.{IsPart, HasPartKind};
 use cedar_tokens::lexer::{UnitKind, first_unit};
 
 /// What a part of a text is.
-#[derive(Clone, Copy, PartialEq, Eq)]
+#[derive(Clone, Copy)]
 pub enum PartKind {
     Token,
     Comment,

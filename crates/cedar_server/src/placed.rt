@@ -14,14 +14,14 @@ use cedar_tokens::token::Span;
 use std::alloc::{AllocError, Global};
 
 /// A token or a comment with its class.
-#[derive(Clone, Copy, Debug)]
+#[derive(Clone, Copy)]
 pub struct PlacedToken {
     pub range: Range,
     pub class: Class,
 }
 
 /// A policy with its name.
-#[derive(Debug, Drop)]
+#[derive(Drop)]
 pub struct PlacedSymbol {
     pub name: String,
     /// All of the policy.
@@ -31,14 +31,14 @@ pub struct PlacedSymbol {
 }
 
 /// Lines that can be folded.
-#[derive(Clone, Copy, Debug)]
+#[derive(Clone, Copy)]
 pub struct PlacedFold {
     pub range: Range,
     pub kind: FoldKind,
 }
 
 /// The blocks around a position, from the innermost out: each has all of the one before, and more.
-#[derive(Debug, Drop)]
+#[derive(Drop)]
 pub struct PlacedSelection {
     pub ranges: Vec<Range>,
 }

@@ -1,7 +1,6 @@
 //! The blocks of a text around a place.
 ghost use Rattle.std.specs.Prelude.{◌≡◌, ◌&&◌, ◌++◌, IfOk, None, OnOk, reverse};
-ghost use Rattle.cedar_tokens.specs.Kinds.{is_closing};
-ghost use Rattle.cedar_server.specs.Selections.{AreBlocks, after_part, after_token, around, closed_by, grows, is_closed_by, is_opening, is_word, last_blocks, outside, pair_blocks, part_blocks, token_blocks, touches};
+ghost use Rattle.cedar_server.specs.Selections.{AreBlocks, after_part, after_token, around, closed_by, grows, is_word, last_blocks, outside, pair_blocks, part_blocks, token_blocks, touches};
 ghost use Rattle.cedar_server.specs.Inside.Selecting.{nesting_of};
 ghost use Rattle.cedar_server.specs.Parts.{HasPartKind};
 
@@ -143,12 +142,12 @@ impl Nesting {
             blocks.push(part)?;
             return Ok(());
         }
-        if is_opening(kind) {
+        if kind.is_opening() {
             self.start = Some(start);
             self.opened.push(Opened { kind, part })?;
             return Ok(());
         }
-        if is_closing(kind) {
+        if kind.is_closing() {
             self.start = Some(start);
             return close(kind, part, &mut self.opened, blocks);
         }
@@ -176,7 +175,7 @@ fn close(
 {
     for i in (0..opened.len()).rev() {
         let bracket = opened[i];
-        if is_closed_by(bracket.kind, kind) {
+        if bracket.kind.is_closed_by(kind) {
             opened.truncate(i);
             blocks.push(Span {
                 start: bracket.part.end,
@@ -201,30 +200,4 @@ fn is_word(kind: Kind) -> bool
             kind,
             Kind::PrincipalSlot | Kind::ResourceSlot | Kind::Str | Kind::Number
         )
-}
-
-// Whether it is the kind of an opening bracket.
-fn is_opening(kind: Kind) -> bool
-    ensures { result ≡ is_opening kind }
-{
-    matches!(kind, Kind::LParen | Kind::LBracket | Kind::LBrace)
-}
-
-// Whether it is the kind of a closing bracket.
-fn is_closing(kind: Kind) -> bool
-    ensures { result ≡ is_closing kind }
-{
-    matches!(kind, Kind::RParen | Kind::RBracket | Kind::RBrace)
-}
-
-// Whether a token of the second kind closes a bracket of the first.
-fn is_closed_by(bracket: Kind, kind: Kind) -> bool
-    ensures { result ≡ is_closed_by bracket kind }
-{
-    match bracket {
-        Kind::LParen => matches!(kind, Kind::RParen),
-        Kind::LBracket => matches!(kind, Kind::RBracket),
-        Kind::LBrace => matches!(kind, Kind::RBrace),
-        _ => false,
-    }
 }

@@ -22,7 +22,7 @@ use std::alloc::{AllocError, Global};
 use std::collections::BTreeMap;
 
 /// How far the session is.
-#[derive(Clone, Copy, PartialEq, Eq, Debug)]
+#[derive(Clone, Copy)]
 pub enum Phase {
     /// Before `initialize`.
     Starting,
@@ -35,7 +35,7 @@ pub enum Phase {
 }
 
 /// A language server.
-#[derive(Debug, Drop)]
+#[derive(Drop)]
 pub struct Server {
     pub phase: Phase,
     /// The unit it counts characters in.

@@ -9,7 +9,7 @@ use std::io;
 use std::io::ErrorKind;
 
 /// A message that was received.
-#[derive(Debug, Drop)]
+#[derive(Drop)]
 pub struct Received {
     pub message: ClientMessage,
     /// The layout that the project of the message's document asks for.

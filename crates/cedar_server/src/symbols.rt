@@ -12,7 +12,7 @@ use cedar_tokens::token::Span;
 use std::alloc::{AllocError, Global};
 
 /// A policy as an outline shows it.
-#[derive(Debug, Drop)]
+#[derive(Drop)]
 pub struct Symbol {
     /// The text of its first `@id` that isn't blank, or else its effect and scope on one line.
     pub name: String,

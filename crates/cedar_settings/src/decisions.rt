@@ -15,14 +15,14 @@ const TAB_COLUMNS: u16 = 2;
 const MOST_COLUMNS: u16 = 65535;
 
 /// A line that applies to a file, and the number of its file, from 0 for the nearest one.
-#[derive(Clone, Copy, PartialEq, Eq, Debug)]
+#[derive(Clone, Copy)]
 pub struct Applied {
     pub file: usize,
     pub entry: Entry,
 }
 
 /// A setting of a layout, in columns, and where it was taken from.
-#[derive(Clone, Copy, PartialEq, Eq, Debug)]
+#[derive(Clone, Copy)]
 pub struct Setting {
     pub columns: u16,
     /// The number of its file, from 0 for the nearest one.
@@ -32,7 +32,7 @@ pub struct Setting {
 }
 
 /// A line that is ignored, and why.
-#[derive(Clone, Copy, PartialEq, Eq, Debug)]
+#[derive(Clone, Copy)]
 pub struct Problem {
     /// The number of its file, from 0 for the nearest one.
     pub file: usize,
@@ -42,7 +42,7 @@ pub struct Problem {
 }
 
 /// How a file is laid out.
-#[derive(Debug, Drop)]
+#[derive(Drop)]
 pub struct Decision {
     /// The indentation of a level. `None` if nothing is set.
     pub indent_width: Option<Setting>,

@@ -153,7 +153,7 @@ impl ConfigFile {
 }
 
 // Where a line is.
-#[derive(Clone, Copy, PartialEq, Eq, Debug)]
+#[derive(Clone, Copy)]
 enum State {
     // Before all sections.
     Preamble,

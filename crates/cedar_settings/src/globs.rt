@@ -21,7 +21,7 @@ pub struct Glob {
 }
 
 /// Why a glob isn't read.
-#[derive(Clone, Copy, PartialEq, Eq, Debug)]
+#[derive(Clone, Copy)]
 pub enum GlobError {
     /// It has more than 4096 bytes, or what it is translated to takes too much memory.
     TooLarge,

@@ -5,7 +5,7 @@ ghost use Rattle.cedar_settings.specs.Values.{Says, is_usable, least_number};
 use std::num::IntErrorKind;
 
 /// A setting that decides about a layout.
-#[derive(Clone, Copy, PartialEq, Eq, Debug)]
+#[derive(Clone, Copy, PartialEq, Eq)]
 pub enum Key {
     /// `indent_size`: the columns of a level.
     IndentSize,
@@ -16,7 +16,7 @@ pub enum Key {
 }
 
 /// What a setting is given.
-#[derive(Clone, Copy, PartialEq, Eq, Debug)]
+#[derive(Clone, Copy)]
 pub enum Value {
     /// So many columns.
     Columns(u16),
@@ -31,7 +31,7 @@ pub enum Value {
 }
 
 /// What is wrong in a file.
-#[derive(Clone, Copy, PartialEq, Eq, Debug)]
+#[derive(Clone, Copy)]
 pub enum Fault {
     /// The file isn't UTF-8.
     NotUtf8,
@@ -46,7 +46,7 @@ pub enum Fault {
 }
 
 /// A line that gives a value to a setting.
-#[derive(Clone, Copy, PartialEq, Eq, Debug)]
+#[derive(Clone, Copy)]
 pub struct Entry {
     pub key: Key,
     pub value: Value,
@@ -55,7 +55,7 @@ pub struct Entry {
 }
 
 /// What a line holds.
-#[derive(Clone, Copy, PartialEq, Eq, Debug)]
+#[derive(Clone, Copy)]
 pub enum Line<'t> {
     /// Nothing, or a comment.
     Blank,

@@ -11,7 +11,7 @@ use std::{fs, io, mem};
 const NAME: &str = ".editorconfig";
 
 /// A setting of a layout, in columns, and where it was taken from.
-#[derive(Debug, Drop)]
+#[derive(Drop)]
 pub struct ProjectSetting {
     pub columns: u16,
     /// The absolute path of the file.
@@ -21,7 +21,7 @@ pub struct ProjectSetting {
 }
 
 /// A line that is ignored.
-#[derive(Debug, Drop)]
+#[derive(Drop)]
 pub struct ProjectProblem {
     /// The absolute path of the file.
     pub path: String,
@@ -32,7 +32,7 @@ pub struct ProjectProblem {
 }
 
 /// How a project wants a file to be laid out.
-#[derive(Debug, Drop)]
+#[derive(Drop)]
 pub struct ProjectSettings {
     /// The indentation of a level. `None` if nothing is set.
     pub indent_width: Option<ProjectSetting>,

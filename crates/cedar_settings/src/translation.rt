@@ -5,7 +5,7 @@ use std::alloc::{AllocError, Global};
 use std::fmt::Write;
 
 // A brace that is still open.
-#[derive(Clone, Copy, PartialEq, Eq, Debug)]
+#[derive(Clone, Copy, PartialEq, Eq)]
 enum Brace {
     // It holds alternatives.
     Choice,

@@ -93,9 +93,20 @@ set_of Words.Any = is_any_word
 set_of Words.Effect = is_effect
 set_of Words.Condition = is_cond_word
 
+-- ( [ {
+abbrev pub is_opening : Kind → Bool
+is_opening x = is LParen x || is LBracket x || is LBrace x
+
 -- ) ] }
 abbrev pub is_closing : Kind → Bool
 is_closing x = is RParen x || is RBracket x || is RBrace x
+
+-- what closes a bracket of a kind
+abbrev pub is_closed_by : Kind → Kind → Bool
+is_closed_by LParen x = is RParen x
+is_closed_by LBracket x = is RBracket x
+is_closed_by LBrace x = is RBrace x
+is_closed_by k x = false
 
 -- the first token's kind is in the set
 abbrev pub begins : {A : Type 0} → (A → Kind) → (Kind → Bool) → List A → Bool

@@ -1,6 +1,6 @@
 //! The kinds of tokens, and sets of words.
 ghost use Rattle.std.specs.Prelude.{◌≡◌, length, [], ◌∷◌, IfSome, IfNone};
-ghost use Rattle.cedar_tokens.specs.Kinds.{is_any_word, is_ident, is_variable, is_effect, is_cond_word, set_of};
+ghost use Rattle.cedar_tokens.specs.Kinds.{is_any_word, is_ident, is_variable, is_effect, is_cond_word, is_comparison, is_opening, is_closing, is_closed_by, set_of};
 ghost use Rattle.cedar_tokens.specs.TokenKinds.{kind_of, other_kind};
 ghost use Rattle.cedar_tokens.specs.Inside.Scanners.{IsNotFixed, HasMoreBytes};
 
@@ -122,6 +122,42 @@ impl Kind {
         ensures { result ≡ is_cond_word self }
     {
         matches!(self, Kind::When | Kind::Unless)
+    }
+
+    /// Whether this is the kind of a comparison: of `<`, `<=`, `>`, `>=`, `!=`, `==` or `in`.
+    pub fn is_comparison(self) -> bool
+        ensures { result ≡ is_comparison self }
+    {
+        matches!(
+            self,
+            Kind::Lt | Kind::Le | Kind::Gt | Kind::Ge | Kind::NotEqual | Kind::Equal | Kind::In
+        )
+    }
+
+    /// Whether this is the kind of an opening bracket.
+    pub fn is_opening(self) -> bool
+        ensures { result ≡ is_opening self }
+    {
+        matches!(self, Kind::LParen | Kind::LBracket | Kind::LBrace)
+    }
+
+    /// Whether this is the kind of a closing bracket.
+    pub fn is_closing(self) -> bool
+        ensures { result ≡ is_closing self }
+    {
+        matches!(self, Kind::RParen | Kind::RBracket | Kind::RBrace)
+    }
+
+    /// Whether this is the kind of an opening bracket, and `kind` that of the bracket that closes it.
+    pub fn is_closed_by(self, kind: Kind) -> bool
+        ensures { result ≡ is_closed_by self kind }
+    {
+        match self {
+            Kind::LParen => matches!(kind, Kind::RParen),
+            Kind::LBracket => matches!(kind, Kind::RBracket),
+            Kind::LBrace => matches!(kind, Kind::RBrace),
+            _ => false,
+        }
     }
 
     /// Whether this is the kind of one of these words.

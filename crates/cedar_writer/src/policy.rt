@@ -12,7 +12,7 @@ use cedar_print::mark::{Indent, Mark};
 use cedar_reading::token::Token;
 
 /// Why a policy is not written; `left` counts the tokens from the refused one on.
-#[derive(Clone, Copy, Debug, PartialEq, Eq)]
+#[derive(Clone, Copy)]
 pub enum Refusal {
     /// No policy goes on with that token.
     Grammar { left: usize },

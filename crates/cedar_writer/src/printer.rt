@@ -21,7 +21,7 @@ use cedar_reading::token_check::has_tokens;
 use std::alloc::{AllocError, Global};
 
 /// Why a policy is not printed.
-#[derive(Clone, Copy, Debug, PartialEq, Eq)]
+#[derive(Clone, Copy)]
 pub enum NotPrinted {
     /// Its text is not accepted.
     NotAccepted,

@@ -53,7 +53,7 @@ impl Set {
             Set::Variable => kind.is_variable(),
             Set::Name => kind.is_identifier() && !kind.is_variable(),
             Set::Boolean => matches!(kind, Kind::True | Kind::False),
-            Set::Comparison => is_comparison(kind),
+            Set::Comparison => kind.is_comparison(),
             Set::Effect => kind.is_effect(),
             Set::Condition => kind.is_cond_word(),
             Set::SumSign => matches!(kind, Kind::Add | Kind::Dash),
@@ -68,15 +68,6 @@ impl Set {
             Set::Any => true,
         }
     }
-}
-
-fn is_comparison(kind: Kind) -> bool
-    ensures { result ≡ contains Comparison kind }
-{
-    matches!(
-        kind,
-        Kind::Lt | Kind::Le | Kind::Gt | Kind::Ge | Kind::NotEqual | Kind::Equal | Kind::In
-    )
 }
 
 fn is_literal(kind: Kind) -> bool

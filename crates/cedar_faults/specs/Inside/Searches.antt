@@ -1,11 +1,12 @@
 -- How far a search for faults has come.
 use Rattle.std.specs.Prelude.{◌≤◌, ◌<◌, ◌+◌, ◌^◌, ℕ, List, [], length, drop, IfSome, MatchOption, ⊤}
 use Rattle.std.specs.Str.{IsCharBoundary}
+use Rattle.cedar_grammar.specs.Refusals.{place_of}
 use Rattle.cedar_faults.specs.declared.brackets.Bracket.{Bracket}
 use Rattle.cedar_faults.specs.declared.fault.Fault.{Fault}
 use Rattle.cedar_faults.specs.declared.reader.Found.{Found}
 use Rattle.cedar_faults.specs.Faults.{SearchFinds}
-use Rattle.cedar_faults.specs.FirstFaults.{IsFirstOf, place_of}
+use Rattle.cedar_faults.specs.FirstFaults.{IsFirstOf}
 
 -- a place between characters of the text, whose places are numbers of 64 bits
 pub record IsInside (text : List ℕ) (at : ℕ) : Type 0 where

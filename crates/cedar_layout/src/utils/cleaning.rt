@@ -2,12 +2,13 @@
 ghost use Rattle.std.specs.Prelude.{◌≡◌, ◌+◌, ◌<◌, ◌≤◌, ◌==◌, ◌++◌, List, ℕ, drop, take, length, string_bytes, IfOk, OnOk, OnErr, IfSome};
 ghost use Rattle.std.specs.Char.{is_whitespace};
 ghost use Rattle.std.specs.List.{list_all, position};
-ghost use Rattle.std.specs.Str.{chars, IsCharBoundary, trim, trim_end, trim_start};
+ghost use Rattle.std.specs.Str.{chars, IsCharBoundary, trim};
 ghost use Rattle.cedar_tokens.specs.Bytes.{line_feed, space_character};
 ghost use Rattle.cedar_tokens.specs.Units.{FindsLongest, IsComment};
 ghost use Rattle.cedar_layout.specs.Cleaning.{Cut, FindsFirst, IsCleaned, IsKept, IsString, clean_piece, is_blank_line, last_byte_or};
 ghost use Rattle.cedar_layout.specs.Inside.Seeking.{IsFirstLine, IsSought};
 
+use crate::trim::trim_from;
 use cedar_tokens::lexer::{UnitKind, first_unit};
 use cedar_tokens::token::Span;
 use std::alloc::{AllocError, Global};
@@ -174,35 +175,6 @@ fn push_piece(out: &mut String, piece: &str) -> Result<(), AllocError>
         rest = after;
     }
     Ok(())
-}
-
-/// Removes the blanks at both ends of what stands from `start` on. A failure changes nothing.
-fn trim_from(out: &mut String, start: usize) -> Result<(), AllocError>
-    requires { IsCharBoundary (string_bytes out.old) start }
-    ensures ok { OnOk result (string_bytes out.new ≡ take start (string_bytes out.old) ++ trim (drop start (string_bytes out.old))) }
-    ensures err { OnErr result (string_bytes out.new ≡ string_bytes out.old) }
-{
-    let blanks = blanks_before(&out.as_str()[start..]);
-    out.replace_range(start..start + blanks, "")?;
-    let len = len_without_blanks(&out.as_str()[start..]);
-    out.truncate(start + len);
-    Ok(())
-}
-
-/// The bytes of the blanks that the text begins with.
-fn blanks_before(text: &str) -> usize
-    ensures rest { drop result text.now ≡ trim_start text.now }
-    ensures boundary { IsCharBoundary text.now result }
-{
-    text.len() - text.trim_start().len()
-}
-
-/// The bytes before the blanks that the text ends with.
-fn len_without_blanks(text: &str) -> usize
-    ensures front { take result text.now ≡ trim_end text.now }
-    ensures boundary { IsCharBoundary text.now result }
-{
-    text.trim_end().len()
 }
 
 /// The first line, with its line feed, and what follows it.

@@ -2,9 +2,9 @@
 ghost use Rattle.std.specs.Prelude.{◌≡◌, ◌≤◌, ◌<◌, length, IfSome, MatchOption};
 ghost use Rattle.std.specs.Str.{IsCharBoundary};
 ghost use Rattle.cedar_reading.specs.Pieces.{HasNoPiece, IsFirstPiece};
-ghost use Rattle.cedar_reading.specs.Inside.Steps.{EndsInSemicolon, EndsLine};
+ghost use Rattle.cedar_reading.specs.Inside.Steps.{EndsInSemicolon};
 
-use crate::lexer::UnitKind;
+use cedar_reading::pieces::rest_of_line;
 use cedar_tokens::units::Units;
 
 // The bytes of the first piece of the text; `None` if no `;` is left before the text ends or no unit begins.
@@ -33,23 +33,4 @@ fn through_semicolon(text: &str) -> Option<usize>
         }
     }
     None
-}
-
-// The bytes of blanks and comments at the start of the text, through the first line feed.
-fn rest_of_line(text: &str) -> usize
-    ensures line { EndsLine text.now result }
-    ensures boundary { IsCharBoundary text.now result }
-    ensures within { result ≤ length text.now }
-{
-    let mut end = 0;
-    for unit in Units::new(text) {
-        if unit.kind == UnitKind::Token {
-            return end;
-        }
-        end += unit.text.len();
-        if unit.text == "\n" {
-            return end;
-        }
-    }
-    end
 }

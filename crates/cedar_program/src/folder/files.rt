@@ -11,7 +11,7 @@ use std::alloc::Global;
 use std::io;
 
 /// A file that is to be formatted.
-#[derive(Debug, Drop)]
+#[derive(Drop)]
 pub struct Task {
     /// Its name.
     pub name: String,

@@ -7,7 +7,7 @@ use std::alloc::Global;
 use std::io;
 
 /// The access to a file: its permissions and its owner.
-#[derive(Clone, Copy, Debug, PartialEq, Eq)]
+#[derive(Clone, Copy, PartialEq, Eq)]
 pub struct Access {
     /// The permission bits.
     pub mode: u32,
@@ -18,7 +18,7 @@ pub struct Access {
 }
 
 /// Which file a name held, and in which state: two states of one file differ in it.
-#[derive(Clone, Copy, Debug, PartialEq, Eq)]
+#[derive(Clone, Copy, PartialEq, Eq)]
 pub struct Version {
     /// The number of the device.
     pub device: u64,
@@ -33,7 +33,7 @@ pub struct Version {
 }
 
 /// What a name holds.
-#[derive(Debug, Drop)]
+#[derive(Drop)]
 pub struct File {
     /// The bytes of the file.
     pub bytes: Vec<u8>,
@@ -44,7 +44,7 @@ pub struct File {
 }
 
 /// What became of a file.
-#[derive(Debug, Drop)]
+#[derive(Drop)]
 pub enum Outcome {
     /// It is its own output, and wasn't touched.
     Formatted,
@@ -67,7 +67,7 @@ pub enum Outcome {
 }
 
 /// Why a file couldn't be created.
-#[derive(Debug, Drop)]
+#[derive(Drop)]
 pub struct NotCreated {
     pub error: io::Error,
     /// Whether a part of it is still there, and couldn't be removed.

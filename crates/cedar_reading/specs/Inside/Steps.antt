@@ -1,4 +1,4 @@
--- The two parts of a piece: through its `;`, and the rest of that line. Only contracts of private functions cite these.
+-- A piece through its `;`. Only contracts of private functions cite these.
 use Rattle.std.specs.Prelude.{◌≡◌, ℕ, false, List, [], ◌∷◌, ◌++◌, length, drop, map, codes}
 use Rattle.std.specs.List.{list_any, sum_by, AllByRecursion}
 use Rattle.cedar_tokens.specs.Split.{Scans}
@@ -7,7 +7,7 @@ use Rattle.cedar_grammar.specs.Numbers.{is_too_large}
 use Rattle.cedar_grammar.specs.Texts.{only_tokens}
 use Rattle.cedar_tokens.specs.TokenKinds.{kind_of}
 use Rattle.cedar_reading.specs.declared.lexeme.Lexeme.{Lexeme}
-use Rattle.cedar_reading.specs.Pieces.{is_semicolon, IsRestOfLine}
+use Rattle.cedar_reading.specs.Pieces.{is_semicolon}
 
 -- the text's first n bytes are whole units, of which the last is their only `;`
 pub record EndsInSemicolon (text : List ℕ) (n : ℕ) : Type 0 where
@@ -23,10 +23,3 @@ pub record LexesToSemicolon (text : List ℕ) (n : ℕ) (lexemes : List Lexeme) 
   pub texts : map (λ l. l.text.now) lexemes ≡ only_tokens (ends.before ++ (codes ";" ∷ []))
   pub places : map (λ l. l.span) lexemes ≡ token_spans 0 (ends.before ++ (codes ";" ∷ []))
   pub kinds : AllByRecursion (λ l. l.kind ≡ kind_of l.text.now) lexemes
-
--- the text's first n bytes are whole units, the rest of a line
-pub record EndsLine (text : List ℕ) (n : ℕ) : Type 0 where
-  pub line : List (List ℕ)
-  pub scans : Scans line text (drop n text)
-  pub place : n ≡ sum_by length line
-  pub rest : IsRestOfLine line (drop n text)

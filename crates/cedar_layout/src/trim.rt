@@ -5,7 +5,7 @@ ghost use Rattle.std.specs.Str.{IsCharBoundary, trim, trim_end, trim_start};
 use std::alloc::AllocError;
 
 /// Removes the blanks at both ends of what stands from `start` on. A failure changes nothing.
-pub(crate) fn trim_from(out: &mut String, start: usize) -> Result<(), AllocError>
+pub fn trim_from(out: &mut String, start: usize) -> Result<(), AllocError>
     requires { IsCharBoundary (string_bytes out.old) start }
     ensures ok { OnOk result (string_bytes out.new ≡ take start (string_bytes out.old) ++ trim (drop start (string_bytes out.old))) }
     ensures err { OnErr result (string_bytes out.new ≡ string_bytes out.old) }
@@ -19,7 +19,7 @@ pub(crate) fn trim_from(out: &mut String, start: usize) -> Result<(), AllocError
     Ok(())
 }
 
-/// The bytes of the blanks that the text begins with.
+// The bytes of the blanks that the text begins with.
 fn blanks_before(text: &str) -> usize
     ensures rest { drop result text.now ≡ trim_start text.now }
     ensures boundary { IsCharBoundary text.now result }
@@ -27,7 +27,7 @@ fn blanks_before(text: &str) -> usize
     text.len() - text.trim_start().len()
 }
 
-/// The bytes before the blanks that the text ends with.
+// The bytes before the blanks that the text ends with.
 fn len_without_blanks(text: &str) -> usize
     ensures front { take result text.now ≡ trim_end text.now }
     ensures boundary { IsCharBoundary text.now result }

@@ -1,7 +1,7 @@
 use Rattle.std.proofs.Common.{length, take, subst, sym, ap, ◌∙◌, arith}
 use Rattle.std.specs.Str.{IsUtf8}
 use Rattle.std.proofs.lemmas.Str.{IsCharBoundary-from_take}
-use Rattle.cedar_layout.proofs.utils.cleaning.len_without_blanks.Goals as goal
+use Rattle.cedar_layout.proofs.trim.len_without_blanks.Goals as goal
 
 pub returns-clause-boundary : goal.returns-clause-boundary
 returns-clause-boundary c =

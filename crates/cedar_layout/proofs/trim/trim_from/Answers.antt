@@ -1,7 +1,7 @@
 use Rattle.std.proofs.Common.{◌≡◌, drop, take, string_bytes, ap, subst, ◌∙◌}
 use Rattle.std.specs.Str.{trim_end, trim_start}
 use Rattle.cedar_layout.proofs.Cleaning.{trimmed_from}
-use Rattle.cedar_layout.proofs.utils.cleaning.trim_from.Goals as goal
+use Rattle.cedar_layout.proofs.trim.trim_from.Goals as goal
 
 pub returns-clause-ok : goal.returns-clause-ok
 returns-clause-ok c =

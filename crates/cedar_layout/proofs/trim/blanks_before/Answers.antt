@@ -2,7 +2,7 @@ use Rattle.std.proofs.Common.{◌-◌, length, subst, sym, arith}
 use Rattle.std.specs.Str.{IsUtf8}
 use Rattle.std.proofs.lemmas.Str.{IsCharBoundary-from_drop}
 use Rattle.cedar_layout.proofs.Cleaning.{drop_rest}
-use Rattle.cedar_layout.proofs.utils.cleaning.blanks_before.Goals as goal
+use Rattle.cedar_layout.proofs.trim.blanks_before.Goals as goal
 
 pub returns-clause-boundary : goal.returns-clause-boundary
 returns-clause-boundary c =
